@@ -1,0 +1,169 @@
+-- The shape of a refusal of the file check, as paper 01's table has it: the code's line and field.
+use mathlib.Core.Path.{_≡_, refl, sym, ap, _∙_, subst}
+use mathlib.Core.Bool.{Bool, true, false, _&&_, _||_}
+use mathlib.Core.Option.{Option, none, some}
+use mathlib.Core.List.{List, [], _∷_, _++_}
+use Prim.Native.Nat.{ℕ, zero, suc, _+_, _≤_, _<_}
+use native.Mathlib.Omega.{arith}
+use lib.Dec.{T, leb, eqb, le→leb}
+use lib.ListN.{length}
+use mir.Facts.{yes-eqb}
+use Rattle.base.specs.Tests.{and-in}
+use Rattle.theory.specs.Decimal.{value}
+use Rattle.theory.specs.Apply.{Read, fault, file}
+use Rattle.base.specs.Lists.{pick, ask}
+use Rattle.meaning.specs.Lines.{Line, linesOf, endsWell, identifier, fieldsOf, hasFields}
+use Rattle.meaning.specs.Table.{Kind, header, street, streetXref, blpu, appXref, lpi, metadata, trailer, kindOf, Role, headerLine, bodyLine, metadataLine, trailerLine, role, Field, fields, named, placeFrom, startDate, endDate, proOrder, recordCount}
+use Rattle.meaning.specs.Sound.{Fault, soundField, forms, datesAgree, fieldFault, formFault}
+use Rattle.meaning.specs.File.{Place, next, hasRoom, countFault, Judged, bad, good, lineFault, verdict, judgeKind, judgeText, judgeLine, Sheet, adds, bodyAfter, atStart, inBody, afterMetadata, afterTrailer, atEnd, onLine, readFrom, readFile}
+
+abbrev isBody : Role → Bool
+isBody headerLine = false
+isBody bodyLine = true
+isBody metadataLine = false
+isBody trailerLine = false
+
+abbrev isLast : Role → Bool
+isLast headerLine = false
+isLast bodyLine = false
+isLast metadataLine = false
+isLast trailerLine = true
+
+-- END_DATE's own number in each kind, 0 where a kind has none
+unfoldable pub endNumber : ℕ → Bool
+endNumber f = eqb f 13 || (eqb f 9 || (eqb f 14 || eqb f 0))
+
+-- code and field: 1, 3, 4 and 9 with no field, 2 with field 1, 5 with a field, 6 with END_DATE, 7 and 8 with field 3
+unfoldable pub shaped : Fault → Bool
+shaped f =
+    (eqb (f .0) 1 && eqb (f .1) 0)
+    || ((eqb (f .0) 2 && eqb (f .1) 1)
+    || ((eqb (f .0) 3 && eqb (f .1) 0)
+    || ((eqb (f .0) 4 && eqb (f .1) 0)
+    || ((eqb (f .0) 5 && leb 1 (f .1))
+    || ((eqb (f .0) 6 && endNumber (f .1))
+    || ((eqb (f .0) 7 && eqb (f .1) 3)
+    || ((eqb (f .0) 8 && eqb (f .1) 3)
+    || (eqb (f .0) 9 && eqb (f .1) 0))))))))
+
+abbrev pub Shaped : Option Fault → Type 0
+Shaped none = Unit {0}
+Shaped (some f) = T (shaped f)
+
+ask-shaped : (b : Bool) (f : Fault) (rest : Option Fault) → T (shaped f) → Shaped rest → Shaped (ask b f rest)
+unfolding ask
+ask-shaped true f rest p r = r
+ask-shaped false f rest p r = p
+
+five : (n : ℕ) → T (shaped (5, suc n))
+unfolding shaped
+five n = or-here (leb 1 (suc n)) _ (le→leb 1 (suc n) (omega arith))
+  where
+    or-here : (a b : Bool) → T a → T (a || b)
+    or-here true b t = tt
+    or-here false b t = absurd t
+
+forms-shaped : (n : ℕ) (ds : List Field) (fs : List (List ℕ)) (rest : Option Fault) → Shaped rest → Shaped (forms (suc n) ds fs rest)
+unfolding forms
+forms-shaped n [] fs rest r = r
+forms-shaped n (d ∷ ds) [] rest r = r
+forms-shaped n (d ∷ ds) (f ∷ fs) rest r = ask-shaped (soundField d f) (5, suc n) (forms (suc (suc n)) ds fs rest) (five n) (forms-shaped (suc n) ds fs rest r)
+
+six-shaped : (k : Kind) → T (shaped (6, placeFrom 1 endDate (fields k)))
+unfolding shaped endNumber placeFrom fields
+six-shaped header = tt
+six-shaped street = tt
+six-shaped streetXref = tt
+six-shaped blpu = tt
+six-shaped appXref = tt
+six-shaped lpi = tt
+six-shaped metadata = tt
+six-shaped trailer = tt
+
+seven-shaped : (k : Kind) → role k ≡ bodyLine → T (shaped (7, placeFrom 1 proOrder (fields k)))
+unfolding shaped placeFrom fields role
+seven-shaped header e = absurd (subst (λ o. T (isBody o)) (sym e) tt)
+seven-shaped street e = tt
+seven-shaped streetXref e = tt
+seven-shaped blpu e = tt
+seven-shaped appXref e = tt
+seven-shaped lpi e = tt
+seven-shaped metadata e = absurd (subst (λ o. T (isBody o)) (sym e) tt)
+seven-shaped trailer e = absurd (subst (λ o. T (isBody o)) (sym e) tt)
+
+eight-shaped : (k : Kind) → role k ≡ trailerLine → T (shaped (8, placeFrom 1 recordCount (fields k)))
+unfolding shaped placeFrom fields role
+eight-shaped header e = absurd (subst (λ o. T (isLast o)) (sym e) tt)
+eight-shaped street e = absurd (subst (λ o. T (isLast o)) (sym e) tt)
+eight-shaped streetXref e = absurd (subst (λ o. T (isLast o)) (sym e) tt)
+eight-shaped blpu e = absurd (subst (λ o. T (isLast o)) (sym e) tt)
+eight-shaped appXref e = absurd (subst (λ o. T (isLast o)) (sym e) tt)
+eight-shaped lpi e = absurd (subst (λ o. T (isLast o)) (sym e) tt)
+eight-shaped metadata e = absurd (subst (λ o. T (isLast o)) (sym e) tt)
+eight-shaped trailer e = tt
+
+count-shaped : (o : Role) (n : ℕ) (k : Kind) (t : List ℕ) → role k ≡ o → Shaped (countFault o n k t)
+unfolding countFault
+count-shaped headerLine n k t e = tt
+count-shaped bodyLine n k t e = ask-shaped (eqb (value (named proOrder (fields k) (fieldsOf t))) (suc n)) (7, placeFrom 1 proOrder (fields k)) none (seven-shaped k e) tt
+count-shaped metadataLine n k t e = tt
+count-shaped trailerLine n k t e = ask-shaped (eqb (value (named recordCount (fields k) (fieldsOf t))) n) (8, placeFrom 1 recordCount (fields k)) none (eight-shaped k e) tt
+
+line-shaped : (k : Kind) (n : ℕ) (t : List ℕ) → Shaped (lineFault k n t)
+unfolding lineFault formFault fieldFault
+line-shaped k n t =
+    ask-shaped (hasRoom (role k) n) (9, 0) _ (unfold shaped in tt)
+    (ask-shaped (hasFields (length (fields k)) t) (4, 0) _ (unfold shaped in tt)
+    (forms-shaped 0 (fields k) (fieldsOf t) _
+    (ask-shaped (datesAgree (named startDate (fields k) (fieldsOf t)) (named endDate (fields k) (fieldsOf t))) (6, placeFrom 1 endDate (fields k)) _ (six-shaped k) (count-shaped (role k) n k t refl))))
+
+abbrev pub BadShaped : Judged → Type 0
+BadShaped (bad f) = T (shaped f)
+BadShaped (good k p) = Unit {0}
+
+judge-shaped : (p : Place) (n : ℕ) (l : Line) → BadShaped (judgeLine p n l)
+unfolding judgeLine judgeText judgeKind verdict shaped
+judge-shaped p n l = ended (endsWell l)
+  where
+    formed : (k : Kind) (q : Place) (o : Option Fault) → Shaped o → BadShaped (verdict o k q)
+    formed k q none i = tt
+    formed k q (some f) i = i
+
+    placed : (k : Kind) (o : Option Place) → BadShaped (judgeKind n (l .text) k o)
+    placed k none = tt
+    placed k (some q) = formed k q (lineFault k n (l .text)) (line-shaped k n (l .text))
+
+    kinded : (o : Option Kind) → BadShaped (judgeText p n (l .text) o)
+    kinded none = tt
+    kinded (some k) = placed k (next p (role k))
+
+    ended : (c : Bool) → BadShaped (pick c (judgeText p n (l .text) (kindOf (identifier (l .text)))) (bad (1, 0)))
+    ended true = kinded (kindOf (identifier (l .text)))
+    ended false = tt
+
+abbrev pub ReadShaped : Read Sheet → Type 0
+ReadShaped (fault c l f) = T (shaped (c, f))
+ReadShaped (file s) = Unit {0}
+
+adds-shaped : (o : Role) (k : Kind) (t : List ℕ) (r : Read Sheet) → ReadShaped r → ReadShaped (adds o k t r)
+unfolding adds
+adds-shaped o k t (fault c l f) i = i
+adds-shaped o k t (file s) i = tt
+
+on-shaped : (i : ℕ) (t : List ℕ) (go : Kind → Place → Read Sheet) → ((k : Kind) (q : Place) → ReadShaped (go k q)) → (j : Judged) → BadShaped j → ReadShaped (onLine i t j go)
+unfolding onLine
+on-shaped i t go h (bad f) b = b
+on-shaped i t go h (good k q) b = adds-shaped (role k) k t (go k q) (h k q)
+
+read-shaped : (i : ℕ) (p : Place) (n : ℕ) (ls : List Line) → ReadShaped (readFrom i p n ls)
+unfolding readFrom atEnd shaped
+read-shaped i atStart n [] = tt
+read-shaped i inBody n [] = tt
+read-shaped i afterMetadata n [] = tt
+read-shaped i afterTrailer n [] = tt
+read-shaped i p n (l ∷ ls) = on-shaped i (l .text) (λ k q. readFrom (suc i) q (bodyAfter (role k) n) ls) (λ k q. read-shaped (suc i) q (bodyAfter (role k) n) ls) (judgeLine p n l) (judge-shaped p n l)
+
+-- every refusal of the file check has its code's field
+pub file-shape : (b : List ℕ) → ReadShaped (readFile b)
+unfolding readFile
+file-shape b = read-shaped 1 atStart 0 (linesOf b)

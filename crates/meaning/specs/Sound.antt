@@ -1,0 +1,40 @@
+-- Paper 01, 'Lines and fields' and 'Numbers given back': codes 4, 5 and 6 of one line, driven by the table.
+use mathlib.Core.Bool.{Bool, true, false, not, _&&_, _||_}
+use mathlib.Core.Option.{Option, none, some}
+use mathlib.Core.List.{List, [], _∷_, _++_}
+use Prim.Native.Nat.{ℕ, suc}
+use lib.ListN.{length}
+use Rattle.theory.specs.Tri.{Tri, isLt}
+use Rattle.theory.specs.Lex.{lex}
+use Rattle.base.specs.Lists.{pick, ask}
+use Rattle.meaning.specs.Lines.{fieldsOf, hasFields}
+use Rattle.meaning.specs.Forms.{soundAs}
+use Rattle.meaning.specs.Table.{Kind, Field, fields, named, placeFrom, startDate, endDate}
+
+-- what is wrong with a line: a code and a field
+abbrev pub Fault : Type 0
+Fault = ℕ × ℕ
+
+-- a field is sound as its row of the table has it
+unfoldable pub soundField : Field → List ℕ → Bool
+soundField d f = soundAs (d .form) (d .filled) f
+
+-- 5 at the lowest field that is malformed, counted from n; else the rest is asked
+unfoldable pub forms : ℕ → List Field → List (List ℕ) → Option Fault → Option Fault
+forms n [] fs rest = rest
+forms n (d ∷ ds) [] rest = rest
+forms n (d ∷ ds) (f ∷ fs) rest = ask (soundField d f) (5, n) (forms (suc n) ds fs rest)
+
+-- END_DATE, where filled, isn't before a filled START_DATE of its line: dates stand in the order of their bytes
+unfoldable pub datesAgree : List ℕ → List ℕ → Bool
+datesAgree start [] = true
+datesAgree [] (e ∷ end) = true
+datesAgree (s ∷ start) (e ∷ end) = not (isLt (lex (e ∷ end) (s ∷ start)))
+
+-- 5, then 6, of the fields of a line from number n on
+unfoldable pub fieldFault : ℕ → List Field → List (List ℕ) → Option Fault → Option Fault
+fieldFault n ds fs rest = forms n ds fs (ask (datesAgree (named startDate ds fs) (named endDate ds fs)) (6, placeFrom n endDate ds) rest)
+
+-- 4, then 5, then 6; else the rest is asked
+unfoldable pub formFault : Kind → List ℕ → Option Fault → Option Fault
+formFault k t rest = ask (hasFields (length (fields k)) t) (4, 0) (fieldFault 1 (fields k) (fieldsOf t) rest)
