@@ -1,7 +1,7 @@
 -- A sound body line splits into its head (identifier, CHANGE_TYPE, PRO_ORDER) and its content; and another CHANGE_TYPE and number before the same
 -- content is sound again. This one law carries renumbering, the undo, and records kept byte for byte.
 use mathlib.Core.Path.{_≡_, refl, sym, ap, ap₂, _∙_, subst}
-use mathlib.Core.Bool.{Bool, true, false, not, _&&_}
+use mathlib.Core.Bool.{Bool, true, false, not, _&&_, _||_}
 use mathlib.Core.Option.{Option, none, some}
 use mathlib.Core.List.{List, [], _∷_, _++_, append-assoc}
 use Prim.Native.Nat.{ℕ, zero, suc, _+_, _≤_, _<_}
@@ -22,6 +22,7 @@ use Rattle.meaning.specs.Sound.{Fault, soundField, forms, fieldFault, formFault
 use Rattle.meaning.specs.Records.{Rec, contentOf, ownFields, letter, opOf, changeText, changeOf}
 use Rattle.meaning.specs.Holding.{isHeld, isSound}
 use Rattle.laws.specs.Tools.{dec-all, width-four}
+use Rattle.laws.specs.Kinds.{every}
 use Rattle.laws.specs.Split.{quiet, Leads, leads, Parts, parts}
 
 -- ---- a line cut after its third field
@@ -68,50 +69,22 @@ leads-letter ins t = record { cuts = refl; quotes = refl; rests = refl }
 leads-letter upd t = record { cuts = refl; quotes = refl; rests = refl }
 leads-letter del t = record { cuts = refl; quotes = refl; rests = refl }
 
+-- no identifier has a comma or a quote
 pub ident-quiet : (k : Kind) → T (all quiet (ident k))
-unfolding ident bytes quiet
-ident-quiet header = tt
-ident-quiet street = tt
-ident-quiet streetXref = tt
-ident-quiet blpu = tt
-ident-quiet appXref = tt
-ident-quiet lpi = tt
-ident-quiet metadata = tt
-ident-quiet trailer = tt
+unfolding kinds ident bytes quiet
+ident-quiet k = every (λ k. all quiet (ident k)) tt k
 
+-- nor a CR or an LF
 pub ident-plain : (k : Kind) → T (all plain (ident k))
-unfolding ident bytes plain
-ident-plain header = tt
-ident-plain street = tt
-ident-plain streetXref = tt
-ident-plain blpu = tt
-ident-plain appXref = tt
-ident-plain lpi = tt
-ident-plain metadata = tt
-ident-plain trailer = tt
+unfolding kinds ident bytes plain
+ident-plain k = every (λ k. all plain (ident k)) tt k
 
+-- an identifier is a sound first field
 pub ident-sound : (k : Kind) → T (soundField (man "RECORD_IDENTIFIER" (number 2)) (ident k))
-unfolding ident bytes soundField soundAs isEmpty hasForm isNumber isDigit isTextual same
-ident-sound header = tt
-ident-sound street = tt
-ident-sound streetXref = tt
-ident-sound blpu = tt
-ident-sound appXref = tt
-ident-sound lpi = tt
-ident-sound metadata = tt
-ident-sound trailer = tt
+unfolding kinds ident bytes soundField soundAs isEmpty hasForm isNumber isDigit isTextual same
+ident-sound k = every (λ k. soundField (man "RECORD_IDENTIFIER" (number 2)) (ident k)) tt k
 
-pub ident-in : (k : Kind) (t : List ℕ) → kindOf (identifier (ident k ++ (44 ∷ t))) ≡ some k
-unfolding ident bytes identifier upTo kindOf kindAmong kinds same
-ident-in header t = refl
-ident-in street t = refl
-ident-in streetXref t = refl
-ident-in blpu t = refl
-ident-in appXref t = refl
-ident-in lpi t = refl
-ident-in metadata t = refl
-ident-in trailer t = refl
-
+-- an identifier is known, and it is its kind's
 pub kind-in : (k : Kind) → kindOf (ident k) ≡ some k
 unfolding ident bytes kindOf kindAmong kinds same
 kind-in header = refl
@@ -122,6 +95,17 @@ kind-in appXref = refl
 kind-in lpi = refl
 kind-in metadata = refl
 kind-in trailer = refl
+
+-- bytes with no comma before a comma are the identifier
+cut-comma : (f t : List ℕ) → T (all quiet f) → upTo 44 (f ++ (44 ∷ t)) ≡ f
+unfolding upTo quiet
+cut-comma [] t q = refl
+cut-comma (x ∷ f) t q = rw (T-false (eqb x 44) (and-l (not (eqb x 44)) (not (eqb x 34)) (and-l (quiet x) (all quiet f) q)), cut-comma f t (and-r (quiet x) (all quiet f) q))
+
+-- a line that begins with an identifier is of its kind
+pub ident-in : (k : Kind) (t : List ℕ) → kindOf (identifier (ident k ++ (44 ∷ t))) ≡ some k
+unfolding identifier
+ident-in k t = ap kindOf (cut-comma (ident k) t (ident-quiet k)) ∙ kind-in k
 
 abbrev pub KindIs : List ℕ → Option Kind → Type 0
 KindIs i none = Unit {0}
@@ -169,20 +153,15 @@ heads [] p = refl
 heads (x ∷ r) p =
     head-step (eqb x 44) (turned false x) x r (λ e. rw (T-false (eqb x 34) (tail-quiet (eqb x 44) x r p e .0))) (λ e. heads r (tail-quiet (eqb x 44) x r p e .1))
 
+-- no identifier has a quote
+ident-loud : (k : Kind) → T (all noQuote (ident k))
+unfolding kinds ident bytes noQuote
+ident-loud k = every (λ k. all noQuote (ident k)) tt k
+
 -- the first field of a line whose identifier is a kind's
 pub first-field : (t : List ℕ) (k : Kind) (f : List ℕ) (fs : List (List ℕ)) → identifier t ≡ ident k → fieldsOf t ≡ f ∷ fs → f ≡ ident k
 unfolding identifier fieldsOf
-first-field t k f fs e d = subst (Heads (upTo 44 t)) d (heads t (rw e (loud k))) ∙ e
-  where
-    loud : (k : Kind) → T (all noQuote (ident k))
-    loud header = unfold ident bytes noQuote in tt
-    loud street = unfold ident bytes noQuote in tt
-    loud streetXref = unfold ident bytes noQuote in tt
-    loud blpu = unfold ident bytes noQuote in tt
-    loud appXref = unfold ident bytes noQuote in tt
-    loud lpi = unfold ident bytes noQuote in tt
-    loud metadata = unfold ident bytes noQuote in tt
-    loud trailer = unfold ident bytes noQuote in tt
+first-field t k f fs e d = subst (Heads (upTo 44 t)) d (heads t (rw e (ident-loud k))) ∙ e
 
 pub letter-plain : (o : Op) → T (all plain (letter o))
 unfolding letter bytes plain
@@ -247,15 +226,12 @@ opens metadata t = absurd t
 opens trailer t = absurd t
 
 own-some : (k : Kind) → T (isHeld (role k)) → 1 ≤ length (ownFields k)
-unfolding isHeld role fields ownFields
-own-some header t = absurd t
-own-some street t = omega arith
-own-some streetXref t = omega arith
-own-some blpu t = omega arith
-own-some appXref t = omega arith
-own-some lpi t = omega arith
-own-some metadata t = absurd t
-own-some trailer t = absurd t
+unfolding kinds isHeld role fields ownFields
+own-some k t = leb→le 1 (length (ownFields k)) (held (isHeld (role k)) t (every (λ k. not (isHeld (role k)) || leb 1 (length (ownFields k))) tt k))
+  where
+    held : (a : Bool) → T a → T (not a || leb 1 (length (ownFields k))) → T (leb 1 (length (ownFields k)))
+    held true t h = h
+    held false t h = absurd t
 
 -- ---- the content by itself
 

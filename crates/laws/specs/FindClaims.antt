@@ -14,11 +14,11 @@ use Rattle.theory.specs.Store.{get}
 use Rattle.theory.specs.Run.{inserts}
 use Rattle.base.specs.Lists.{pick}
 use Rattle.meaning.specs.Lines.{Line, linesOf}
-use Rattle.meaning.specs.Table.{Kind, ident, enquiries}
+use Rattle.meaning.specs.Table.{Kind, ident, enquiries, numberedAmong}
 use Rattle.meaning.specs.Records.{Rec, keyOf, keyed, changeText, changeTexts}
 use Rattle.meaning.specs.Holding.{Held, sound, unsound, readHolding}
 use Rattle.meaning.specs.Load.{Three, three}
-use Rattle.meaning.specs.Enquiries.{Slice, first, Found, refusal, spanned, partOf, enquired, heldAt, heldPart, findIn, findKind, find}
+use Rattle.meaning.specs.Enquiries.{Slice, first, Found, refusal, spanned, partOf, heldAt, heldPart, findIn, findKind, find}
 use Rattle.laws.specs.Split.{ends, endsAll}
 use Rattle.laws.specs.HeldLaws.{insertOf}
 use Rattle.laws.specs.HoldingRules.{SoundHolding, sound-held, held-is-sound}
@@ -29,13 +29,13 @@ abbrev pub EnquiredIs : ℕ → Option Kind → Type 0
 EnquiredIs n none = Unit {0}
 EnquiredIs n (some k) = value (ident k) ≡ n
 
-enquired-is : (ks : List Kind) (n : ℕ) → EnquiredIs n (enquired ks n)
-unfolding enquired
+enquired-is : (ks : List Kind) (n : ℕ) → EnquiredIs n (numberedAmong ks n)
+unfolding numberedAmong
 enquired-is [] n = tt
-enquired-is (k ∷ ks) n = go (eqb (value (ident k)) n) refl (enquired-is ks n)
+enquired-is (k ∷ ks) n = go (eqb n (value (ident k))) refl (enquired-is ks n)
   where
-    go : (c : Bool) → eqb (value (ident k)) n ≡ c → EnquiredIs n (enquired ks n) → EnquiredIs n (pick c (some k) (enquired ks n))
-    go true e i = eqb→eq (value (ident k)) n (rw e tt)
+    go : (c : Bool) → eqb n (value (ident k)) ≡ c → EnquiredIs n (numberedAmong ks n) → EnquiredIs n (pick c (some k) (numberedAmong ks n))
+    go true e i = sym (eqb→eq n (value (ident k)) (rw e tt))
     go false e i = i
 
 -- the bytes at the place of the record after so many others are its line
@@ -58,7 +58,7 @@ pub record FoundIt (old : List ℕ) (kind n : ℕ) (f : Found) : Type 0 where
 
 pub find-finds : (old : List ℕ) (kind n : ℕ) → find old kind n .answer .code ≡ 0 → FoundIt old kind n (find old kind n)
 unfolding find findKind findIn heldPart refusal
-find-finds old kind n e = asked (enquired enquiries kind) (enquired-is enquiries kind) e
+find-finds old kind n e = asked (numberedAmong enquiries kind) (enquired-is enquiries kind) e
   where
     looked : (q : List ℕ) (st : List Rec) → q ≡ kind ∷ n ∷ [] → SoundHolding old st → (o : Option ℕ) → Looks q st o → heldPart old o .answer .code ≡ 0 → FoundIt old kind n (heldPart old o)
     looked q st d h none l e = absurd (omega (arith, e))
@@ -80,7 +80,7 @@ find-finds old kind n e = asked (enquired enquiries kind) (enquired-is enquiries
     asked (some k) i e = held (value (ident k) ∷ n ∷ []) (ap (λ x. x ∷ n ∷ []) i) (readHolding old) refl e
 
 -- and where such a record is held, it is found
-pub finds-find : (old : List ℕ) (k : Kind) (kind n : ℕ) (st : List Rec) (r : Rec) → enquired enquiries kind ≡ some k → SoundHolding old st → get keyed (kind ∷ n ∷ []) st ≡ some r → find old kind n .answer ≡ three 0 0 0
+pub finds-find : (old : List ℕ) (k : Kind) (kind n : ℕ) (st : List Rec) (r : Rec) → numberedAmong enquiries kind ≡ some k → SoundHolding old st → get keyed (kind ∷ n ∷ []) st ≡ some r → find old kind n .answer ≡ three 0 0 0
 unfolding find findKind findIn
 finds-find old k kind n st r e h g =
     let i : value (ident k) ≡ kind = subst (EnquiredIs kind) e (enquired-is enquiries kind) in

@@ -1,6 +1,6 @@
 -- The shape of a refusal of the file check, as paper 01's table has it: the code's line and field.
 use mathlib.Core.Path.{_≡_, refl, sym, ap, _∙_, subst}
-use mathlib.Core.Bool.{Bool, true, false, _&&_, _||_}
+use mathlib.Core.Bool.{Bool, true, false, not, _&&_, _||_}
 use mathlib.Core.Option.{Option, none, some}
 use mathlib.Core.List.{List, [], _∷_, _++_}
 use Prim.Native.Nat.{ℕ, zero, suc, _+_, _≤_, _<_}
@@ -12,8 +12,9 @@ use Rattle.base.specs.Tests.{and-in}
 use Rattle.theory.specs.Decimal.{value}
 use Rattle.theory.specs.Apply.{Read, fault, file}
 use Rattle.base.specs.Lists.{pick, ask}
+use Rattle.laws.specs.Kinds.{every}
 use Rattle.meaning.specs.Lines.{Line, linesOf, endsWell, identifier, fieldsOf, hasFields}
-use Rattle.meaning.specs.Table.{Kind, header, street, streetXref, blpu, appXref, lpi, metadata, trailer, kindOf, Role, headerLine, bodyLine, metadataLine, trailerLine, role, Field, fields, named, placeFrom, startDate, endDate, proOrder, recordCount}
+use Rattle.meaning.specs.Table.{Kind, kinds, kindOf, Role, headerLine, bodyLine, metadataLine, trailerLine, role, Field, fields, named, placeFrom, startDate, endDate, proOrder, recordCount}
 use Rattle.meaning.specs.Sound.{Fault, soundField, forms, datesAgree, fieldFault, formFault}
 use Rattle.meaning.specs.File.{Place, next, hasRoom, countFault, Judged, bad, good, lineFault, verdict, judgeKind, judgeText, judgeLine, Sheet, adds, bodyAfter, atStart, inBody, afterMetadata, afterTrailer, atEnd, onLine, readFrom, readFile}
 
@@ -70,37 +71,16 @@ forms-shaped n (d ∷ ds) [] rest r = r
 forms-shaped n (d ∷ ds) (f ∷ fs) rest r = ask-shaped (soundField d f) (5, suc n) (forms (suc (suc n)) ds fs rest) (five n) (forms-shaped (suc n) ds fs rest r)
 
 six-shaped : (k : Kind) → T (shaped (6, placeFrom 1 endDate (fields k)))
-unfolding shaped endNumber placeFrom fields
-six-shaped header = tt
-six-shaped street = tt
-six-shaped streetXref = tt
-six-shaped blpu = tt
-six-shaped appXref = tt
-six-shaped lpi = tt
-six-shaped metadata = tt
-six-shaped trailer = tt
+unfolding kinds shaped endNumber placeFrom fields
+six-shaped k = every (λ k. shaped (6, placeFrom 1 endDate (fields k))) tt k
 
 seven-shaped : (k : Kind) → role k ≡ bodyLine → T (shaped (7, placeFrom 1 proOrder (fields k)))
-unfolding shaped placeFrom fields role
-seven-shaped header e = absurd (subst (λ o. T (isBody o)) (sym e) tt)
-seven-shaped street e = tt
-seven-shaped streetXref e = tt
-seven-shaped blpu e = tt
-seven-shaped appXref e = tt
-seven-shaped lpi e = tt
-seven-shaped metadata e = absurd (subst (λ o. T (isBody o)) (sym e) tt)
-seven-shaped trailer e = absurd (subst (λ o. T (isBody o)) (sym e) tt)
+unfolding kinds shaped placeFrom fields role
+seven-shaped k e = rw e at (every (λ k. not (isBody (role k)) || shaped (7, placeFrom 1 proOrder (fields k))) tt k)
 
 eight-shaped : (k : Kind) → role k ≡ trailerLine → T (shaped (8, placeFrom 1 recordCount (fields k)))
-unfolding shaped placeFrom fields role
-eight-shaped header e = absurd (subst (λ o. T (isLast o)) (sym e) tt)
-eight-shaped street e = absurd (subst (λ o. T (isLast o)) (sym e) tt)
-eight-shaped streetXref e = absurd (subst (λ o. T (isLast o)) (sym e) tt)
-eight-shaped blpu e = absurd (subst (λ o. T (isLast o)) (sym e) tt)
-eight-shaped appXref e = absurd (subst (λ o. T (isLast o)) (sym e) tt)
-eight-shaped lpi e = absurd (subst (λ o. T (isLast o)) (sym e) tt)
-eight-shaped metadata e = absurd (subst (λ o. T (isLast o)) (sym e) tt)
-eight-shaped trailer e = tt
+unfolding kinds shaped placeFrom fields role
+eight-shaped k e = rw e at (every (λ k. not (isLast (role k)) || shaped (8, placeFrom 1 recordCount (fields k))) tt k)
 
 count-shaped : (o : Role) (n : ℕ) (k : Kind) (t : List ℕ) → role k ≡ o → Shaped (countFault o n k t)
 unfolding countFault
