@@ -1,0 +1,274 @@
+-- The laws of the identifier, fields and contents: by which the loops go, and how offsets stand to what the meaning says.
+use mathlib.Core.Path.{_≡_, refl, ap, _∙_, sym}
+use mathlib.Core.Bool.{Bool, true, false, not, _&&_}
+use mathlib.Core.List.{List, [], _∷_}
+use Prim.Native.Nat.{ℕ, suc, _+_, _-_, _≤_, _<_}
+use native.Mathlib.Nat.{add-zero}
+use native.Mathlib.Omega.{arith}
+use native.Mathlib.Decide.{decLe}
+use borrow.Author.Tests.{eq-eqb, ne-eqb, eqb-true, lt-ltb}
+use borrow.Author.Needs.{needs}
+use lib.Dec.{eqb, ltb, leb·suc-suc}
+use lib.ListN.{length, getD, drop, take, length-drop}
+use lib.Seq.{drop-drop}
+use Rattle.base.specs.Lists.{pick, upTo}
+use Rattle.base.proofs.Walk.{at-cons, at-end}
+use Rattle.meaning.specs.Lines.{identifier, isSep, turned, addByte, fieldsFrom, fieldsOf, quoteAfter, oddQuotes, hasFields, afterField}
+use Rattle.meaning.specs.Records.{contentOf}
+use Rattle.text.specs.Places.{fieldLen, fieldEnd, nextStart, contentStart}
+
+-- ---- the walk to the first byte x
+
+-- the byte ends it
+pub up-stop : (x : ℕ) (l : List ℕ) (i n : ℕ) → i + length (upTo x (drop i l)) ≡ n → i < length l → getD l i 0 ≡ x → i ≡ n
+unfolding upTo
+up-stop x l i n e h q = sym (add-zero i) ∙ (rw (at-cons l i h, eq-eqb (getD l i 0) x q) at e)
+
+-- another is passed
+pub up-turn :
+    (x : ℕ) (l : List ℕ) (i n : ℕ) → i + length (upTo x (drop i l)) ≡ n → i < length l → (getD l i 0 ≡ x → ⊥) → (i + 1) + length (upTo x (drop (i + 1) l)) ≡ n
+unfolding upTo
+up-turn x l i n e h q = omega (arith, rw (at-cons l i h, ne-eqb (getD l i 0) x q) at e)
+
+-- so does the line's end
+pub up-done : (x : ℕ) (l : List ℕ) (i n : ℕ) → i + length (upTo x (drop i l)) ≡ n → length l ≤ i → i ≡ n
+unfolding upTo
+up-done x l i n e h = sym (add-zero i) ∙ (rw (at-end l i h) at e)
+
+pub ruleset up = (needs, up-stop, up-turn, up-done)
+
+-- the bytes before x are the front of the line
+up-part : (x : ℕ) (l : List ℕ) → take (length (upTo x l)) l ≡ upTo x l
+unfolding upTo
+up-part x [] = refl
+up-part x (y ∷ r) = go (eqb y x) (up-part x r)
+  where
+    go : (b : Bool) → take (length (upTo x r)) r ≡ upTo x r → take (length (pick b [] (y ∷ upTo x r))) (y ∷ r) ≡ pick b [] (y ∷ upTo x r)
+    go true e = refl
+    go false e = ap (λ l. y ∷ l) e
+
+-- the identifier is the front of the line
+pub identifier-part : (t : List ℕ) → take (length (identifier t)) t ≡ identifier t
+unfolding identifier
+identifier-part t = up-part 44 t
+
+-- ---- one byte
+
+-- a comma separates outside quotes
+pub sep-comma : (q : Bool) (b : ℕ) → b ≡ 44 → not q ≡ isSep q b
+unfolding isSep
+sep-comma true b e = refl
+sep-comma false b e = sym (eq-eqb b 44 e)
+
+-- another byte does not
+pub sep-other : (q : Bool) (b : ℕ) → (b ≡ 44 → ⊥) → false ≡ isSep q b
+unfolding isSep
+sep-other true b n = refl
+sep-other false b n = sym (ne-eqb b 44 n)
+
+-- a quote turns quoting
+pub turn-quote : (q : Bool) (b : ℕ) → b ≡ 34 → not q ≡ turned q b
+unfolding turned
+turn-quote q b e = rw (eq-eqb b 34 e)
+
+-- another byte does not
+pub turn-other : (q : Bool) (b : ℕ) → (b ≡ 34 → ⊥) → q ≡ turned q b
+unfolding turned
+turn-other q b n = rw (ne-eqb b 34 n)
+
+pub ruleset byte = (needs, sep-comma, sep-other, turn-quote, turn-other)
+
+-- a separator stands outside quotes
+sep-outside : (q : Bool) (b : ℕ) → isSep q b ≡ true → q ≡ false
+unfolding isSep
+sep-outside true b e = sym e
+sep-outside false b e = refl
+
+-- and is no quote
+sep-stays : (q : Bool) (b : ℕ) → isSep q b ≡ true → turned q b ≡ q
+unfolding isSep turned
+sep-stays true b e = let z : _≡_ {A = Bool} false true = e in cc
+sep-stays false b e = rw (eqb-true b 44 e)
+
+-- ---- the walk that counts, where quoting is q and m separators are passed
+
+-- there is a first field
+fields-some : (q : Bool) (l : List ℕ) → 0 < length (fieldsFrom q l)
+unfolding fieldsFrom addByte
+fields-some q [] = omega arith
+fields-some q (x ∷ r) = go (isSep q x) (fieldsFrom (turned q x) r)
+  where
+    go : (b : Bool) (fs : List (List ℕ)) → 0 < length (addByte b x fs)
+    go true fs = omega arith
+    go false [] = omega arith
+    go false (f ∷ fs) = omega arith
+
+-- the answer that is still to be found
+abbrev pub countAt : ℕ → List ℕ → Bool → ℕ → ℕ → Bool
+countAt n l q m i = not (quoteAfter q (drop i l)) && eqb (m + length (fieldsFrom q (drop i l))) n
+
+-- at the start none is passed
+pub count-start : (n : ℕ) (l : List ℕ) → countAt n l false 0 0 ≡ hasFields n l
+unfolding hasFields oddQuotes fieldsOf
+count-start n l = ap (λ m. not (quoteAfter false l) && eqb m n) (omega arith)
+
+-- a separator is one more
+pub count-sep :
+    (n : ℕ) (l : List ℕ) (q : Bool) (m i : ℕ) (x b : Bool) →
+    countAt n l q m i ≡ x → i < length l → b ≡ isSep q (getD l i 0) → b ≡ true → countAt n l q (m + 1) (i + 1) ≡ x
+unfolding quoteAfter fieldsFrom addByte
+count-sep n l q m i x b e h p t =
+    let s : isSep q (getD l i 0) ≡ true = sym p ∙ t in
+    let e′ : found (turned q (getD l i 0)) ≡ x = rw (at-cons l i h, s) at e in
+    ap (λ k. not (quoteAfter q (drop (i + 1) l)) && eqb k n) (omega arith) ∙ (rw (sep-stays q (getD l i 0) s) at e′)
+  where
+    found : Bool → Bool
+    found q′ = not (quoteAfter q′ (drop (i + 1) l)) && eqb (m + suc (length (fieldsFrom q′ (drop (i + 1) l)))) n
+
+-- another byte is not
+pub count-other :
+    (n : ℕ) (l : List ℕ) (q : Bool) (m i : ℕ) (x b q′ : Bool) →
+    countAt n l q m i ≡ x → i < length l → b ≡ isSep q (getD l i 0) → b ≡ false → q′ ≡ turned q (getD l i 0) → countAt n l q′ m (i + 1) ≡ x
+unfolding quoteAfter fieldsFrom addByte
+count-other n l q m i x b q′ e h p t k =
+    let s : isSep q (getD l i 0) ≡ false = sym p ∙ t in
+    rw k (go (fieldsFrom (turned q (getD l i 0)) (drop (i + 1) l)) (fields-some (turned q (getD l i 0)) (drop (i + 1) l)) (rw (at-cons l i h, s) at e))
+  where
+    go :
+        (fs : List (List ℕ)) → 0 < length fs →
+        not (quoteAfter (turned q (getD l i 0)) (drop (i + 1) l)) && eqb (m + length (addByte false (getD l i 0) fs)) n ≡ x →
+        not (quoteAfter (turned q (getD l i 0)) (drop (i + 1) l)) && eqb (m + length fs) n ≡ x
+    go [] h e = absurd (omega arith)
+    go (f ∷ fs) h e = e
+
+-- an open quote has no right count
+pub count-open : (n : ℕ) (l : List ℕ) (q : Bool) (m i : ℕ) (x : Bool) → countAt n l q m i ≡ x → length l ≤ i → q ≡ true → false ≡ x
+unfolding quoteAfter
+count-open n l q m i x e h t = rw (at-end l i h, t) at e
+
+-- else the last field is one more
+pub count-shut : (n : ℕ) (l : List ℕ) (q : Bool) (m i : ℕ) (x : Bool) → countAt n l q m i ≡ x → length l ≤ i → q ≡ false → eqb (m + 1) n ≡ x
+unfolding quoteAfter fieldsFrom
+count-shut n l q m i x e h t = rw (at-end l i h, t) at e
+
+pub ruleset count = (needs, count-start, count-sep, count-other, count-open, count-shut)
+
+-- ---- the walk of a field, where quoting is q
+
+-- where it ends
+abbrev pub endAt : List ℕ → Bool → ℕ → ℕ
+endAt l q i = i + fieldLen q (drop i l)
+
+-- a separator ends it
+pub end-stop : (l : List ℕ) (q : Bool) (i x : ℕ) (b : Bool) → endAt l q i ≡ x → i < length l → b ≡ isSep q (getD l i 0) → b ≡ true → i ≡ x
+unfolding fieldLen
+end-stop l q i x b e h p t = sym (add-zero i) ∙ (rw (at-cons l i h, sym p ∙ t) at e)
+
+-- another byte is passed
+pub end-turn :
+    (l : List ℕ) (q : Bool) (i x : ℕ) (b q′ : Bool) →
+    endAt l q i ≡ x → i < length l → b ≡ isSep q (getD l i 0) → b ≡ false → q′ ≡ turned q (getD l i 0) → endAt l q′ (i + 1) ≡ x
+unfolding fieldLen
+end-turn l q i x b q′ e h p t k = rw k (omega (arith, rw (at-cons l i h, sym p ∙ t) at e))
+
+-- so does the line's end
+pub end-done : (l : List ℕ) (q : Bool) (i x : ℕ) → endAt l q i ≡ x → length l ≤ i → i ≡ x
+unfolding fieldLen
+end-done l q i x e h = sym (add-zero i) ∙ (rw (at-end l i h) at e)
+
+pub ruleset ending = (needs, end-stop, end-turn, end-done)
+
+-- ---- the fields of the meaning
+
+-- the fields after one of n bytes
+abbrev rest : List ℕ → ℕ → List (List ℕ)
+rest l n = pick (ltb n (length l)) (fieldsFrom false (drop (suc n) l)) []
+
+-- the first of the fields, and what the others are the fields of
+pub fields-next : (q : Bool) (l : List ℕ) → fieldsFrom q l ≡ take (fieldLen q l) l ∷ rest l (fieldLen q l)
+unfolding fieldsFrom fieldLen addByte
+fields-next q [] = refl
+fields-next q (x ∷ r) = go (isSep q x) refl (fields-next (turned q x) r)
+  where
+    n : ℕ
+    n = fieldLen (turned q x) r
+
+    go :
+        (b : Bool) → isSep q x ≡ b → fieldsFrom (turned q x) r ≡ take n r ∷ rest r n →
+        addByte b x (fieldsFrom (turned q x) r) ≡ take (pick b 0 (suc n)) (x ∷ r) ∷ rest (x ∷ r) (pick b 0 (suc n))
+    go true s e = rw (sep-stays q x s, sep-outside q x s, lt-ltb 0 (suc (length r)) (omega arith))
+    go false s e = rw (e, leb·suc-suc (suc n) (length r))
+
+-- the same at an offset
+pub fields-at :
+    (t : List ℕ) (at : ℕ)
+    → fieldsFrom false (drop at t)
+    ≡ take (fieldLen false (drop at t)) (drop at t)
+    ∷ pick (ltb (fieldLen false (drop at t)) (length t - at)) (fieldsFrom false (drop (at + suc (fieldLen false (drop at t))) t)) []
+fields-at t at = fields-next false (drop at t) ∙ rw (length-drop at t, drop-drop (suc (fieldLen false (drop at t))) at t)
+
+-- ---- what stands after a field
+
+-- it is what is left after the field and one byte
+pub after-drop : (q : Bool) (l : List ℕ) → afterField q l ≡ drop (suc (fieldLen q l)) l
+unfolding afterField fieldLen
+after-drop q [] = refl
+after-drop q (x ∷ r) = go (isSep q x) (after-drop (turned q x) r)
+  where
+    go :
+        (b : Bool) → afterField (turned q x) r ≡ drop (suc (fieldLen (turned q x) r)) r →
+        pick b r (afterField (turned q x) r) ≡ drop (suc (pick b 0 (suc (fieldLen (turned q x) r)))) (x ∷ r)
+    go true e = refl
+    go false e = e
+
+-- the same at an offset
+pub after-at : (t : List ℕ) (at : ℕ) → afterField false (drop at t) ≡ drop (suc (fieldEnd t at)) t
+after-at t at = after-drop false (drop at t) ∙ drop-drop (suc (fieldLen false (drop at t))) at t ∙ rw (next)
+  where
+    next : at + suc (fieldLen false (drop at t)) ≡ suc (fieldEnd t at)
+    next = omega arith
+
+-- what is left from k on is told by its length
+left-back : (t : List ℕ) (k : ℕ) → drop (length t - length (drop k t)) t ≡ drop k t
+left-back t k = go (decLe k (length t))
+  where
+    go : Dec (k ≤ length t) → drop (length t - length (drop k t)) t ≡ drop k t
+    go (yes h) = let n : length t - length (drop k t) ≡ k = omega (arith, length-drop k t) in rw n
+    go (no h) = let d : drop k t ≡ [] = at-end t k (omega arith) in rw d (at-end t (length t - 0) (omega arith))
+
+-- it stands where nextStart says
+pub next-part : (t : List ℕ) (at : ℕ) → drop (nextStart t at) t ≡ afterField false (drop at t)
+unfolding nextStart
+next-part t at = rw (after-at t at) (left-back t (suc (fieldEnd t at)))
+
+-- after a field that a separator ends, at the byte after that
+pub next-more : (t : List ℕ) (at e : ℕ) → e ≡ fieldEnd t at → e < length t → e + 1 ≡ nextStart t at
+unfolding nextStart
+next-more t at e q h = omega (arith, ap length (after-at t at), length-drop (suc (fieldEnd t at)) t)
+
+-- after the last field, at the line's end
+pub next-end : (t : List ℕ) (at e : ℕ) → e ≡ fieldEnd t at → e ≤ length t → length t ≤ e → e ≡ nextStart t at
+unfolding nextStart
+next-end t at e q g h = omega (arith, ap length (after-at t at), length-drop (suc (fieldEnd t at)) t)
+
+pub ruleset next = (needs, next-more, next-end)
+
+-- ---- the content
+
+-- two fields on
+two-on : (t : List ℕ) (a b : ℕ) → a ≡ nextStart t 0 → b ≡ nextStart t a → drop b t ≡ afterField false (afterField false t)
+two-on t a b p q = rw q (next-part t a ∙ ap (afterField false) (rw p (next-part t 0)))
+
+-- three fields on the content starts
+pub content-is : (t : List ℕ) (a b c : ℕ) → a ≡ nextStart t 0 → b ≡ nextStart t a → c ≡ nextStart t b → c ≡ contentStart t
+unfolding nextStart contentStart contentOf
+content-is t a b c p q r = r ∙ ap (λ l. length t - length (afterField false l)) (two-on t a b p q)
+
+pub ruleset contents = (needs, content-is)
+
+-- and the meaning's content stands there
+pub content-part : (t : List ℕ) → drop (contentStart t) t ≡ contentOf t
+unfolding contentOf
+content-part t =
+    rw (← content-is t (nextStart t 0) (nextStart t (nextStart t 0)) (nextStart t (nextStart t (nextStart t 0))) refl refl refl)
+    (next-part t (nextStart t (nextStart t 0)) ∙ ap (afterField false) (two-on t (nextStart t 0) (nextStart t (nextStart t 0)) refl refl))

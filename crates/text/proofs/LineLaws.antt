@@ -1,0 +1,113 @@
+-- The laws of lines: by which the loops go, and how offsets stand to the lines that the meaning says.
+use mathlib.Core.Path.{_≡_, refl, _∙_, sym}
+use mathlib.Core.Bool.{Bool, true, false}
+use mathlib.Core.List.{List, [], _∷_}
+use Prim.Native.Nat.{ℕ, suc, _+_, _≤_, _<_}
+use native.Mathlib.Nat.{suc-add}
+use native.Mathlib.Omega.{arith}
+use borrow.Author.Tests.{eq-eqb, ne-eqb, lt-ltb}
+use borrow.Author.Needs.{needs}
+use lib.Dec.{eqb, ltb, leb·suc-suc}
+use lib.ListN.{length, getD, drop, take, length-drop}
+use lib.Seq.{drop-drop}
+use Rattle.base.specs.Lists.{pick}
+use Rattle.base.proofs.Walk.{at-cons, at-end}
+use Rattle.meaning.specs.Lines.{Line, grow, linesOf}
+use Rattle.text.specs.Places.{endsHere, lineLen, lineEnd}
+
+-- ---- a CR LF at an index
+
+-- past the end there is none
+pub ends-past : (s : List ℕ) (i : ℕ) → length s ≤ i → false ≡ endsHere (drop i s)
+ends-past s i h = rw (at-end s i h)
+
+-- the last byte is none
+pub ends-last : (s : List ℕ) (i : ℕ) → i < length s → length s ≤ i + 1 → false ≡ endsHere (drop i s)
+ends-last s i h h′ = rw (at-cons s i h, at-end s (i + 1) h′)
+
+-- another byte than CR starts none
+pub ends-other : (s : List ℕ) (i : ℕ) → i < length s → (getD s i 0 ≡ 13 → ⊥) → i + 1 < length s → false ≡ endsHere (drop i s)
+ends-other s i h n h′ = rw (at-cons s i h, at-cons s (i + 1) h′, ne-eqb (getD s i 0) 13 n)
+
+-- after a CR the next byte decides
+pub ends-cr : (s : List ℕ) (i : ℕ) → i < length s → getD s i 0 ≡ 13 → i + 1 < length s → eqb (getD s (i + 1) 0) 10 ≡ endsHere (drop i s)
+ends-cr s i h e h′ = rw (at-cons s i h, at-cons s (i + 1) h′, eq-eqb (getD s i 0) 13 e)
+
+pub ruleset ends = (needs, ends-past, ends-last, ends-other, ends-cr)
+
+-- ---- the walk of a line, i bytes on
+
+-- a CR LF ends it
+pub line-stop : (s : List ℕ) (i x : ℕ) (b : Bool) → lineEnd s i ≡ x → b ≡ endsHere (drop i s) → b ≡ true → i ≡ x
+unfolding lineLen
+line-stop s i x b e q t = omega (arith, go (drop i s) (sym q ∙ t))
+  where
+    go : (l : List ℕ) → endsHere l ≡ true → lineLen l ≡ 0
+    go [] e = refl
+    go (x ∷ r) e = rw e
+
+-- any other byte is passed
+pub line-turn : (s : List ℕ) (i x : ℕ) (b : Bool) → lineEnd s i ≡ x → i < length s → b ≡ endsHere (drop i s) → b ≡ false → lineEnd s (i + 1) ≡ x
+unfolding lineLen
+line-turn s i x b e h q t = omega (arith, step)
+  where
+    step : lineLen (drop i s) ≡ suc (lineLen (drop (i + 1) s))
+    step = rw (at-cons s i h) (rw (rw (at-cons s i h) at (sym q ∙ t)))
+
+-- so do the bytes' end
+pub line-done : (s : List ℕ) (i x : ℕ) → lineEnd s i ≡ x → length s ≤ i → i ≡ x
+unfolding lineLen
+line-done s i x e h = omega (arith, step)
+  where
+    step : lineLen (drop i s) ≡ 0
+    step = rw (at-end s i h)
+
+pub ruleset line = (needs, line-stop, line-turn, line-done)
+
+-- ---- the lines of the meaning
+
+-- a line is no longer than the bytes
+pub lineLen-le : (s : List ℕ) → lineLen s ≤ length s
+unfolding lineLen
+lineLen-le [] = search needs
+lineLen-le (x ∷ r) = go (endsHere (x ∷ r)) (lineLen-le r)
+  where
+    go : (b : Bool) → lineLen r ≤ length r → pick b 0 (suc (lineLen r)) ≤ suc (length r)
+    go true h = omega arith
+    go false h = omega arith
+
+-- the first of the lines
+abbrev pub firstLine : List ℕ → Line
+firstLine s = record { text = take (lineLen s) s; ended = ltb (lineLen s) (length s) }
+
+-- the first line, and what the others are the lines of
+pub lines-next : (s : List ℕ) → 0 < length s → linesOf s ≡ firstLine s ∷ linesOf (drop (lineLen s + 2) s)
+unfolding lineLen linesOf grow
+lines-next [] h = absurd (omega arith)
+lines-next (x ∷ []) h = refl
+lines-next (x ∷ (y ∷ r)) h = go (endsHere (x ∷ (y ∷ r))) (lines-next (y ∷ r) (omega arith))
+  where
+    n : ℕ
+    n = lineLen (y ∷ r)
+
+    go :
+        (b : Bool) →
+        linesOf (y ∷ r) ≡ firstLine (y ∷ r) ∷ linesOf (drop (n + 2) (y ∷ r)) →
+        pick b (record { text = []; ended = true } ∷ linesOf r) (grow x (linesOf (y ∷ r)))
+        ≡ record { text = take (pick b 0 (suc n)) (x ∷ (y ∷ r)); ended = ltb (pick b 0 (suc n)) (suc (suc (length r))) }
+        ∷ linesOf (drop (pick b 0 (suc n) + 2) (x ∷ (y ∷ r)))
+    go true e = rw (lt-ltb 0 (suc (suc (length r))) (omega arith))
+    go false e = rw (e, suc-add n 2, leb·suc-suc (suc n) (suc (length r)))
+
+-- the same at an offset
+pub lines-at :
+    (s : List ℕ) (at : ℕ) → at < length s
+    → linesOf (drop at s)
+    ≡ record { text = take (lineLen (drop at s)) (drop at s); ended = ltb (lineLen (drop at s)) (length (drop at s)) }
+    ∷ linesOf (drop (at + (lineLen (drop at s) + 2)) s)
+lines-at s at h = lines-next (drop at s) (simp length-drop (omega arith)) ∙ rw (drop-drop (lineLen (drop at s) + 2) at s)
+
+-- past the end there are none
+pub lines-end : (s : List ℕ) (at : ℕ) → length s ≤ at → linesOf (drop at s) ≡ []
+unfolding linesOf
+lines-end s at h = rw (at-end s at h)

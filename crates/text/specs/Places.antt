@@ -1,0 +1,53 @@
+-- Where lines, fields and contents stand in the bytes that were lent: the offsets that a walk goes by. Laws of proofs/ tie each to the meaning.
+use mathlib.Core.Bool.{Bool, true, false, _&&_}
+use mathlib.Core.List.{List, [], _∷_}
+use Prim.Native.Nat.{ℕ, suc, _+_, _-_, _≤_}
+use mathlib.Core.Path.{_≡_}
+use lib.Dec.{eqb, ltb}
+use lib.ListN.{length, getD, take, drop}
+use Rattle.base.specs.Lists.{pick}
+use Rattle.meaning.specs.Lines.{isSep, turned, fieldsOf, afterField}
+use Rattle.meaning.specs.Records.{contentOf}
+use Rattle.meaning.specs.Enquiries.{fieldsSpanned}
+
+-- a CR LF stands at the front
+abbrev pub endsHere : List ℕ → Bool
+endsHere [] = false
+endsHere (x ∷ []) = false
+endsHere (x ∷ (y ∷ r)) = eqb x 13 && eqb y 10
+
+-- how many bytes stand before the first CR LF, or in all where there is none
+unfoldable pub lineLen : List ℕ → ℕ
+lineLen [] = 0
+lineLen (x ∷ r) = pick (endsHere (x ∷ r)) 0 (suc (lineLen r))
+
+-- where the line that starts at `at` ends
+abbrev pub lineEnd : List ℕ → ℕ → ℕ
+lineEnd s at = at + lineLen (drop at s)
+
+-- how many bytes stand before the next separator, where quoting is q
+unfoldable pub fieldLen : Bool → List ℕ → ℕ
+fieldLen q [] = 0
+fieldLen q (x ∷ r) = pick (isSep q x) 0 (suc (fieldLen (turned q x) r))
+
+-- where the field that starts at `at` ends
+abbrev pub fieldEnd : List ℕ → ℕ → ℕ
+fieldEnd t at = at + fieldLen false (drop at t)
+
+-- where field k starts, or the line's end where it has no such field
+unfoldable pub fieldStart : List ℕ → ℕ → ℕ
+fieldStart t k = pick (ltb k (length (fieldsOf t))) (fieldsSpanned (take k (fieldsOf t))) (length t)
+
+-- r is where field k starts, and the field stands from there up to its end
+pub record FieldAt (t : List ℕ) (k r : ℕ) : Type 0 where
+  pub starts : r ≡ fieldStart t k
+  pub within : r ≤ length t
+  pub stands : take (fieldEnd t r - r) (drop r t) ≡ getD (fieldsOf t) k []
+
+-- where what stands after the field at `at` starts
+unfoldable pub nextStart : List ℕ → ℕ → ℕ
+nextStart t at = length t - length (afterField false (drop at t))
+
+-- where a line's content starts
+unfoldable pub contentStart : List ℕ → ℕ
+contentStart t = length t - length (contentOf t)

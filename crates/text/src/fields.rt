@@ -1,0 +1,120 @@
+// A double quote opens or closes quoting; fields are separated by commas outside quotes.
+ghost use mathlib.Core.Path.{_≡_};
+ghost use Prim.Native.Nat.{_≤_};
+ghost use mathlib.Core.List.{[]};
+ghost use lib.ListN.{length, getD};
+ghost use Rattle.meaning.specs.Lines.{identifier, isSep, turned, fieldsOf, hasFields};
+ghost use Rattle.text.specs.Places.{fieldEnd, FieldAt, nextStart, contentStart};
+
+// Where the identifier ends: at the first comma, or where the line does.
+pub fn identifier_end(line: &[u8]) -> usize
+    ensures { λ r. ⌜ (r ≡ length (identifier (now (line .entry)))) × (r ≤ length (now (line .entry))) ⌝ }
+{
+    let mut i = 0;
+    while i < line.len() {
+        if line[i] == 44 {
+            return i;
+        }
+        i += 1;
+    }
+    i
+}
+
+// Whether a byte separates two fields, where quoting stands as it does.
+pub fn is_sep(quoted: bool, b: u8) -> bool
+    ensures { λ r. ⌜ r ≡ isSep quoted b ⌝ }
+{
+    if b == 44 { !quoted } else { false }
+}
+
+// Quoting after a byte.
+pub fn turn(quoted: bool, b: u8) -> bool
+    ensures { λ r. ⌜ r ≡ turned quoted b ⌝ }
+{
+    if b == 34 { !quoted } else { quoted }
+}
+
+// Whether a line has n fields; one with an odd number of quotes has not.
+pub fn has_fields(line: &[u8], n: usize) -> bool
+    ensures { λ r. ⌜ r ≡ hasFields n (now (line .entry)) ⌝ }
+{
+    let mut quoted = false;
+    let mut commas = 0;
+    let mut i = 0;
+    while i < line.len() {
+        let b = line[i];
+        if is_sep(quoted, b) {
+            commas += 1;
+            i += 1;
+            continue;
+        }
+        quoted = turn(quoted, b);
+        i += 1;
+    }
+    if quoted {
+        return false;
+    }
+    commas + 1 == n
+}
+
+// Where the field that starts at `at` ends: at the next separator, or where the line does.
+pub fn field_end(line: &[u8], at: usize) -> usize
+    requires { ⌜ at ≤ length (now line) ⌝ }
+    ensures { λ r. ⌜ (r ≡ fieldEnd (now (line .entry)) at) × (at ≤ r) × (r ≤ length (now (line .entry))) ⌝ }
+{
+    let mut quoted = false;
+    let mut i = at;
+    while i < line.len() {
+        let b = line[i];
+        if is_sep(quoted, b) {
+            return i;
+        }
+        quoted = turn(quoted, b);
+        i += 1;
+    }
+    i
+}
+
+// Where what stands after the field at `at` starts, or the line's end where nothing does.
+pub fn next_start(line: &[u8], at: usize) -> usize
+    requires { ⌜ at ≤ length (now line) ⌝ }
+    ensures { λ r. ⌜ (r ≡ nextStart (now (line .entry)) at) × (r ≤ length (now (line .entry))) ⌝ }
+{
+    let end = field_end(line, at);
+    if end < line.len() { end + 1 } else { end }
+}
+
+// Where field k of a line starts, counted from 0, or the line's end where it has no such field.
+pub fn field_start(line: &[u8], k: usize) -> usize
+    ensures { λ r. ⌜ FieldAt (now (line .entry)) k r ⌝ }
+{
+    let mut at = 0;
+    let mut left = k;
+    while 0 < left {
+        let end = field_end(line, at);
+        if end == line.len() {
+            return end;
+        }
+        at = end + 1;
+        left -= 1;
+    }
+    at
+}
+
+// Field k of a line, counted from 0, with its quotes; one that is not there is empty.
+pub fn field(line: &[u8], k: usize) -> &[u8]
+    ensures { λ r. ⌜ now r ≡ getD (fieldsOf (now (line .entry))) k [] ⌝ }
+{
+    let at = field_start(line, k);
+    let end = field_end(line, at);
+    &line[at..end]
+}
+
+// Where a line's content starts: what stands after its third field.
+pub fn content_start(line: &[u8]) -> usize
+    ensures { λ r. ⌜ (r ≡ contentStart (now (line .entry))) × (r ≤ length (now (line .entry))) ⌝ }
+{
+    let second = next_start(line, 0);
+    let third = next_start(line, second);
+    next_start(line, third)
+}

@@ -1,0 +1,60 @@
+// A line runs up to the next CR LF; bytes left after the last CR LF are a line with no ending.
+ghost use mathlib.Core.Path.{_≡_};
+ghost use Prim.Native.Nat.{_≤_};
+ghost use lib.ListN.{length, drop};
+ghost use Rattle.base.specs.Lists.{all};
+ghost use Rattle.meaning.specs.Lines.{plain};
+ghost use Rattle.text.specs.Places.{endsHere, lineEnd};
+
+// Whether a CR LF stands at i.
+pub fn ends_at(s: &[u8], i: usize) -> bool
+    ensures { λ r. ⌜ r ≡ endsHere (drop i (now (s .entry))) ⌝ }
+{
+    if s.len() <= i {
+        return false;
+    }
+    let next = i + 1;
+    if s.len() <= next {
+        return false;
+    }
+    if s[i] == 13 { s[next] == 10 } else { false }
+}
+
+// Where the line that starts at `at` ends: at the next CR LF, or where the bytes do.
+pub fn line_end(s: &[u8], at: usize) -> usize
+    requires { ⌜ at ≤ length (now s) ⌝ }
+    ensures { λ r. ⌜ (r ≡ lineEnd (now (s .entry)) at) × (at ≤ r) × (r ≤ length (now (s .entry))) ⌝ }
+{
+    let mut i = at;
+    while i < s.len() {
+        if ends_at(s, i) {
+            return i;
+        }
+        i += 1;
+    }
+    i
+}
+
+// Whether a byte is neither CR nor LF.
+pub fn is_plain_byte(b: u8) -> bool
+    ensures { λ r. ⌜ r ≡ plain b ⌝ }
+{
+    if b == 13 {
+        return false;
+    }
+    b != 10
+}
+
+// Whether a line holds no CR or LF.
+pub fn is_plain(line: &[u8]) -> bool
+    ensures { λ r. ⌜ r ≡ all plain (now (line .entry)) ⌝ }
+{
+    let mut i = 0;
+    while i < line.len() {
+        if !is_plain_byte(line[i]) {
+            return false;
+        }
+        i += 1;
+    }
+    true
+}
