@@ -12,7 +12,8 @@ use mir.Facts.{yes-eqb, no-eqb}
 use Rattle.base.specs.Lists.{all, pick, ask, same, upTo, bytes, part}
 use Rattle.base.specs.Tests.{and-in, and-l, and-r, bools, T-true, some≢none, T-false, ask-ok, ok-ask}
 use Rattle.base.specs.ListLaws.{all-append, append-all, same-refl, same-eq}
-use Rattle.theory.specs.Decimal.{dec, width, length-dec, width-pos, value, value-dec}
+use Rattle.theory.specs.Decimal.{dec}
+use Rattle.theory.specs.DecimalLaws.{length-dec, width-pos}
 use Rattle.theory.specs.Step.{Op, ins, upd, del, Change}
 use Rattle.meaning.specs.Lines.{plain, turned, isSep, addByte, fieldsFrom, fieldsOf, quoteAfter, oddQuotes, hasFields, afterField, identifier}
 use Rattle.meaning.specs.Forms

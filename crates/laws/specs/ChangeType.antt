@@ -4,7 +4,7 @@ use mathlib.Core.Bool.{Bool, true, false, not, _||_}
 use mathlib.Core.List.{List, [], _∷_}
 use Prim.Native.Nat.{ℕ}
 use lib.Dec.{T}
-use Rattle.theory.specs.Step.{Op, ins, upd, del}
+use Rattle.theory.specs.Step.{ins, upd, del}
 use Rattle.base.specs.Lists.{pick, same, bytes}
 use Rattle.meaning.specs.Forms.{changeType, soundAs, hasForm, isEmpty, oneOf}
 use Rattle.meaning.specs.Table.{Field, man}

@@ -10,15 +10,14 @@ use lib.ListN.{length, length-append}
 use Rattle.base.specs.Lists.{all, pick, ask, zeros}
 use Rattle.base.specs.Tests.{and-in, and-l, and-r, bools, T-true, some≢none, ask-ok, ok-ask}
 use Rattle.base.specs.ListLaws.{append-all}
-use Rattle.theory.specs.Store.{get, Asc}
-use Rattle.theory.specs.Fold.{sum}
+use Rattle.theory.specs.Store.{get}
 use Rattle.theory.specs.Refs.{met}
-use Rattle.theory.specs.Step.{Op, ins, upd, del, Change, Test, passes, fails, need, need-ok, ok-need, allowed, codeOf, inv, at, after, back, judge, judge-ok, ok-judge}
-use Rattle.theory.specs.Tests.{few}
+use Rattle.theory.specs.Step.{Op, ins, upd, del, Change, Test, fails, need, allowed, codeOf, at, after, judge}
+use Rattle.theory.specs.StepLaws.{judge-ok, ok-judge}
+use Rattle.theory.specs.Limits.{few}
 use Rattle.theory.specs.Run.{Out, done, stop, on, run, Taken, Good, last, free}
-use Rattle.theory.specs.Rev.{final, trace, Each, Through, undo}
-use Rattle.theory.specs.Apply as A
-use Rattle.theory.specs.Apply.{Read, fault, file, Answer, took, refused, count, isOp}
+use Rattle.theory.specs.Trail.{final, Each, Through}
+use Rattle.theory.specs.Answer.{Read, fault, file, Answer, took, refused, count}
 use Rattle.meaning.specs.Lines.{Line, linesOf, endsWell, identifier, fieldsOf, hasFields}
 use Rattle.meaning.specs.Table.{Kind, kindOf, Role, headerLine, bodyLine, metadataLine, trailerLine, role, Field, fields}
 use Rattle.meaning.specs.Sound.{Fault, soundField, forms, fieldFault, formFault}

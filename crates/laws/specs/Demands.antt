@@ -10,15 +10,16 @@ use lib.ListN.{length}
 use Rattle.base.specs.Lists.{all, pick, zeros}
 use Rattle.base.specs.Tests.{and-in, and-l, and-r, bools, T-true}
 use Rattle.base.specs.ListLaws.{append-all}
-use Rattle.theory.specs.Store.{get, Asc}
-use Rattle.theory.specs.Refs.{met}
-use Rattle.theory.specs.Step.{Op, ins, upd, del, Change, Test, passes, fails, need, allowed, inv, at, after, back, judge, judge-ok, ok-judge}
-use Rattle.theory.specs.Tests.{few}
-use Rattle.theory.specs.Run.{Out, done, stop, run, Taken, Good, last, free, frame, get-final, good-through, good-final}
-use Rattle.theory.specs.Rev.{final, trace, Each, Through, undo, ok*, same*, trace*}
-use Rattle.theory.specs.Holding.{Sound, byLength}
+use Rattle.theory.specs.Store.{get}
+use Rattle.theory.specs.Step.{ins, upd, del, Change, Test, passes, fails, need, after}
+use Rattle.theory.specs.Run.{Out, done, stop, run, Good, last, free}
+use Rattle.theory.specs.RunLaws.{frame, get-final, fine-final, good-through, good-final}
+use Rattle.theory.specs.Trail.{final, trace, Each, Through, undo}
+use Rattle.theory.specs.TrailLaws.{ok*, same*, trace*}
+use Rattle.theory.specs.Format.{Sound, byLength}
 use Rattle.theory.specs.Apply as A
-use Rattle.theory.specs.Apply.{Read, fault, file, Answer, took, refused, count}
+use Rattle.theory.specs.ApplyLaws.{says-apply, apply-took, back-one}
+use Rattle.theory.specs.Answer.{Read, fault, file, Answer, took, refused, count}
 use Rattle.meaning.specs.Records.{Rec, keyed, refsOf}
 use Rattle.meaning.specs.File.{Frame, Sheet, readFile, writeFile}
 use Rattle.meaning.specs.Holding.{Held, sound, unsound, readHolding, written}
@@ -94,7 +95,7 @@ same-undo old b = go (readHolding old)
 pub taken : (room : ℕ) (old b new : List ℕ) (a : Takes room old b new)
     → apply old b room ≡ record { answer = six 0 0 0 (count ins (a .cs)) (count upd (a .cs)) (count del (a .cs)); output = filled room new }
 unfolding apply applied
-taken room old b new a = rw (same-load room old b, A.apply-took keyed holding format ℕ late badLine room old b new a)
+taken room old b new a = rw (same-load room old b, apply-took keyed holding format ℕ late badLine room old b new a)
 
 -- and only such a file is taken
 abbrev pub TookSays : ℕ → List ℕ → List ℕ → Answer → Type 0
@@ -102,7 +103,7 @@ TookSays room old b (took new i u d) = Takes room old b new
 TookSays room old b (refused c l f) = Unit {0}
 
 pub took-takes : (room : ℕ) (old b : List ℕ) → TookSays room old b (load room old b)
-took-takes room old b = rw (same-load room old b) (go (theirs room old b) (A.says-apply keyed holding format ℕ late badLine room old b))
+took-takes room old b = rw (same-load room old b) (go (theirs room old b) (says-apply keyed holding format ℕ late badLine room old b))
   where
     go : (x : Answer) → A.Says keyed holding format ℕ late badLine room old b x → TookSays room old b x
     go (took new i u d) s = s .0
@@ -140,13 +141,13 @@ module _ (room : ℕ) (old b new : List ℕ) (a : Takes room old b new) where
       let g = good-final keyed (always ++ late room) (a .st) (a .cs) good-old (a .takes) in
       let p = append-all (λ t. t .1 (final (after keyed) (a .st) (a .cs))) always (late room) (g .pass) in
       let f = format .says b (a .fr) (a .cs) (a .read) in
-      rw (a .made) (holding .writes (final (after keyed) (a .st) (a .cs)) (record { asc = g .asc; fines = A.fine-final keyed fine (a .st) (a .cs) (met-old .1 .fines) (f .1); pass = p .0 }))
+      rw (a .made) (holding .writes (final (after keyed) (a .st) (a .cs)) (record { asc = g .asc; fines = fine-final keyed fine (a .st) (a .cs) (met-old .1 .fines) (f .1); pass = p .0 }))
 
 -- ---- demand 3
 
 -- the undo of a taken file is itself taken, and gives the old bytes back
 pub undo-takes : (room : ℕ) (old b new : List ℕ) → Takes room old b new → Takes room new (undoBytes old b) old
-undo-takes room old b new a = rw (same-undo old b) (A.back-one keyed holding format ℕ late badLine room old b new a)
+undo-takes room old b new a = rw (same-undo old b) (back-one keyed holding format ℕ late badLine room old b new a)
 
 -- so apply of the undo leaves the old holding
 pub undo-back : (room : ℕ) (old b new : List ℕ) → Takes room old b new → apply new (undoBytes old b) room .output ≡ filled room old
@@ -158,7 +159,7 @@ pub undo-answers : (room space : ℕ) (old b new : List ℕ) (a : Takes space ol
     (record { answer = six 0 0 0 (count ins (a .cs)) (count upd (a .cs)) (count del (a .cs)); output = filled room (undoBytes old b); work = zeros space })
     (record { answer = six 17 0 0 0 0 0; output = zeros room; work = zeros space })
 unfolding undoFile undone
-undo-answers room space old b new a = rw (same-load space old b, A.apply-took keyed holding format ℕ late badLine space old b new a)
+undo-answers room space old b new a = rw (same-load space old b, apply-took keyed holding format ℕ late badLine space old b new a)
 
 -- a run of files, each with the length of its buffer
 abbrev pub Turn : Type 0
@@ -182,7 +183,7 @@ turnBack old t = (t .0, undoBytes old (t .1))
 
 pub turned-is : (old : List ℕ) (t : Turn) (new : List ℕ) → Takes (t .0) old (t .1) new → turned old t ≡ new
 unfolding turned newOf
-turned-is old t new a = rw (same-load (t .0) old (t .1), A.apply-took keyed holding format ℕ late badLine (t .0) old (t .1) new a)
+turned-is old t new a = rw (same-load (t .0) old (t .1), apply-took keyed holding format ℕ late badLine (t .0) old (t .1) new a)
 
 back-same : (old : List ℕ) (t : Turn) → Unit {0} → TurnTaken old t → turned (turned old t) (turnBack old t) ≡ old
 unfolding TurnTaken turnBack

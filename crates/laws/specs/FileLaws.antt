@@ -13,9 +13,11 @@ use mir.Facts.{yes-eqb}
 use Rattle.base.specs.Lists.{all, pick, ask, same}
 use Rattle.base.specs.Tests.{and-in, and-l, and-r, bools, T-true, some≢none, ask-ok, ok-ask}
 use Rattle.base.specs.ListLaws.{all-append, append-all}
-use Rattle.theory.specs.Decimal.{dec, value, value-dec}
-use Rattle.theory.specs.Step.{Op, ins, upd, del, Change}
-use Rattle.theory.specs.Apply.{Read, fault, file, Format}
+use Rattle.theory.specs.Decimal.{value}
+use Rattle.theory.specs.DecimalLaws.{value-dec}
+use Rattle.theory.specs.Step.{Change}
+use Rattle.theory.specs.Answer.{Read, fault, file}
+use Rattle.theory.specs.Format.{Format}
 use Rattle.meaning.specs.Lines.{Line, linesOf, plain, endsWell, fieldsOf, identifier}
 use Rattle.meaning.specs.Table.{Kind, ident, kindOf, Role, headerLine, bodyLine, metadataLine, trailerLine, role, fields, opening, named, placeFrom, proOrder}
 use Rattle.meaning.specs.Sound.{Fault, formFault}

@@ -7,7 +7,7 @@ use Prim.Native.Nat.{ℕ, zero, suc, _+_, _≤_, _<_}
 use native.Mathlib.Omega.{arith}
 use lib.Dec.{T, leb, eqb, le→leb, leb→le}
 use lib.ListN.{length, getD}
-use Rattle.theory.specs.Tri.{Tri, lt, isLt, is-lt}
+use Rattle.theory.specs.TriLaws.{is-lt}
 use Rattle.base.specs.Lists.{all, pick, same, keepIf}
 use Rattle.base.specs.Tests.{and-in, and-l, and-r, bools, T-true, some≢none}
 use Rattle.base.specs.ListLaws.{all-append, same-refl, same-eq}
@@ -16,9 +16,9 @@ use Rattle.theory.specs.Decimal.{dec}
 use Rattle.theory.specs.Store.{Asc, Low}
 use Rattle.theory.specs.Refs.{met, meets}
 use Rattle.theory.specs.Run.{inserts}
-use Rattle.theory.specs.Step.{Op, ins, upd, del, Change, Test, passes}
-use Rattle.theory.specs.Tests.{most, few}
-use Rattle.theory.specs.Holding.{Sound, Holding}
+use Rattle.theory.specs.Step.{ins, Change, Test}
+use Rattle.theory.specs.Limits.{most, few}
+use Rattle.theory.specs.Format.{Sound, Holding}
 use Rattle.meaning.specs.Lines.{Line, linesOf, plain, endsWell, fieldsOf, identifier}
 use Rattle.meaning.specs.Table.{Kind, ident, kindOf, role}
 use Rattle.meaning.specs.Sound.{Fault, formFault}

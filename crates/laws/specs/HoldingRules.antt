@@ -13,8 +13,7 @@ use Rattle.theory.specs.Store.{Asc}
 use Rattle.theory.specs.Refs.{met}
 use Rattle.theory.specs.Run.{inserts}
 use Rattle.theory.specs.Step.{passes}
-use Rattle.theory.specs.Tests.{most, few}
-use Rattle.theory.specs.Holding.{Sound, Holding}
+use Rattle.theory.specs.Limits.{most, few}
 use Rattle.meaning.specs.Lines.{linesOf, plain}
 use Rattle.meaning.specs.Table.{Role, bodyLine, role}
 use Rattle.meaning.specs.Records.{Rec, contentOf, keyed, refsOf, changeText, changeTexts}

@@ -10,12 +10,14 @@ use lib.ListN.{length, length-append}
 use Rattle.theory.specs.Tri.{Tri, lt, eq, gt, flip}
 use Rattle.base.specs.Lists.{all, pick, same}
 use Rattle.base.specs.Tests.{and-in, and-l, and-r, T-true, T-false}
-use Rattle.theory.specs.Lex.{lex, lex-order}
-use Rattle.theory.specs.Store.{get, gets, Asc, Low, low-down}
-use Rattle.theory.specs.Apart.{apart, by-key, apart-ne}
-use Rattle.theory.specs.Step.{Op, ins, upd, del, Change, new, after}
+use Rattle.theory.specs.Lex.{lex}
+use Rattle.theory.specs.LexLaws.{lex-order}
+use Rattle.theory.specs.Store.{get, gets, Asc, Low}
+use Rattle.theory.specs.StoreLaws.{low-down}
+use Rattle.theory.specs.Refs.{apart}
+use Rattle.theory.specs.RefsLaws.{by-key, apart-ne}
+use Rattle.theory.specs.Step.{Op, Change, new}
 use Rattle.theory.specs.Run.{last, choose}
-use Rattle.theory.specs.Rev.{final}
 use Rattle.meaning.specs.Records.{Rec, keyOf, keyed}
 use Rattle.meaning.specs.Enquiries.{lastNaming, heldAt}
 use Rattle.base.specs.ListLaws.{same-eq, same-refl}

@@ -11,7 +11,7 @@ use lib.ListN.{length}
 use mir.Facts.{yes-eqb}
 use Rattle.theory.specs.Decimal.{value}
 use Rattle.theory.specs.Step.{Change}
-use Rattle.theory.specs.Apply.{Read, fault, file}
+use Rattle.theory.specs.Answer.{fault}
 use Rattle.base.specs.Lists.{ask}
 use Rattle.meaning.specs.Lines.{Line, fieldsOf}
 use Rattle.meaning.specs.Table.{Kind, Role, bodyLine, role, fields, named, placeFrom, proOrder}

@@ -13,7 +13,7 @@ use Rattle.base.specs.Lists.{all, pick, ask, same}
 use Rattle.base.specs.Tests.{and-in, and-l, and-r, T-true, some≢none, ask-ok, ok-ask, T-false}
 use Rattle.theory.specs.Decimal.{value}
 use Rattle.theory.specs.Step.{Change}
-use Rattle.theory.specs.Apply.{Read, fault, file}
+use Rattle.theory.specs.Answer.{Read, fault, file}
 use Rattle.meaning.specs.Lines.{Line, linesOf, plain, endsWell, fieldsOf, oddQuotes, hasFields, identifier}
 use Rattle.meaning.specs.Table.{Kind, kinds, kindAmong, ident, kindOf, Role, headerLine, bodyLine, metadataLine, trailerLine, role, Field, fields, named, placeFrom, proOrder, recordCount, startDate, endDate}
 use Rattle.meaning.specs.Sound.{Fault, soundField, forms, datesAgree, fieldFault, formFault}

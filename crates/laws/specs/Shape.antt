@@ -10,7 +10,7 @@ use lib.ListN.{length}
 use mir.Facts.{yes-eqb}
 use Rattle.base.specs.Tests.{and-in}
 use Rattle.theory.specs.Decimal.{value}
-use Rattle.theory.specs.Apply.{Read, fault, file}
+use Rattle.theory.specs.Answer.{Read, fault, file}
 use Rattle.base.specs.Lists.{pick, ask}
 use Rattle.laws.specs.Kinds.{every}
 use Rattle.meaning.specs.Lines.{Line, linesOf, endsWell, identifier, fieldsOf, hasFields}

@@ -13,7 +13,8 @@ use mir.Facts.{no-eqb}
 use Rattle.base.specs.Lists.{all, pick, ask, same}
 use Rattle.base.specs.Tests.{and-in, and-l, and-r, bools, T-true, some≢none}
 use Rattle.base.specs.ListLaws.{all-append}
-use Rattle.theory.specs.Decimal.{dec, digits, width, length-dec, width-pos, width-small, width-big}
+use Rattle.theory.specs.Decimal.{dec, digits, width}
+use Rattle.theory.specs.DecimalLaws.{width-small, width-big}
 
 -- ---- decimal digits: a test that holds of every digit byte holds of a number's text
 

@@ -10,15 +10,17 @@ use lib.ListN.{length, length-append}
 use Rattle.base.specs.Lists.{all, pick, zeros}
 use Rattle.base.specs.Tests.{and-in, and-l, and-r, bools, T-true}
 use Rattle.base.specs.ListLaws.{append-all}
-use Rattle.theory.specs.Store.{get, Asc}
+use Rattle.theory.specs.Store.{get}
 use Rattle.theory.specs.Fold.{sum}
 use Rattle.theory.specs.Refs.{met}
-use Rattle.theory.specs.Step.{Op, ins, upd, del, Change, Test, passes, fails, need, allowed, codeOf, inv, at, after, back, judge, ok-judge}
-use Rattle.theory.specs.Tests.{few}
-use Rattle.theory.specs.Run.{Out, done, stop, on, run, Taken, Good, good-final}
-use Rattle.theory.specs.Rev.{final, trace, Each, undo}
-use Rattle.theory.specs.Apply as A
-use Rattle.theory.specs.Apply.{Read, fault, file, Answer, took, refused, count, isOp}
+use Rattle.theory.specs.Step.{Op, ins, upd, del, Change, fails, need, allowed, inv, at, after, back, judge}
+use Rattle.theory.specs.StepLaws.{ok-judge}
+use Rattle.theory.specs.Limits.{few}
+use Rattle.theory.specs.Run.{Out, done, stop, on, run, Taken}
+use Rattle.theory.specs.RunLaws.{fine-undo, good-final}
+use Rattle.theory.specs.Trail.{final, trace, Each, undo}
+use Rattle.theory.specs.TrailLaws.{length-undo}
+use Rattle.theory.specs.Answer.{file, Answer, took, refused, count, isOp}
 use Rattle.meaning.specs.Lines.{linesOf}
 use Rattle.meaning.specs.Records.{Rec, keyed, refsOf, changeTexts, joined}
 use Rattle.meaning.specs.File.{Frame, Sheet, readFile, writeFile}
@@ -71,7 +73,7 @@ module _ (room : ℕ) (old b new : List ℕ) (a : Takes room old b new) where
   pub undo-reads : readFile (undoBytes old b) ≡ file (a .fr, stepsBack)
   undo-reads =
       let f = file-says b (a .fr) (a .cs) (a .read) in
-      rw undo-is (file-reads (a .fr) stepsBack (rw (A.length-undo keyed fine (a .st) (a .cs)) (f .0)) (A.fine-undo keyed fine (a .st) (a .cs) (met-old room old b new a .1 .fines) (f .1)))
+      rw undo-is (file-reads (a .fr) stepsBack (rw (length-undo (after keyed) (back keyed) (a .st) (a .cs)) (f .0)) (fine-undo keyed fine (a .st) (a .cs) (met-old room old b new a .1 .fines) (f .1)))
 
   pub undo-sound : SoundFile (undoBytes old b) (a .fr) stepsBack
   undo-sound = read-sound (undoBytes old b) (a .fr) stepsBack undo-reads

@@ -2,7 +2,7 @@
 use Prim.Native.Nat.{ℕ}
 use Rattle.theory.specs.Compute.{computes}
 use Rattle.theory.specs.Decimal.{value, valueF}
-use Rattle.theory.specs.Apply.{count}
+use Rattle.theory.specs.Answer.{count}
 use Rattle.base.specs.Lists.{ask, keepIf, same, part, upTo, past, zeros, bytes}
 use Rattle.meaning.specs.Lines.{grow, linesOf, plain, endsWell, identifier, turned, isSep, addByte, fieldsFrom, fieldsOf, quoteAfter, oddQuotes, hasFields, afterField}
 use Rattle.meaning.specs.Forms.{isDigit, isNumber, digits, unsigned, isDecimal, isLeap, daysIn, isDay, isDate, isTime, isTextByte, inside, isText, oneOf, isKey, hasForm, isTextual, isEmpty, soundAs, valueOf}

@@ -9,10 +9,10 @@ use Rattle.theory.specs.Tri.{isLt}
 use Rattle.base.specs.Lists.{some?, pick, same, keepIf}
 use Rattle.theory.specs.Lex.{lex}
 use Rattle.theory.specs.Decimal.{dec}
-use Rattle.theory.specs.Tests.{most}
+use Rattle.theory.specs.Limits.{most}
 use Rattle.theory.specs.Refs.{meets}
 use Rattle.theory.specs.Run.{inserts}
-use Rattle.theory.specs.Step.{Op, ins}
+use Rattle.theory.specs.Step.{ins}
 use Rattle.meaning.specs.Lines.{Line, linesOf, endsWell, identifier, fieldsOf}
 use Rattle.meaning.specs.Table.{Kind, kindOf, Role, headerLine, bodyLine, metadataLine, trailerLine, role}
 use Rattle.meaning.specs.Sound.{Fault, formFault}

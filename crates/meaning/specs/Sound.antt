@@ -4,7 +4,7 @@ use mathlib.Core.Option.{Option, none, some}
 use mathlib.Core.List.{List, [], _∷_, _++_}
 use Prim.Native.Nat.{ℕ, suc}
 use lib.ListN.{length}
-use Rattle.theory.specs.Tri.{Tri, isLt}
+use Rattle.theory.specs.Tri.{isLt}
 use Rattle.theory.specs.Lex.{lex}
 use Rattle.base.specs.Lists.{pick, ask}
 use Rattle.meaning.specs.Lines.{fieldsOf, hasFields}

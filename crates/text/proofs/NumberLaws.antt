@@ -11,7 +11,8 @@ use lib.ListN.{length, getD, drop}
 use mir.Syntax.{w64}
 use mir.Val.{Fits}
 use Rattle.base.proofs.Walk.{at-cons, at-end}
-use Rattle.theory.specs.Decimal.{value, valueF, width, width-small, width-big, width-pos}
+use Rattle.theory.specs.Decimal.{value, valueF, width}
+use Rattle.theory.specs.DecimalLaws.{width-small, width-big, width-pos}
 
 -- ---- the value of digits
 

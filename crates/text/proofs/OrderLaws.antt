@@ -11,7 +11,8 @@ use lib.ListN.{length, getD, drop}
 use Rattle.base.specs.Lists.{same}
 use Rattle.base.proofs.Walk.{at-cons, at-end}
 use Rattle.theory.specs.Tri.{Tri, lt, eq, gt}
-use Rattle.theory.specs.Lex.{cmpN, is-cmpN, andThen, lex}
+use Rattle.theory.specs.Lex.{cmpN, andThen, lex}
+use Rattle.theory.specs.LexLaws.{is-cmpN}
 
 -- ---- two numbers
 

@@ -10,7 +10,8 @@ use lib.ListN.{length, getD, take, drop, set, length-set, length-append, length-
 use lib.Seq.{drop-set-lt, getD-set-same, drop-cons, take-suc, set-at, append-snoc, take-all, length-take-le, drop-drop, drop-at, take-at}
 use Rattle.base.specs.Lists.{zeros}
 use Rattle.base.proofs.Walk.{at-end}
-use Rattle.theory.specs.Decimal.{digits, dec, width, length-dec}
+use Rattle.theory.specs.Decimal.{digits, dec, width}
+use Rattle.theory.specs.DecimalLaws.{length-dec}
 use Rattle.text.specs.Front.{inFront}
 
 -- ---- what stands in front

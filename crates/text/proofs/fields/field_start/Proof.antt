@@ -1,6 +1,5 @@
 -- `text::fields::field_start` meets its contract.
-use Rattle.text.proofs.SeekLaws.{seek}
-use Rattle.text.proofs.SeekLaws.{Seeking}
+use Rattle.text.proofs.SeekLaws.{seek, Seeking}
 use Rattle.text.proofs.fields.field_start.Statement.{statement}
 use Rattle.text.proofs.fields.field_start.Tie as tie
 

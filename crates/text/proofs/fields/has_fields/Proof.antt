@@ -1,10 +1,9 @@
 -- `text::fields::has_fields` meets its contract.
-use Rattle.text.proofs.FieldLaws.{count}
+use Rattle.text.proofs.FieldLaws.{count, countAt}
 use mathlib.Core.Path.{_≡_}
 use Prim.Native.Nat.{_-_, _≤_}
 use lib.ListN.{length}
 use Rattle.meaning.specs.Lines.{hasFields}
-use Rattle.text.proofs.FieldLaws.{countAt}
 use Rattle.text.proofs.fields.has_fields.Statement.{statement}
 use Rattle.text.proofs.fields.has_fields.Tie as tie
 

@@ -1,11 +1,10 @@
 -- `text::put::number` meets its contract.
-use Rattle.text.proofs.PutLaws.{numbering}
+use Rattle.text.proofs.PutLaws.{numbering, digitsAt}
 use mathlib.Core.Path.{_≡_}
 use Prim.Native.Nat.{_≤_}
 use lib.ListN.{length}
 use Rattle.theory.specs.Decimal.{dec}
 use Rattle.text.specs.Front.{inFront}
-use Rattle.text.proofs.PutLaws.{digitsAt}
 use Rattle.text.proofs.put.number.Statement.{statement}
 use Rattle.text.proofs.put.number.Tie as tie
 

@@ -1,0 +1,146 @@
+-- Laws of apply and undo on bytes: what an answer says, and that the undos of a run of files give every holding back.
+use mathlib.Core.Path.{_≡_, refl, ap, subst}
+use mathlib.Core.Option.{Option, none, some}
+use mathlib.Core.List.{List, reverse}
+use Prim.Native.Nat.{ℕ}
+use lib.Dec.{T}
+use Rattle.base.specs.ListLaws.{all-append, append-all}
+use Rattle.theory.specs.Keyed.{Keyed}
+use Rattle.theory.specs.Step.{ins, upd, del, Change, Test, passes, fails, after, back}
+use Rattle.theory.specs.StepLaws.{passes-fails, fails-passes}
+use Rattle.theory.specs.Trail.{final, trace, Each, undo}
+use Rattle.theory.specs.TrailLaws.{length-undo, ok*, same*, trace*}
+use Rattle.theory.specs.Run.{Out, done, stop, run, Good}
+use Rattle.theory.specs.RunLaws.{run-taken, taken-run, fine-final, fine-undo, good-final, undo-taken, undo-same}
+use Rattle.theory.specs.Answer.{Read, fault, file, Answer, took, count}
+use Rattle.theory.specs.Format.{Sound, Holding, Format}
+use Rattle.theory.specs.Apply as A
+
+module _ (K : Keyed) (H : Holding K) (F : Format (K .Rec) (H .fine)) (Room : Type 0) (late : Room → List (Test (K .Rec))) (badLine : List ℕ → ℕ) where
+  open Keyed K using (Rec)
+  open Holding H using (fine, always, write, hold, writes, holds)
+  open Format F using (Frame, readFile, reads, says)
+
+  -- ---- the words of Apply for this format
+
+  abbrev tests : Room → List (Test Rec)
+  tests = A.tests K H F Room late badLine
+
+  abbrev outcome : List (Change Rec) → Out (List Rec) → Answer
+  outcome = A.outcome K H F Room late badLine
+
+  abbrev apply : Room → List ℕ → List ℕ → Answer
+  apply = A.apply K H F Room late badLine
+
+  abbrev Applied : Room → List ℕ → List ℕ → List ℕ → Type 0
+  Applied = A.Applied K H F Room late badLine
+
+  abbrev Says : Room → List ℕ → List ℕ → Answer → Type 0
+  Says = A.Says K H F Room late badLine
+
+  abbrev undoOf : List ℕ → List ℕ → List ℕ
+  undoOf = A.undoOf K H F Room late badLine
+
+  abbrev next : List ℕ → Room × List ℕ → List ℕ
+  next = A.next K H F Room late badLine
+
+  abbrev backTurn : List ℕ → Room × List ℕ → Room × List ℕ
+  backTurn = A.backTurn K H F Room late badLine
+
+  abbrev Accepted : List ℕ → Room × List ℕ → Type 0
+  Accepted = A.Accepted K H F Room late badLine
+
+  -- ---- what an answer says
+
+  says-run : (room : Room) (old b : List ℕ) (st : List Rec) (fr : Frame) (cs : List (Change Rec)) → hold old ≡ some st → readFile b ≡ file (fr, cs) → T (passes (late room) st)
+      → (o : Out (List Rec)) → run K (tests room) 2 st cs ≡ o → Says room old b (outcome cs o)
+  unfolding A.outcome
+  says-run room old b st fr cs h f t (done s) e =
+      let g = taken-run K (tests room) 2 st s cs e in
+      (record { st = st; fr = fr; cs = cs; held = h; read = f; starts = t; takes = g .0; made = ap write (g .1) }, refl, refl, refl)
+  says-run room old b st fr cs h f t (stop n w) e = tt
+
+  says-room : (room : Room) (old b : List ℕ) (st : List Rec) (fr : Frame) (cs : List (Change Rec)) → hold old ≡ some st → readFile b ≡ file (fr, cs)
+      → (t : Option ℕ) → fails (late room) st ≡ t → Says room old b (A.ifRoom K H F Room late badLine t (outcome cs (run K (tests room) 2 st cs)))
+  unfolding A.ifRoom
+  says-room room old b st fr cs h f none e = says-run room old b st fr cs h f (fails-passes (late room) st e) (run K (tests room) 2 st cs) refl
+  says-room room old b st fr cs h f (some w) e = tt
+
+  says-file : (room : Room) (old b : List ℕ) (st : List Rec) → hold old ≡ some st → (p : Read (Frame × List (Change Rec))) → readFile b ≡ p → Says room old b (A.onFile K H F Room late badLine room st p)
+  unfolding A.onFile
+  says-file room old b st h (fault c l f) e = tt
+  says-file room old b st h (file p) e = says-room room old b st (p .0) (p .1) h e (fails (late room) st) refl
+
+  says-hold : (room : Room) (old b : List ℕ) (o : Option (List Rec)) → hold old ≡ o → Says room old b (A.onHold K H F Room late badLine room old b o)
+  unfolding A.onHold
+  says-hold room old b none e = tt
+  says-hold room old b (some st) e = says-file room old b st e (readFile b) refl
+
+  -- what apply answers says so of the file and the holding
+  pub says-apply : (room : Room) (old b : List ℕ) → Says room old b (apply room old b)
+  unfolding A.apply
+  says-apply room old b = says-hold room old b (hold old) refl
+
+  -- where apply answers a new holding, every line and every change was allowed, and the holding is what the changes make
+  pub applied : (room : Room) (old b new : List ℕ) (i u d : ℕ) → apply room old b ≡ took new i u d → Applied room old b new
+  applied room old b new i u d e = subst (Says room old b) e (says-apply room old b) .0
+
+  -- where every line and every change is allowed, apply answers the new holding and the counts
+  pub apply-took : (room : Room) (old b new : List ℕ) (a : Applied room old b new) → apply room old b ≡ took new (count ins (a .cs)) (count upd (a .cs)) (count del (a .cs))
+  unfolding A.apply A.onHold A.onFile A.ifRoom A.outcome
+  apply-took room old b new a = rw (a .held, a .read, passes-fails (late room) (a .st) (a .starts), run-taken K (tests room) 2 (a .st) (a .cs) (a .takes), a .made)
+
+  -- ---- the undo of one file
+
+  good : (room : Room) (st : List Rec) → Sound K fine always st → T (passes (late room) st) → Good K (tests room) st
+  good room st s f = record { asc = s .asc; pass = all-append (λ t. t .1 st) always (late room) (s .pass) f }
+
+  -- the undo of a file that was taken is itself a sound file, is taken, and gives the old bytes back
+  pub back-one : (room : Room) (old b new : List ℕ) → Applied room old b new → Applied room new (undoOf old b) old
+  unfolding A.undoOf
+  back-one room old b new a =
+      let st = a .st in
+      let cs = a .cs in
+      let h = holds old st (a .held) in
+      let f = says b (a .fr) cs (a .read) in
+      let g = good room st (h .1) (a .starts) in
+      let e = good-final K (tests room) st cs g (a .takes) in
+      let p = append-all (λ t. t .1 (final (after K) st cs)) always (late room) (e .pass) in
+      record {
+        st = final (after K) st cs;
+        fr = a .fr;
+        cs = undo (after K) (back K) st cs;
+        held = rw (a .made) (writes (final (after K) st cs) (record { asc = e .asc; fines = fine-final K fine st cs (h .1 .fines) (f .1); pass = p .0 }));
+        read = rw (a .held, a .read) (reads (a .fr) (undo (after K) (back K) st cs) (rw (length-undo (after K) (back K) st cs) (f .0)) (fine-undo K fine st cs (h .1 .fines) (f .1)));
+        starts = p .1;
+        takes = undo-taken K (tests room) st cs g (a .takes);
+        made = rw (undo-same K (tests room) st cs g (a .takes)) (h .0);
+      }
+
+  -- ---- the undos of a run of files
+
+  next-applied : (old : List ℕ) (t : Room × List ℕ) (new : List ℕ) → Applied (t .0) old (t .1) new → next old t ≡ new
+  unfolding A.next
+  next-applied old t new a = rw (apply-took (t .0) old (t .1) new a)
+
+  turn-same : (old : List ℕ) (t : Room × List ℕ) → Unit {0} → Accepted old t → next (next old t) (backTurn old t) ≡ old
+  unfolding A.Accepted A.backTurn
+  turn-same old t i a = next-applied (next old t) (backTurn old t) old (back-one (t .0) old (t .1) (next old t) a)
+
+  turn-ok : (old : List ℕ) (t : Room × List ℕ) → Unit {0} → Accepted old t → Accepted (next old t) (backTurn old t)
+  unfolding A.Accepted A.backTurn
+  turn-ok old t i a = rw (turn-same old t i a) (back-one (t .0) old (t .1) (next old t) a)
+
+  -- of a run of files that are taken one after another
+  module _ (old : List ℕ) (fs : List (Room × List ℕ)) (ok : Each next Accepted old fs) where
+    -- every undo, the last first, is taken
+    pub files-back : Each next Accepted (final next old fs) (undo next backTurn old fs)
+    files-back = ok* next backTurn Accepted (λ b. Unit {0}) (λ s c i a. tt) turn-ok turn-same old fs tt ok
+
+    -- the undos give the first holding back, byte for byte
+    pub files-same : final next (final next old fs) (undo next backTurn old fs) ≡ old
+    files-same = same* next backTurn Accepted (λ b. Unit {0}) (λ s c i a. tt) turn-ok turn-same old fs tt ok
+
+    -- the undos give every holding back, byte for byte, the last first
+    pub files-trace : trace next (final next old fs) (undo next backTurn old fs) ≡ reverse (trace next old fs)
+    files-trace = trace* next backTurn Accepted (λ b. Unit {0}) (λ s c i a. tt) turn-ok turn-same old fs tt ok
