@@ -1,0 +1,258 @@
+-- The laws of the check of a line: the walk of its fields beside the table's rows, its dates, and its faults in order.
+use mathlib.Core.Path.{_≡_, refl, sym, ap, _∙_}
+use mathlib.Core.Bool.{Bool, true, false, not}
+use mathlib.Core.Option.{Option, none, some}
+use mathlib.Core.List.{List, [], _∷_, map}
+use Prim.Native.Nat.{ℕ, zero, suc, _+_, _-_, _≤_, _<_}
+use Prim.Native.String.{String}
+use native.Mathlib.Numerals.{add-one}
+use native.Mathlib.Omega.{arith}
+use borrow.Author.Needs.{needs}
+use borrow.Author.Tests.{not-true, not-false, eq-eqb, ne-eqb, lt-ltb, le-ltb}
+use lib.Dec.{eqb, ltb}
+use lib.Text.{eqt}
+use lib.ListN.{length, getD, take, drop, length-map, drop-of-length-le}
+use lib.Seq.{drop-cons}
+use Rattle.base.specs.Lists.{pick, ask}
+use Rattle.meaning.specs.Forms.{Form, soundAs}
+use Rattle.meaning.specs.Lines.{fieldsFrom, fieldsOf, hasFields}
+use Rattle.meaning.specs.Table.{Kind, Field, fields, named, placeFrom, startDate, endDate}
+use Rattle.meaning.specs.Sound as meant
+use Rattle.meaning.specs.Sound.{soundField, forms, datesAgree, fieldFault, formFault}
+use Rattle.theory.specs.Tri.{isLt}
+use Rattle.theory.specs.Lex.{lex}
+use Rattle.text.specs.declared.order.Order.{Order}
+use Rattle.text.specs.Order.{triOf}
+use Rattle.text.specs.Places.{fieldLen, fieldEnd}
+use Rattle.text.proofs.FieldLaws.{fields-at}
+use Rattle.layout.specs.Rows.{Row, bare, noRow, rowOf, decoded, formDecoded, filledDecoded, laidOut}
+use Rattle.layout.specs.declared.records.Layout.{Layout}
+use Rattle.layout.specs.Check.{lowestBad, kindDates, told}
+
+-- ---- the walk of the fields, k of them on
+
+-- what is left of the rows begins with row k
+at-row : (rs : List Row) (k : ℕ) → k < length rs → drop k rs ≡ getD rs k noRow ∷ drop (k + 1) rs
+at-row rs k h = rw (add-one, drop-cons rs k noRow)
+
+-- the fields left at an offset, where one is not the last
+fields-more : (t : List ℕ) (at e : ℕ) → e ≡ fieldEnd t at → at ≤ e → (e ≡ length t → ⊥) → e ≤ length t
+    → fieldsFrom false (drop at t) ≡ take (e - at) (drop at t) ∷ fieldsFrom false (drop (e + 1) t)
+fields-more t at e p a n l =
+    let size : fieldLen false (drop at t) ≡ e - at = omega arith in
+    let next : at + suc (e - at) ≡ e + 1 = omega arith in
+    fields-at t at ∙ rw (size, lt-ltb (e - at) (length t - at) (omega arith), next)
+
+-- and where it is
+fields-last : (t : List ℕ) (at e : ℕ) → e ≡ fieldEnd t at → at ≤ e → e ≡ length t → fieldsFrom false (drop at t) ≡ take (e - at) (drop at t) ∷ []
+fields-last t at e p a q =
+    let size : fieldLen false (drop at t) ≡ e - at = omega arith in
+    fields-at t at ∙ rw (size, le-ltb (e - at) (length t - at) (omega arith))
+
+-- the first field left, whatever follows it
+fields-first : (t : List ℕ) (at e : ℕ) → e ≡ fieldEnd t at → at ≤ e
+    → fieldsFrom false (drop at t) ≡ take (e - at) (drop at t) ∷ pick (ltb (e - at) (length t - at)) (fieldsFrom false (drop (at + suc (e - at)) t)) []
+fields-first t at e p a =
+    let size : fieldLen false (drop at t) ≡ e - at = omega arith in
+    fields-at t at ∙ rw size
+
+-- the answer that is still to be found
+abbrev pub badAt : Kind → List ℕ → ℕ → ℕ → ℕ
+badAt kd t k at = lowestBad (suc k) (drop k (map bare (fields kd))) (fieldsFrom false (drop at t))
+
+-- at the start no field is passed
+pub bad-start : (kd : Kind) (t : List ℕ) → badAt kd t 0 0 ≡ lowestBad 1 (map bare (fields kd)) (fieldsOf t)
+unfolding fieldsOf
+bad-start kd t = refl
+
+-- a kind has as many rows as fields
+pub count-rows : (kd : Kind) (l : Layout) → l ≡ laidOut kd → l .count ≡ length (map bare (fields kd))
+unfolding laidOut
+count-rows kd l e = rw (e, length-map)
+
+-- so field k has a row
+pub row-there : (kd : Kind) (k n : ℕ) → k < n → n ≡ length (map bare (fields kd)) → k < length (fields kd)
+row-there kd k n h c = rw length-map at (rw c at h)
+
+-- the same by what the kind is
+pub count-there : (kd : Kind) (l : Layout) (k : ℕ) → l ≡ laidOut kd → k < l .count → k < length (fields kd)
+count-there kd l k e h = row-there kd k (l .count) h (count-rows kd l e)
+
+-- a row says of its field what the table says
+pub sound-is : (row : ℕ) (p : Row) (m : Form) (b c : Bool) (f : List ℕ) → decoded row ≡ p → m ≡ formDecoded row → b ≡ filledDecoded row → c ≡ soundAs m b f → c ≡ soundAs (p .0) (p .1) f
+sound-is row p m b c f d e g h = rw (← d, ← e, ← g) h
+
+module _ (kd : Kind) (t : List ℕ) (k n at x e : ℕ) (b : Bool) (w : badAt kd t k at ≡ x) (h : k < n) (c : n ≡ length (map bare (fields kd))) (q : e ≡ fieldEnd t at) (a : at ≤ e)
+    (s : b ≡ soundAs (rowOf kd k .0) (rowOf kd k .1) (take (e - at) (drop at t))) where
+  -- the row beside the field
+  here : drop k (map bare (fields kd)) ≡ rowOf kd k ∷ drop (k + 1) (map bare (fields kd))
+  unfolding rowOf
+  here = at-row (map bare (fields kd)) k (rw c at h)
+
+  -- a field that is malformed is the lowest
+  pub bad-stop : b ≡ false → k + 1 ≡ x
+  unfolding lowestBad
+  bad-stop f = add-one k ∙ (rw (here, fields-first t at e q a, sym s ∙ f) at w)
+
+  -- a sound one that a separator ends is passed
+  pub bad-turn : b ≡ true → (e ≡ length t → ⊥) → e ≤ length t → badAt kd t (k + 1) (e + 1) ≡ x
+  unfolding lowestBad
+  bad-turn f m l = rw (ap suc (add-one k)) (rw (here, fields-more t at e q a m l, sym s ∙ f) at w)
+
+  -- after the last field nothing is malformed
+  pub bad-last : b ≡ true → e ≡ length t → 0 ≡ x
+  bad-last f l = go (drop (k + 1) (map bare (fields kd))) (rw (here, fields-last t at e q a l) at w)
+    where
+      go : (ds : List Row) → lowestBad (suc k) (rowOf kd k ∷ ds) (take (e - at) (drop at t) ∷ []) ≡ x → 0 ≡ x
+      go [] v = unfold lowestBad in (rw (sym s ∙ f) at v)
+      go (d ∷ ds) v = unfold lowestBad in (rw (sym s ∙ f) at v)
+
+-- nor after the last row
+pub bad-done : (kd : Kind) (t : List ℕ) (k n at x : ℕ) → badAt kd t k at ≡ x → n ≤ k → n ≡ length (map bare (fields kd)) → 0 ≡ x
+unfolding lowestBad
+bad-done kd t k n at x w h c = rw (drop-of-length-le (map bare (fields kd)) {i = k} (rw c at h)) at w
+
+pub ruleset bad = (needs, not-true, not-false, bad-start, count-rows, row-there, bad-stop, bad-turn, bad-last, bad-done)
+
+-- ---- what the meaning asks is what is answered
+
+-- 5 at the lowest field that is malformed, else the rest
+pub forms-is : (n : ℕ) (ds : List Field) (fs : List (List ℕ)) (rest : Option meant.Fault)
+    → forms (suc n) ds fs rest ≡ pick (eqb (lowestBad (suc n) (map bare ds) fs) 0) rest (some (5, lowestBad (suc n) (map bare ds) fs))
+unfolding forms lowestBad soundField ask
+forms-is n [] fs rest = refl
+forms-is n (d ∷ ds) [] rest = refl
+forms-is n (d ∷ ds) (f ∷ fs) rest = go (soundAs (d .form) (d .filled) f) (forms-is (suc n) ds fs rest)
+  where
+    go : (b : Bool) → forms (suc (suc n)) ds fs rest ≡ pick (eqb (lowestBad (suc (suc n)) (map bare ds) fs) 0) rest (some (5, lowestBad (suc (suc n)) (map bare ds) fs))
+        → ask b (5, suc n) (forms (suc (suc n)) ds fs rest)
+        ≡ pick (eqb (pick b (lowestBad (suc (suc n)) (map bare ds) fs) (suc n)) 0) rest (some (5, pick b (lowestBad (suc (suc n)) (map bare ds) fs) (suc n)))
+    go true e = e
+    go false e = rw (ne-eqb (suc n) 0 (λ u. omega arith))
+
+-- ---- dates
+
+-- no END_DATE is in order
+pub dates-no-end : (s e : List ℕ) → length e ≡ 0 → true ≡ datesAgree s e
+unfolding datesAgree
+dates-no-end s [] h = refl
+dates-no-end s (x ∷ e) h = absurd (omega arith)
+
+-- nor is there anything to be before
+pub dates-no-start : (s e : List ℕ) → (length e ≡ 0 → ⊥) → length s ≡ 0 → true ≡ datesAgree s e
+unfolding datesAgree
+dates-no-start s [] n h = absurd (n refl)
+dates-no-start [] (x ∷ e) n h = refl
+dates-no-start (y ∷ s) (x ∷ e) n h = absurd (omega arith)
+
+-- else the order of their bytes says it
+pub dates-told : (s e : List ℕ) (o p : Order) (b : Bool) → (length e ≡ 0 → ⊥) → (length s ≡ 0 → ⊥) → triOf o ≡ lex e s → o ≡ p → b ≡ not (isLt (triOf p)) → b ≡ datesAgree s e
+unfolding datesAgree
+dates-told s [] o p b m n t q h = absurd (m refl)
+dates-told [] (x ∷ e) o p b m n t q h = absurd (n refl)
+dates-told (y ∷ s) (x ∷ e) o p b m n t q h = rw (← t, q) h
+
+pub ruleset dates = (needs, dates-no-end, dates-no-start, dates-told)
+
+-- a place is one of those counted
+place-from : (n : ℕ) (s : String) (ds : List Field) → (placeFrom n s ds ≡ 0 → ⊥) → n ≤ placeFrom n s ds
+unfolding placeFrom
+place-from n s [] h = absurd (h refl)
+place-from n s (d ∷ ds) h = go (eqt s (d .name)) h (place-from (suc n) s ds)
+  where
+    go : (b : Bool) → (pick b n (placeFrom (suc n) s ds) ≡ 0 → ⊥) → ((placeFrom (suc n) s ds ≡ 0 → ⊥) → suc n ≤ placeFrom (suc n) s ds) → n ≤ pick b n (placeFrom (suc n) s ds)
+    go true h ih = omega arith
+    go false h ih = omega (arith, ih h)
+
+-- the field of a name is the one at its place
+named-at : (n : ℕ) (s : String) (ds : List Field) (fs : List (List ℕ)) → (placeFrom (suc n) s ds ≡ 0 → ⊥) → named s ds fs ≡ getD fs (placeFrom (suc n) s ds - suc n) []
+unfolding named placeFrom
+named-at n s [] fs h = absurd (h refl)
+named-at n s (d ∷ ds) [] h = refl
+named-at n s (d ∷ ds) (f ∷ fs) h = go (eqt s (d .name)) h (place-from (suc (suc n)) s ds) (named-at (suc n) s ds fs)
+  where
+    go : (b : Bool) → (pick b (suc n) (placeFrom (suc (suc n)) s ds) ≡ 0 → ⊥) → ((placeFrom (suc (suc n)) s ds ≡ 0 → ⊥) → suc (suc n) ≤ placeFrom (suc (suc n)) s ds)
+        → ((placeFrom (suc (suc n)) s ds ≡ 0 → ⊥) → named s ds fs ≡ getD fs (placeFrom (suc (suc n)) s ds - suc (suc n)) [])
+        → pick b f (named s ds fs) ≡ getD (f ∷ fs) (pick b (suc n) (placeFrom (suc (suc n)) s ds) - suc n) []
+    go true h l ih = let z : suc n - suc n ≡ 0 = omega arith in rw z
+    go false h l ih =
+        let m = l h in
+        let z : placeFrom (suc (suc n)) s ds - suc n ≡ suc (placeFrom (suc (suc n)) s ds - suc (suc n)) = omega arith in
+        rw z (ih h)
+
+-- where there is none, so is its place
+named-none : (n : ℕ) (s : String) (ds : List Field) (fs : List (List ℕ)) → placeFrom (suc n) s ds ≡ 0 → named s ds fs ≡ []
+unfolding named placeFrom
+named-none n s [] fs h = refl
+named-none n s (d ∷ ds) [] h = refl
+named-none n s (d ∷ ds) (f ∷ fs) h = go (eqt s (d .name)) h (named-none (suc n) s ds fs)
+  where
+    go : (b : Bool) → pick b (suc n) (placeFrom (suc (suc n)) s ds) ≡ 0 → (placeFrom (suc (suc n)) s ds ≡ 0 → named s ds fs ≡ []) → pick b f (named s ds fs) ≡ []
+    go true h ih = absurd (omega arith)
+    go false h ih = ih h
+
+module _ (kd : Kind) (t : List ℕ) (l : Layout) (e : l ≡ laidOut kd) where
+  -- a kind with no START_DATE has nothing to be before
+  pub kind-no-start : l .start ≡ 0 → true ≡ kindDates kd (fieldsOf t)
+  unfolding laidOut kindDates datesAgree
+  kind-no-start h = rw (named-none 0 startDate (fields kd) (fieldsOf t) (rw e at h)) (go (named endDate (fields kd) (fieldsOf t)))
+    where
+      go : (f : List ℕ) → true ≡ datesAgree [] f
+      go [] = refl
+      go (x ∷ f) = refl
+
+  -- one with no END_DATE is in order
+  pub kind-no-end : l .end ≡ 0 → true ≡ kindDates kd (fieldsOf t)
+  unfolding laidOut kindDates
+  kind-no-end h = rw (named-none 0 endDate (fields kd) (fieldsOf t) (rw e at h)) (dates-no-end _ [] refl)
+
+  -- else the two fields say it
+  pub kind-dates : (b : Bool) (s f : List ℕ) → (l .start ≡ 0 → ⊥) → (l .end ≡ 0 → ⊥) → s ≡ getD (fieldsOf t) (l .start - 1) [] → f ≡ getD (fieldsOf t) (l .end - 1) [] → b ≡ datesAgree s f
+      → b ≡ kindDates kd (fieldsOf t)
+  unfolding laidOut kindDates
+  kind-dates b s f m n p q h =
+      let u : l .start ≡ placeFrom 1 startDate (fields kd) = ap (λ x. x .start) e in
+      let v : l .end ≡ placeFrom 1 endDate (fields kd) = ap (λ x. x .end) e in
+      rw (named-at 0 startDate (fields kd) (fieldsOf t) (λ z. m (u ∙ z)), named-at 0 endDate (fields kd) (fieldsOf t) (λ z. n (v ∙ z)), ← u, ← v, ← p, ← q) h
+
+pub ruleset kinddates = (needs, kind-no-start, kind-no-end, kind-dates)
+
+-- ---- a line's faults in order
+
+-- the meaning's questions, by what is answered
+fault-is : (kd : Kind) (t : List ℕ) → formFault kd t none
+    ≡ ask (hasFields (length (fields kd)) t) (4, 0)
+    (pick (eqb (lowestBad 1 (map bare (fields kd)) (fieldsOf t)) 0) (ask (kindDates kd (fieldsOf t)) (6, placeFrom 1 endDate (fields kd)) none)
+    (some (5, lowestBad 1 (map bare (fields kd)) (fieldsOf t))))
+unfolding formFault fieldFault kindDates
+fault-is kd t = rw (forms-is 0 (fields kd) (fieldsOf t) (ask (datesAgree (named startDate (fields kd) (fieldsOf t)) (named endDate (fields kd) (fieldsOf t))) (6, placeFrom 1 endDate (fields kd)) none))
+
+module _ (kd : Kind) (t : List ℕ) (l : Layout) (e : l ≡ laidOut kd) where
+  -- as many fields as the kind has
+  counted : l .count ≡ length (fields kd)
+  unfolding laidOut
+  counted = ap (λ x. x .count) e
+
+  -- 4 for their number
+  pub fault-count : (a : Bool) → a ≡ hasFields (l .count) t → a ≡ false → record { code = 4; field = 0 } ≡ told (formFault kd t none)
+  unfolding ask
+  fault-count a p f = rw (fault-is kd t, ← counted, sym p ∙ f)
+
+  module _ (a : Bool) (p : a ≡ hasFields (l .count) t) (f : a ≡ true) (n : ℕ) (q : n ≡ lowestBad 1 (map bare (fields kd)) (fieldsOf t)) where
+    -- 5 for the lowest that is malformed
+    pub fault-form : (n ≡ 0 → ⊥) → record { code = 5; field = n } ≡ told (formFault kd t none)
+    unfolding ask
+    fault-form m = rw (fault-is kd t, ← counted, sym p ∙ f, ← q, ne-eqb n 0 m)
+
+    module _ (z : n ≡ 0) (b : Bool) (r : b ≡ kindDates kd (fieldsOf t)) where
+      -- 6 for END_DATE before START_DATE
+      pub fault-dates : b ≡ false → record { code = 6; field = l .end } ≡ told (formFault kd t none)
+      unfolding ask laidOut
+      fault-dates g = let v : l .end ≡ placeFrom 1 endDate (fields kd) = ap (λ x. x .end) e in rw (fault-is kd t, ← counted, sym p ∙ f, ← q, eq-eqb n 0 z, sym r ∙ g, v)
+
+      -- else none
+      pub fault-none : b ≡ true → record { code = 0; field = 0 } ≡ told (formFault kd t none)
+      unfolding ask
+      fault-none g = rw (fault-is kd t, ← counted, sym p ∙ f, ← q, eq-eqb n 0 z, sym r ∙ g)
+
+pub ruleset faults = (needs, not-true, not-false, fault-count, fault-form, fault-dates, fault-none)

@@ -1,0 +1,87 @@
+-- The laws of identifiers: two digits are known by their number.
+use mathlib.Core.Path.{_≡_, refl, sym, ap, ap₂, subst, _∙_}
+use mathlib.Core.Bool.{Bool, true, false, not, _&&_}
+use mathlib.Core.Option.{Option, none, some}
+use mathlib.Core.List.{List, [], _∷_}
+use Prim.Native.Nat.{ℕ, zero, suc, _+_, _-_, _*_, _≤_, _<_}
+use native.Mathlib.Omega.{arith}
+use borrow.Author.Needs.{needs}
+use borrow.Author.Tests.{not-true, not-false}
+use lib.Dec.{T, eqb, leb, leb→le, eqb→eq, eqb-refl}
+use lib.ListN.{length}
+use mir.Facts.{yes-eqb}
+use Rattle.base.specs.Lists.{pick, all, same, bytes}
+use Rattle.base.specs.Tests.{and-in, and-l, and-r, same-test, T-true, some≢none}
+use Rattle.base.specs.ListLaws.{same-eq, same-refl}
+use Rattle.theory.specs.Decimal.{value, valueF}
+use Rattle.meaning.specs.Forms.{isDigit}
+use Rattle.meaning.specs.Table.{Kind, kinds, ident, kindAmong, kindOf, numberedAmong}
+use Rattle.laws.specs.Kinds.{every}
+use Rattle.laws.specs.Body.{kind-out}
+
+-- a run of two digits
+abbrev pub twoDigits : List ℕ → Bool
+twoDigits f = eqb (length f) 2 && all isDigit f
+
+-- a digit is one of ten bytes
+digit-low : (x : ℕ) → T (isDigit x) → 48 ≤ x
+unfolding isDigit
+digit-low x t = leb→le 48 x (and-l (leb 48 x) (leb x 57) t)
+
+digit-high : (x : ℕ) → T (isDigit x) → x ≤ 57
+unfolding isDigit
+digit-high x t = leb→le x 57 (and-r (leb 48 x) (leb x 57) t)
+
+-- two digits are told apart by their value
+same-two : (f g : List ℕ) → T (twoDigits f) → T (twoDigits g) → value f ≡ value g → f ≡ g
+unfolding value valueF
+same-two [] g s t e = absurd s
+same-two (a ∷ []) g s t e = absurd s
+same-two (a ∷ (b ∷ (x ∷ f))) g s t e = absurd (omega (arith, eqb→eq (length (a ∷ (b ∷ (x ∷ f)))) 2 (and-l (eqb (length (a ∷ (b ∷ (x ∷ f)))) 2) _ s)))
+same-two (a ∷ (b ∷ [])) [] s t e = absurd t
+same-two (a ∷ (b ∷ [])) (c ∷ []) s t e = absurd t
+same-two (a ∷ (b ∷ [])) (c ∷ (d ∷ (x ∷ g))) s t e = absurd (omega (arith, eqb→eq (length (c ∷ (d ∷ (x ∷ g)))) 2 (and-l (eqb (length (c ∷ (d ∷ (x ∷ g)))) 2) _ t)))
+same-two (a ∷ (b ∷ [])) (c ∷ (d ∷ [])) s t e =
+    let sa = and-l (isDigit a) (isDigit b && true) s in
+    let sb = and-l (isDigit b) true (and-r (isDigit a) (isDigit b && true) s) in
+    let tc = and-l (isDigit c) (isDigit d && true) t in
+    let td = and-l (isDigit d) true (and-r (isDigit c) (isDigit d && true) t) in
+    let p : a ≡ c = omega (arith, digit-low a sa, digit-high a sa, digit-low b sb, digit-high b sb, digit-low c tc, digit-high c tc, digit-low d td, digit-high d td) in
+    let q : b ≡ d = omega (arith, digit-low a sa, digit-high a sa, digit-low b sb, digit-high b sb, digit-low c tc, digit-high c tc, digit-low d td, digit-high d td) in
+    ap₂ (λ x y. x ∷ (y ∷ [])) p q
+
+-- every identifier is two digits
+ident-two : (k : Kind) → T (twoDigits (ident k))
+unfolding kinds ident bytes isDigit
+ident-two k = every (λ k. twoDigits (ident k)) tt k
+
+-- so it is known by its number
+same-number : (f : List ℕ) (k : Kind) → T (twoDigits f) → same f (ident k) ≡ eqb (value f) (value (ident k))
+same-number f k t =
+    same-test (same f (ident k)) (eqb (value f) (value (ident k))) (λ s. yes-eqb (ap value (same-eq f (ident k) s)))
+    (λ s. subst (λ g. T (same f g)) (same-two f (ident k) t (ident-two k) (eqb→eq (value f) (value (ident k)) s)) (same-refl f))
+
+among-number : (f : List ℕ) (ks : List Kind) → T (twoDigits f) → numberedAmong ks (value f) ≡ kindAmong ks f
+unfolding numberedAmong kindAmong
+among-number f [] t = refl
+among-number f (k ∷ ks) t = rw (same-number f k t, among-number f ks t)
+
+-- a run that is no two digits is no kind's
+no-kind : (f : List ℕ) → (T (twoDigits f) → ⊥) → (o : Option Kind) → kindOf f ≡ o → none ≡ o
+no-kind f n none e = refl
+no-kind f n (some k) e = absurd (n (subst (λ g. T (twoDigits g)) (sym (kind-out f k e)) (ident-two k)))
+
+-- one of another length
+pub kind-length : (f : List ℕ) → (length f ≡ 2 → ⊥) → none ≡ kindOf f
+kind-length f n = no-kind f (λ t. n (eqb→eq (length f) 2 (and-l (eqb (length f) 2) (all isDigit f) t))) (kindOf f) refl
+
+-- one with another byte
+pub kind-other : (f : List ℕ) (b : Bool) → b ≡ all isDigit f → b ≡ false → none ≡ kindOf f
+kind-other f b p q = no-kind f (λ t. rw (sym p ∙ q) at (and-r (eqb (length f) 2) (all isDigit f) t)) (kindOf f) refl
+
+-- two digits
+pub kind-number : (f : List ℕ) (b : Bool) (n : ℕ) (o : Option Kind) → length f ≡ 2 → b ≡ all isDigit f → b ≡ true → n ≡ value f → o ≡ numberedAmong kinds n → o ≡ kindOf f
+unfolding kindOf
+kind-number f b n o l p q v e = e ∙ rw v (among-number f kinds (and-in (eqb (length f) 2) (all isDigit f) (yes-eqb l) (rw (sym p ∙ q) tt)))
+
+pub ruleset identifiers = (needs, not-true, not-false, kind-length, kind-other, kind-number)

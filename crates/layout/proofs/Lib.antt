@@ -1,0 +1,3 @@
+pub mod TableLaws
+pub mod KindLaws
+pub mod CheckLaws

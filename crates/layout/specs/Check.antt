@@ -1,0 +1,27 @@
+-- The check of a line, as code answers it.
+use mathlib.Core.Bool.{Bool, true, false}
+use mathlib.Core.Option.{Option, none, some}
+use mathlib.Core.List.{List, [], _∷_}
+use Prim.Native.Nat.{ℕ, suc}
+use Rattle.base.specs.Lists.{pick}
+use Rattle.meaning.specs.Forms.{soundAs}
+use Rattle.meaning.specs.Table.{Kind, fields, named, startDate, endDate}
+use Rattle.meaning.specs.Sound as meant
+use Rattle.meaning.specs.Sound.{datesAgree}
+use Rattle.layout.specs.declared.check.Fault.{Fault}
+use Rattle.layout.specs.Rows.{Row}
+
+-- the lowest field that is malformed, counted from n; 0 where each is sound
+unfoldable pub lowestBad : ℕ → List Row → List (List ℕ) → ℕ
+lowestBad n [] fs = 0
+lowestBad n (d ∷ ds) [] = 0
+lowestBad n (d ∷ ds) (f ∷ fs) = pick (soundAs (d .0) (d .1) f) (lowestBad (suc n) ds fs) n
+
+-- START_DATE and END_DATE among the fields of a kind are in order
+unfoldable pub kindDates : Kind → List (List ℕ) → Bool
+kindDates k fs = datesAgree (named startDate (fields k) fs) (named endDate (fields k) fs)
+
+-- a fault, as two numbers; none is two zeros
+abbrev pub told : Option meant.Fault → Fault
+told none = record { code = 0; field = 0 }
+told (some f) = record { code = f .0; field = f .1 }

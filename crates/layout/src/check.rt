@@ -1,0 +1,133 @@
+// The check of one line's fields by the table: 4 for their number, 5 for the lowest that is malformed, 6 for END_DATE before START_DATE.
+ghost use mathlib.Core.Path.{_≡_};
+ghost use mathlib.Core.List.{map};
+ghost use mathlib.Core.Option.{none};
+ghost use Prim.Native.Nat.{_<_};
+ghost use lib.ListN.{length};
+ghost use Rattle.meaning.specs.Forms.{soundAs};
+ghost use Rattle.meaning.specs.Lines.{fieldsOf};
+ghost use Rattle.meaning.specs.Table.{fields, kindOf};
+ghost use Rattle.meaning.specs.Sound.{datesAgree, formFault};
+ghost use Rattle.layout.specs.Meant.{kindMeant, kindFound};
+ghost use Rattle.layout.specs.Rows.{bare, rowOf};
+ghost use Rattle.layout.specs.Check.{lowestBad, kindDates, told};
+use crate::kinds::Kind;
+use crate::kinds::KindFound;
+use crate::rules::form_of;
+use crate::rules::is_mandatory;
+use crate::rules::kind_numbered;
+use crate::rules::layout;
+use crate::rules::row;
+use text::fields::field;
+use text::fields::field_end;
+use text::fields::has_fields;
+use text::order::Order;
+
+// A line's first fault: its code and field, or two zeros.
+pub struct Fault {
+    pub code: u64,
+    pub field: usize,
+}
+
+// The kind of an identifier.
+pub fn kind_of(identifier: &[u8]) -> KindFound
+    ensures { λ r. ⌜ kindFound r ≡ kindOf (now (identifier .entry)) ⌝ }
+{
+    if identifier.len() != 2 {
+        return KindFound::Unknown;
+    }
+    if !number::is_digits(identifier) {
+        return KindFound::Unknown;
+    }
+    kind_numbered(text::numbers::value(identifier))
+}
+
+// Whether a field, counted from 0, is sound as its row has it.
+pub fn sound_at(kind: Kind, k: usize, f: &[u8]) -> bool
+    requires { ⌜ k < length (fields (kindMeant kind)) ⌝ }
+    ensures { λ r. ⌜ r ≡ soundAs (rowOf (kindMeant kind) k .0) (rowOf (kindMeant kind) k .1) (now (f .entry)) ⌝ }
+{
+    let r = row(kind, k);
+    form::sound(form_of(r), is_mandatory(r), f)
+}
+
+// The lowest field that is malformed, counted from 1, or 0.
+pub fn lowest_malformed(kind: Kind, line: &[u8]) -> usize
+    ensures { λ r. ⌜ r ≡ lowestBad 1 (map bare (fields (kindMeant kind))) (fieldsOf (now (line .entry))) ⌝ }
+{
+    let l = layout(kind);
+    let count = l.count;
+    let mut k = 0;
+    let mut at = 0;
+    while k < count {
+        let end = field_end(line, at);
+        if !sound_at(kind, k, &line[at..end]) {
+            return k + 1;
+        }
+        if end == line.len() {
+            return 0;
+        }
+        at = end + 1;
+        k += 1;
+    }
+    0
+}
+
+// Whether an END_DATE, where filled, isn't before a filled START_DATE: dates stand in the order of their bytes.
+pub fn in_order(start: &[u8], end: &[u8]) -> bool
+    ensures { λ r. ⌜ r ≡ datesAgree (now (start .entry)) (now (end .entry)) ⌝ }
+{
+    if end.len() == 0 {
+        return true;
+    }
+    if start.len() == 0 {
+        return true;
+    }
+    match text::order::texts(end, start) {
+        Order::Before => false,
+        Order::Same => true,
+        Order::After => true,
+    }
+}
+
+// Whether the dates of a line, where its kind has them, are in order.
+pub fn dates_agree(kind: Kind, line: &[u8]) -> bool
+    ensures { λ r. ⌜ r ≡ kindDates (kindMeant kind) (fieldsOf (now (line .entry))) ⌝ }
+{
+    let l = layout(kind);
+    let start = l.start;
+    let end = l.end;
+    if start == 0 {
+        return true;
+    }
+    if end == 0 {
+        return true;
+    }
+    in_order(field(line, start - 1), field(line, end - 1))
+}
+
+// A line's first fault in count, form and dates.
+pub fn check_line(kind: Kind, line: &[u8]) -> Fault
+    ensures { λ r. ⌜ r ≡ told (formFault (kindMeant kind) (now (line .entry)) none) ⌝ }
+{
+    let l = layout(kind);
+    let count = l.count;
+    let end = l.end;
+    if !has_fields(line, count) {
+        return Fault { code: 4, field: 0 };
+    }
+    let bad = lowest_malformed(kind, line);
+    if bad != 0 {
+        return Fault {
+            code: 5,
+            field: bad,
+        };
+    }
+    if !dates_agree(kind, line) {
+        return Fault {
+            code: 6,
+            field: end,
+        };
+    }
+    Fault { code: 0, field: 0 }
+}

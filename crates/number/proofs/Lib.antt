@@ -1,0 +1,4 @@
+pub mod AnswerLaws
+pub mod NumberLaws
+pub mod ByteLaws
+pub mod DateLaws

@@ -1,0 +1,112 @@
+// Runs vectors from standard input, one to a line, and prints each behind its answer. `@11 04 0500` asks whether 0500 is sound as field 4
+// of kind 11; any other line that is not empty and no comment (`#`) is taken for a record and answered by code and field.
+ghost use Prim.Native.Nat.{_≤_};
+ghost use lib.ListN.{length};
+use layout::check::check_line;
+use layout::check::kind_of;
+use layout::check::sound_at;
+use layout::kinds::Kind;
+use layout::kinds::KindFound;
+use layout::rules::layout;
+use libc::STDIN_FILENO;
+use libc::STDOUT_FILENO;
+
+fn say(words: &[u8]) {
+    io::write_all(STDOUT_FILENO, words);
+}
+
+fn say_line(line: &[u8]) {
+    say(line);
+    say(b"\n");
+}
+
+// The answer on one field of a kind.
+fn answer_field(kind: Kind, number: u64, f: &[u8]) {
+    let l = layout(kind);
+    let count = l.count;
+    if number < 1 {
+        say(b"no such field: ");
+        return;
+    }
+    let k = (number - 1) as usize;
+    if count <= k {
+        say(b"no such field: ");
+        return;
+    }
+    if sound_at(kind, k, f) {
+        say(b"sound:     ");
+    } else {
+        say(b"malformed: ");
+    }
+}
+
+// The answer on a vector for one field.
+fn field_vector(line: &[u8]) {
+    if line.len() < 7 {
+        say(b"no vector: ");
+        return;
+    }
+    let found = kind_of(&line[1..3]);
+    let number = text::numbers::value(&line[4..6]);
+    match found {
+        KindFound::Known(kind) => answer_field(kind, number, &line[7..]),
+        KindFound::Unknown => say(b"no kind:   "),
+    }
+}
+
+// The answer on a record: its code and field.
+fn record_vector(line: &[u8]) {
+    let end = text::fields::identifier_end(line);
+    match kind_of(&line[0..end]) {
+        KindFound::Known(kind) => {
+            let fault = check_line(kind, line);
+            io::print_decimal(STDOUT_FILENO, fault.code);
+            say(b",");
+            io::print_decimal(STDOUT_FILENO, fault.field as u64);
+        }
+        KindFound::Unknown => say(b"2,1"),
+    }
+    say(b": ");
+}
+
+// One line of the input.
+fn vector(line: &[u8]) {
+    if 0 < line.len() {
+        if line[0] == b'@' {
+            field_vector(line);
+        } else if line[0] != b'#' {
+            record_vector(line);
+        }
+    }
+    say_line(line);
+}
+
+// Where the line that starts at `at` ends.
+fn vector_end(s: &[u8], at: usize) -> usize
+    requires { ⌜ at ≤ length (now s) ⌝ }
+    ensures { λ r. ⌜ (at ≤ r) × (r ≤ length (now (s .entry))) ⌝ }
+{
+    let mut i = at;
+    while i < s.len() {
+        if s[i] == b'\n' {
+            return i;
+        }
+        i += 1;
+    }
+    i
+}
+
+fn run(s: &[u8]) {
+    let mut at = 0;
+    while at < s.len() {
+        let end = vector_end(s, at);
+        vector(&s[at..end]);
+        at = end + 1;
+    }
+}
+
+fn main() {
+    let mut buf = io::large_buffer();
+    let n = io::read_full(STDIN_FILENO, &mut buf);
+    run(&buf[..n]);
+}
