@@ -1,7 +1,4 @@
 -- The forms that code names, as the meaning has them.
-use mathlib.Core.Bool.{Bool}
-use mathlib.Core.List.{List}
-use Prim.Native.Nat.{ℕ}
 use Rattle.meaning.specs.Forms
 use Rattle.meaning.specs.Forms.{Form as Meaning}
 use Rattle.form.specs.declared.Form.{Form}

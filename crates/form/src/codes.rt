@@ -18,7 +18,7 @@ pub fn holds(codes: &[u8], b: u8) -> bool
 }
 
 // Whether a field is one of the codes in quotes.
-pub fn is_quoted_code<'a>(codes: &'a [u8], f: &'a [u8]) -> bool
+pub fn is_quoted_code(codes: &[u8], f: &[u8]) -> bool
     ensures { λ r. ⌜ r ≡ oneOf (inQuotes (now (codes .entry))) (now (f .entry)) ⌝ }
 {
     if f.len() != 3 {
