@@ -1,3 +1,4 @@
 pub mod Places
 pub mod Order
 pub mod Front
+pub mod Parts

@@ -8,3 +8,4 @@ pub mod fields; // the identifier, fields with quotes, their number, the content
 pub mod numbers; // the value of digits, and how many digits a number has
 pub mod order; // numbers as numbers, text byte by byte
 pub mod put; // bytes, a number and zeros, written
+pub mod parts; // a part handed back, with its place

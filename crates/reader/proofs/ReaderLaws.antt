@@ -1,0 +1,58 @@
+-- The laws of a reader's places.
+use mathlib.Core.Path.{_≡_, refl, sym, ap, _∙_}
+use mathlib.Core.Bool.{Bool, true, false}
+use mathlib.Core.List.{List, [], _∷_}
+use Prim.Native.Nat.{ℕ, _+_, _-_, _≤_, _<_}
+use native.Mathlib.Omega.{arith}
+use borrow.Author.Needs.{needs}
+use borrow.Author.Tests.{lt-ltb, le-ltb}
+use denote.Ref.{RefT, now}
+use lib.Dec.{ltb}
+use lib.ListN.{length, take, drop}
+use Rattle.base.specs.Lists.{pick}
+use Rattle.base.proofs.Walk.{at-end}
+use Rattle.text.specs.Places.{lineLen, lineEnd}
+use Rattle.text.specs.Parts.{StandsIn}
+use Rattle.reader.specs.Reading.{startIn, nextLine}
+
+-- the start is within any bytes
+start-zero : (s : List ℕ) → startIn s 0 ≡ 0
+unfolding startIn
+start-zero s = go (ltb (length s) 0)
+  where
+    go : (b : Bool) → pick {A = ℕ} b 0 0 ≡ 0
+    go true = refl
+    go false = refl
+
+-- the line at the start is the first
+pub first-is : (f s t : RefT (List ℕ)) (at : ℕ) → f ≡ s → at ≡ 0 → StandsIn t f (startIn (f .now) at) (lineLen (drop at (f .now))) → StandsIn t s 0 (lineLen (s .now))
+first-is f s t at e z h = rw (start-zero (s .now)) at (rw (e, z) at h)
+
+-- past the end the line is empty
+pub line-past : (s r : RefT (List ℕ)) (at : ℕ) → length (s .now) < at → StandsIn r s 0 (0 - 0) → StandsIn r s (startIn (s .now) at) (lineLen (drop at (s .now)))
+unfolding startIn lineLen
+line-past s r at h p = rw (lt-ltb (length (s .now)) at h, at-end (s .now) at (omega arith)) p
+
+-- else it runs up to its end
+pub line-here : (s r : RefT (List ℕ)) (at e : ℕ) → at ≤ length (s .now) → e ≡ lineEnd (s .now) at → StandsIn r s at (e - at) → StandsIn r s (startIn (s .now) at) (lineLen (drop at (s .now)))
+unfolding startIn
+line-here s r at e h q p = let size : e - at ≡ lineLen (drop at (s .now)) = omega arith in rw (le-ltb (length (s .now)) at h) (rw size at p)
+
+pub ruleset lines = (needs, line-past, line-here)
+
+-- past the end the next line is the end
+pub next-past : (s : List ℕ) (at : ℕ) → length s < at → length s ≡ nextLine s at
+unfolding nextLine
+next-past s at h = rw (lt-ltb (length s) at h)
+
+-- past a line that is ended
+pub next-more : (s : List ℕ) (at e : ℕ) → at ≤ length s → e ≡ lineEnd s at → e < length s → e + 2 ≡ nextLine s at
+unfolding nextLine
+next-more s at e h q l = rw (le-ltb (length s) at h, ← q, lt-ltb e (length s) l)
+
+-- and past the last, which need not be
+pub next-last : (s : List ℕ) (at e : ℕ) → at ≤ length s → e ≡ lineEnd s at → length s ≤ e → e ≡ nextLine s at
+unfolding nextLine
+next-last s at e h q l = rw (le-ltb (length s) at h, ← q, le-ltb e (length s) l)
+
+pub ruleset past = (needs, next-past, next-more, next-last)
