@@ -3,7 +3,7 @@ use mathlib.Core.Path.{_≡_, refl, ap, _∙_, sym}
 use mathlib.Core.Bool.{Bool, true, false, not, _&&_}
 use mathlib.Core.List.{List, [], _∷_}
 use Prim.Native.Nat.{ℕ, suc, _+_, _-_, _≤_, _<_}
-use native.Mathlib.Nat.{add-zero}
+use native.Mathlib.Nat.{add-zero, zero-add}
 use native.Mathlib.Omega.{arith}
 use native.Mathlib.Decide.{decLe}
 use borrow.Author.Tests.{eq-eqb, ne-eqb, eqb-true, lt-ltb}
@@ -15,7 +15,7 @@ use Rattle.base.specs.Lists.{pick, upTo}
 use Rattle.base.proofs.Walk.{at-cons, at-end}
 use Rattle.meaning.specs.Lines.{identifier, isSep, turned, addByte, fieldsFrom, fieldsOf, quoteAfter, oddQuotes, hasFields, afterField}
 use Rattle.meaning.specs.Records.{contentOf}
-use Rattle.text.specs.Places.{fieldLen, fieldEnd, nextStart, contentStart}
+use Rattle.text.specs.Places.{fieldCount, fieldLen, fieldEnd, nextStart, contentStart}
 
 -- ---- the walk to the first byte x
 
@@ -104,54 +104,74 @@ fields-some q (x ∷ r) = go (isSep q x) (fieldsFrom (turned q x) r)
     go false (f ∷ fs) = omega arith
 
 -- the answer that is still to be found
-abbrev pub countAt : ℕ → List ℕ → Bool → ℕ → ℕ → Bool
-countAt n l q m i = not (quoteAfter q (drop i l)) && eqb (m + length (fieldsFrom q (drop i l))) n
+abbrev pub countAt : List ℕ → Bool → ℕ → ℕ → ℕ
+countAt l q m i = pick (quoteAfter q (drop i l)) 0 (m + length (fieldsFrom q (drop i l)))
 
 -- at the start none is passed
-pub count-start : (n : ℕ) (l : List ℕ) → countAt n l false 0 0 ≡ hasFields n l
-unfolding hasFields oddQuotes fieldsOf
-count-start n l = ap (λ m. not (quoteAfter false l) && eqb m n) (omega arith)
+pub count-start : (l : List ℕ) → countAt l false 0 0 ≡ fieldCount l
+unfolding fieldCount oddQuotes fieldsOf
+count-start l = rw zero-add
 
 -- a separator is one more
 pub count-sep :
-    (n : ℕ) (l : List ℕ) (q : Bool) (m i : ℕ) (x b : Bool) →
-    countAt n l q m i ≡ x → i < length l → b ≡ isSep q (getD l i 0) → b ≡ true → countAt n l q (m + 1) (i + 1) ≡ x
+    (l : List ℕ) (q : Bool) (m i x : ℕ) (b : Bool) →
+    countAt l q m i ≡ x → i < length l → b ≡ isSep q (getD l i 0) → b ≡ true → countAt l q (m + 1) (i + 1) ≡ x
 unfolding quoteAfter fieldsFrom addByte
-count-sep n l q m i x b e h p t =
+count-sep l q m i x b e h p t =
     let s : isSep q (getD l i 0) ≡ true = sym p ∙ t in
     let e′ : found (turned q (getD l i 0)) ≡ x = rw (at-cons l i h, s) at e in
-    ap (λ k. not (quoteAfter q (drop (i + 1) l)) && eqb k n) (omega arith) ∙ (rw (sep-stays q (getD l i 0) s) at e′)
+    ap (λ (k : ℕ). pick (quoteAfter q (drop (i + 1) l)) 0 k) (omega arith) ∙ (rw (sep-stays q (getD l i 0) s) at e′)
   where
-    found : Bool → Bool
-    found q′ = not (quoteAfter q′ (drop (i + 1) l)) && eqb (m + suc (length (fieldsFrom q′ (drop (i + 1) l)))) n
+    found : Bool → ℕ
+    found q′ = pick (quoteAfter q′ (drop (i + 1) l)) 0 (m + suc (length (fieldsFrom q′ (drop (i + 1) l))))
 
 -- another byte is not
 pub count-other :
-    (n : ℕ) (l : List ℕ) (q : Bool) (m i : ℕ) (x b q′ : Bool) →
-    countAt n l q m i ≡ x → i < length l → b ≡ isSep q (getD l i 0) → b ≡ false → q′ ≡ turned q (getD l i 0) → countAt n l q′ m (i + 1) ≡ x
+    (l : List ℕ) (q : Bool) (m i x : ℕ) (b q′ : Bool) →
+    countAt l q m i ≡ x → i < length l → b ≡ isSep q (getD l i 0) → b ≡ false → q′ ≡ turned q (getD l i 0) → countAt l q′ m (i + 1) ≡ x
 unfolding quoteAfter fieldsFrom addByte
-count-other n l q m i x b q′ e h p t k =
+count-other l q m i x b q′ e h p t k =
     let s : isSep q (getD l i 0) ≡ false = sym p ∙ t in
     rw k (go (fieldsFrom (turned q (getD l i 0)) (drop (i + 1) l)) (fields-some (turned q (getD l i 0)) (drop (i + 1) l)) (rw (at-cons l i h, s) at e))
   where
     go :
         (fs : List (List ℕ)) → 0 < length fs →
-        not (quoteAfter (turned q (getD l i 0)) (drop (i + 1) l)) && eqb (m + length (addByte false (getD l i 0) fs)) n ≡ x →
-        not (quoteAfter (turned q (getD l i 0)) (drop (i + 1) l)) && eqb (m + length fs) n ≡ x
+        pick (quoteAfter (turned q (getD l i 0)) (drop (i + 1) l)) 0 (m + length (addByte false (getD l i 0) fs)) ≡ x →
+        pick (quoteAfter (turned q (getD l i 0)) (drop (i + 1) l)) 0 (m + length fs) ≡ x
     go [] h e = absurd (omega arith)
     go (f ∷ fs) h e = e
 
--- an open quote has no right count
-pub count-open : (n : ℕ) (l : List ℕ) (q : Bool) (m i : ℕ) (x : Bool) → countAt n l q m i ≡ x → length l ≤ i → q ≡ true → false ≡ x
+-- an open quote counts nothing
+pub count-open : (l : List ℕ) (q : Bool) (m i x : ℕ) → countAt l q m i ≡ x → length l ≤ i → q ≡ true → 0 ≡ x
 unfolding quoteAfter
-count-open n l q m i x e h t = rw (at-end l i h, t) at e
+count-open l q m i x e h t = rw (at-end l i h, t) at e
 
 -- else the last field is one more
-pub count-shut : (n : ℕ) (l : List ℕ) (q : Bool) (m i : ℕ) (x : Bool) → countAt n l q m i ≡ x → length l ≤ i → q ≡ false → eqb (m + 1) n ≡ x
+pub count-shut : (l : List ℕ) (q : Bool) (m i x : ℕ) → countAt l q m i ≡ x → length l ≤ i → q ≡ false → m + 1 ≡ x
 unfolding quoteAfter fieldsFrom
-count-shut n l q m i x e h t = rw (at-end l i h, t) at e
+count-shut l q m i x e h t = rw (at-end l i h, t) at e
 
 pub ruleset count = (needs, count-start, count-sep, count-other, count-open, count-shut)
+
+-- a line whose quotes are odd has no right count, and only such a line counts 0
+pub fields-odd : (l : List ℕ) (n c : ℕ) → c ≡ fieldCount l → c ≡ 0 → false ≡ hasFields n l
+unfolding hasFields fieldCount fieldsOf
+fields-odd l n c e z = go (oddQuotes l) (sym e ∙ z)
+  where
+    go : (b : Bool) → pick b 0 (length (fieldsFrom false l)) ≡ 0 → false ≡ (not b && eqb (length (fieldsFrom false l)) n)
+    go true h = refl
+    go false h = absurd (omega (arith, fields-some false l))
+
+-- any other has as many fields as are counted
+pub fields-even : (l : List ℕ) (n c : ℕ) → c ≡ fieldCount l → (c ≡ 0 → ⊥) → eqb c n ≡ hasFields n l
+unfolding hasFields fieldCount
+fields-even l n c e z = rw e (go (oddQuotes l) (λ h. z (e ∙ h)))
+  where
+    go : (b : Bool) → (pick b 0 (length (fieldsOf l)) ≡ 0 → ⊥) → eqb (pick b 0 (length (fieldsOf l))) n ≡ (not b && eqb (length (fieldsOf l)) n)
+    go true h = absurd (h refl)
+    go false h = refl
+
+pub ruleset counted = (needs, fields-odd, fields-even)
 
 -- ---- the walk of a field, where quoting is q
 

@@ -6,7 +6,7 @@ use mathlib.Core.Path.{_≡_}
 use lib.Dec.{eqb, ltb}
 use lib.ListN.{length, getD, take, drop}
 use Rattle.base.specs.Lists.{pick}
-use Rattle.meaning.specs.Lines.{isSep, turned, fieldsOf, afterField}
+use Rattle.meaning.specs.Lines.{isSep, turned, fieldsOf, oddQuotes, afterField}
 use Rattle.meaning.specs.Records.{contentOf}
 use Rattle.meaning.specs.Enquiries.{fieldsSpanned}
 
@@ -24,6 +24,10 @@ lineLen (x ∷ r) = pick (endsHere (x ∷ r)) 0 (suc (lineLen r))
 -- where the line that starts at `at` ends
 abbrev pub lineEnd : List ℕ → ℕ → ℕ
 lineEnd s at = at + lineLen (drop at s)
+
+-- how many fields a line has; 0 where its quotes are odd, since every line has a field
+unfoldable pub fieldCount : List ℕ → ℕ
+fieldCount t = pick (oddQuotes t) 0 (length (fieldsOf t))
 
 -- how many bytes stand before the next separator, where quoting is q
 unfoldable pub fieldLen : Bool → List ℕ → ℕ

@@ -4,7 +4,7 @@ ghost use Prim.Native.Nat.{_≤_};
 ghost use mathlib.Core.List.{[]};
 ghost use lib.ListN.{length, getD};
 ghost use Rattle.meaning.specs.Lines.{identifier, isSep, turned, fieldsOf, hasFields};
-ghost use Rattle.text.specs.Places.{fieldEnd, FieldAt, nextStart, contentStart};
+ghost use Rattle.text.specs.Places.{fieldCount, fieldEnd, FieldAt, nextStart, contentStart};
 
 // Where the identifier ends: at the first comma, or where the line does.
 pub fn identifier_end(line: &[u8]) -> usize
@@ -34,9 +34,9 @@ pub fn turn(quoted: bool, b: u8) -> bool
     if b == 34 { !quoted } else { quoted }
 }
 
-// Whether a line has n fields; one with an odd number of quotes has not.
-pub fn has_fields(line: &[u8], n: usize) -> bool
-    ensures { λ r. ⌜ r ≡ hasFields n (now (line .entry)) ⌝ }
+// How many fields a line has; 0 where its quotes are odd.
+pub fn field_count(line: &[u8]) -> usize
+    ensures { λ r. ⌜ r ≡ fieldCount (now (line .entry)) ⌝ }
 {
     let mut quoted = false;
     let mut commas = 0;
@@ -52,9 +52,20 @@ pub fn has_fields(line: &[u8], n: usize) -> bool
         i += 1;
     }
     if quoted {
+        return 0;
+    }
+    commas + 1
+}
+
+// Whether a line has n fields; one with an odd number of quotes has not.
+pub fn has_fields(line: &[u8], n: usize) -> bool
+    ensures { λ r. ⌜ r ≡ hasFields n (now (line .entry)) ⌝ }
+{
+    let count = field_count(line);
+    if count == 0 {
         return false;
     }
-    commas + 1 == n
+    count == n
 }
 
 // Where the field that starts at `at` ends: at the next separator, or where the line does.

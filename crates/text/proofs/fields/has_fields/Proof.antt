@@ -1,9 +1,5 @@
 -- `text::fields::has_fields` meets its contract.
-use Rattle.text.proofs.FieldLaws.{count, countAt}
-use mathlib.Core.Path.{_≡_}
-use Prim.Native.Nat.{_-_, _≤_}
-use lib.ListN.{length}
-use Rattle.meaning.specs.Lines.{hasFields}
+use Rattle.text.proofs.FieldLaws.{counted}
 use Rattle.text.proofs.fields.has_fields.Statement.{statement}
 use Rattle.text.proofs.fields.has_fields.Tie as tie
 
@@ -11,19 +7,6 @@ pub has-fields-spec : {M : Type 1} → statement M
 has-fields-spec =
     tie.close
     (tie.spec
-    (λ line n quoted₀ commas₀ i₀ quoted commas i. (countAt n line quoted commas i ≡ hasFields n line) × (commas ≤ i) × (i ≤ length line))
-    (λ line n quoted₀ commas₀ i₀ quoted commas i. length line - i)
-    (λ c. search count)  -- loop-holds
-    (λ c. search count)  -- shared-slice-read-b
-    (λ c κs. search count)  -- is-sep-requires
-    (λ c. search count)  -- add-commas
-    (λ c. search count)  -- add-i
-    (λ c. search count)  -- loop-less
-    (λ c. search count)  -- loop-again
-    (λ c κs. search count)  -- turn-requires
-    (λ c. search count)  -- add-i-2
-    (λ c. search count)  -- loop-less-2
-    (λ c. search count)  -- loop-again-2
-    (λ c. search count)  -- returns
-    (λ c. search count)  -- add-result
-    (λ c. search count))  -- returns-2
+    (λ c κs. search counted)  -- field-count-requires
+    (λ c. search counted)  -- returns
+    (λ c. search counted))  -- returns-2

@@ -1,0 +1,2 @@
+pub mod LineSeekLaws
+pub mod FieldPartLaws

@@ -1,0 +1,38 @@
+-- What an enquiry hands back, by the meaning's answer.
+use mathlib.Core.Path.{_≡_}
+use mathlib.Core.Bool.{Bool, true, false, not, _&&_}
+use mathlib.Core.List.{List, [], _∷_}
+use Prim.Native.Nat.{ℕ, _-_, _≤_}
+use denote.Ref.{RefT}
+use lib.Dec.{leb}
+use lib.ListN.{length, getD, take, drop}
+use Rattle.meaning.specs.Lines.{Line, linesOf, fieldsOf, oddQuotes}
+use Rattle.meaning.specs.Load.{Three}
+use Rattle.meaning.specs.Enquiries.{Found, spanned, fieldsSpanned}
+use Rattle.text.specs.Parts.{StandsIn}
+use Rattle.enquiries.specs.declared.lines.Span.{Span}
+
+-- the three numbers in their order
+abbrev pub threeList : Three → List ℕ
+threeList t = t .code ∷ t .line ∷ t .field ∷ []
+
+-- the numbers that were answered, and the part r of the slice s
+pub record Handed (f : Found) (s r : RefT (List ℕ)) (answer : List ℕ) : Type 0 where
+  pub numbers : answer ≡ threeList (f .answer)
+  pub part : StandsIn r s (f .start) (f .size)
+
+-- line n of some bytes, counted from 1: whether there is one, and where it stands
+pub record LineIs (b : List ℕ) (n : ℕ) (r : Span) : Type 0 where
+  pub exists : r .known ≡ (leb 1 n && leb n (length (linesOf b)))
+  pub starts : r .known ≡ true → r .start ≡ spanned (take (n - 1) (linesOf b))
+  pub text : r .known ≡ true → take (r .end - r .start) (drop (r .start) b) ≡ getD (linesOf b) (n - 1) (record { text = []; ended = false }) .text
+  pub from : r .start ≤ r .end
+  pub within : r .end ≤ length b
+
+-- field n of a line, counted from 1: whether there is one in a line of even quotes, and where it stands
+pub record FieldIs (t : List ℕ) (n : ℕ) (r : Span) : Type 0 where
+  pub exists : r .known ≡ (not (oddQuotes t) && (leb 1 n && leb n (length (fieldsOf t))))
+  pub starts : r .known ≡ true → r .start ≡ fieldsSpanned (take (n - 1) (fieldsOf t))
+  pub size : r .known ≡ true → r .end - r .start ≡ length (getD (fieldsOf t) (n - 1) [])
+  pub from : r .start ≤ r .end
+  pub within : r .end ≤ length t

@@ -1,0 +1,58 @@
+// Giving one field of a line splits any bytes, judges no field or line ending, and hands back the field with its quotes.
+ghost use Rattle.meaning.specs.Enquiries.{fieldOf};
+ghost use Rattle.enquiries.specs.Handed.{Handed, FieldIs};
+use crate::lines::Span;
+use crate::lines::line_at;
+use text::fields::field_count;
+use text::fields::field_end;
+use text::fields::field_start;
+use text::parts::part;
+
+// Field n of a line, counted from 1; a line with odd quotes has none.
+pub fn field_at(line: &[u8], n: u64) -> Span
+    ensures { λ r. ⌜ FieldIs (now (line .entry)) n r ⌝ }
+{
+    if n < 1 {
+        return Span {
+            known: false,
+            start: 0,
+            end: 0,
+        };
+    }
+    let k = (n - 1) as usize;
+    let count = field_count(line);
+    if count <= k {
+        return Span {
+            known: false,
+            start: 0,
+            end: 0,
+        };
+    }
+    let start = field_start(line, k);
+    let end = field_end(line, start);
+    Span {
+        known: true,
+        start,
+        end,
+    }
+}
+
+// Field `number` of line `line` of some bytes, both counted from 1: 19 for no such line or field, or odd quotes.
+pub fn field<'a>(bytes: &'a [u8], line: u64, number: u64, answer: &mut [u64; 3]) -> &'a [u8]
+    ensures { λ r. ⌜ Handed (fieldOf (now (bytes .entry)) line number) (bytes .entry) r (now (answer .exit)) ⌝ }
+{
+    let l = line_at(bytes, line);
+    let at = l.start;
+    let end = l.end;
+    if !l.known {
+        *answer = [19, 0, 0];
+        return part(bytes, 0, 0);
+    }
+    let f = field_at(&bytes[at..end], number);
+    if !f.known {
+        *answer = [19, 0, 0];
+        return part(bytes, 0, 0);
+    }
+    *answer = [0, 0, 0];
+    part(bytes, at + f.start, at + f.end)
+}

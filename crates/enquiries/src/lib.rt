@@ -1,0 +1,5 @@
+// Enquiries: each answers three numbers and hands back a part of what it was lent, empty on a refusal.
+//
+// The contracts say the part's bytes and where it stands, by the definitions of the meaning's Enquiries.
+pub mod lines; // one line of some bytes, by its number
+pub mod field; // one field of a line
