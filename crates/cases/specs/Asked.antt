@@ -4,8 +4,9 @@ use mathlib.Core.List.{List, [], _∷_, _++_}
 use Prim.Native.Nat.{ℕ}
 use Rattle.base.specs.Lists.{bytes}
 use Rattle.meaning.specs.Computes.{computed}
-use Rattle.cases.specs.Cases.{Case, misses, Ask, askFind, askForce, askField, askMisses, opened}
+use Rattle.cases.specs.Cases.{Ask, askFind, askForce, askField, askMisses, opened}
 
+-- what is asked, and the answer
 unfoldable pub cases : List (Ask × List ℕ)
 cases =
     (askFind (bytes "11,\"I\",1,73306364,8,44,,2027-01-31,8,2004-10-15,5894-03-01,9260-05-01,9260-05-01,9127577.00,-0000000.00,-9953603.00,2719708.00" ++ ((10 ∷ []) ++ (bytes "21,\"I\",2,0000000003,3,0,2007-10-01,341628628009,000000.48,6257872.00,6,0125,2011-08-01,2011-08-01,8917-02-28,2001-11-30" ++ ((10 ∷ []) ++ (bytes "21,\"I\",3,341628628009,9,,,,-0.00,0000000.59,3,4300,2023-01-01,,6114-08-31,2020-11-30" ++ ((10 ∷ []))))))) 21 7, (14 ∷ 1 ∷ 0 ∷ 0 ∷ 0 ∷ 0 ∷ []))
@@ -273,6 +274,7 @@ cases =
     ∷ (askField (bytes "11,\"I\",1," ++ ((13 ∷ 10 ∷ 13 ∷ 10 ∷ []) ++ (bytes "q,\"x\"\"y\",z"))) 3 3, (0 ∷ 0 ∷ 0 ∷ 0 ∷ 22 ∷ 1 ∷ []))
     ∷ []
 
+-- each enquiry is answered as the reference answered it
 pub agreed : askMisses 0 cases ≡ []
 unfolding computed opened cases
 agreed = refl

@@ -1,11 +1,11 @@
 -- Cases of the reference, computed.
 use mathlib.Core.Path.{_≡_, refl}
 use mathlib.Core.List.{List, [], _∷_, _++_}
-use Prim.Native.Nat.{ℕ}
 use Rattle.base.specs.Lists.{bytes}
 use Rattle.meaning.specs.Computes.{computed}
-use Rattle.cases.specs.Cases.{Case, misses, Ask, askFind, askForce, askField, askMisses, opened}
+use Rattle.cases.specs.Cases.{Case, misses, opened}
 
+-- holding, file and lengths, and what the reference answered
 unfoldable pub cases : List Case
 cases =
     record { old = []; change = (bytes "10,\"a\",1,2001-01-01,1,2001-01-01,000000,1.0,\"A\"" ++ ((13 ∷ 10 ∷ []) ++ (bytes "10,\"a\",1,2001-01-01,1,2001-01-01,000000,1.0,\"A\"" ++ ((13 ∷ 10 ∷ []) ++ (bytes "29,\"a\",\"a\",\"a\",\"a\",\"a\",1,\"a\",\"a\",2001-01-01,\"a\",\"a\",2001-01-01,\"a\",\"a\"" ++ ((13 ∷ 10 ∷ []))))))); room = 300; undoRoom = 400; space = 299; fileWants = (3 ∷ 2 ∷ 0 ∷ 0 ∷ 0 ∷ 0 ∷ []); heldWants = (0 ∷ 0 ∷ 0 ∷ []); applyWants = (3 ∷ 2 ∷ 0 ∷ 0 ∷ 0 ∷ 0 ∷ []); output = []; undoWants = (3 ∷ 2 ∷ 0 ∷ 0 ∷ 0 ∷ 0 ∷ []); undoOutput = [] }
@@ -70,6 +70,7 @@ cases =
     ∷ record { old = (bytes "21,\"I\",1,000000000051,3,,1998-09-30,,0.24,7676170.22,0,2851,2025-11-01,,2021-08-01,2006-12-17" ++ ((13 ∷ 10 ∷ []) ++ (bytes "23,\"I\",2,000000000051,\"9000X000001071\",2006-12-31,2004-05-01,2022-02-01,,\" NL" ++ ((205 ∷ []) ++ (bytes "pWPaE" ++ ((133 ∷ []) ++ (bytes "G!\",\"gVP" ++ ((150 ∷ []) ++ (bytes "A\"" ++ ((13 ∷ 10 ∷ []))))))))))); change = (bytes "10,\"#mO\",986,1996-05-01,0,1999-05-01,173836,00.8,\"H\"" ++ ((13 ∷ 10 ∷ []) ++ (bytes "21,\"I\",1,469339532393,1,9,,,-9812363.88,-000000.20,8,1438,2015-04-01,2030-12-01,2023-04-18,2012-04-08" ++ ((13 ∷ 10 ∷ []) ++ (bytes "29,\"L8\",\"44" ++ ((168 ∷ []) ++ (bytes "zwj8'y" ++ ((144 ∷ []) ++ (bytes ",MIzw xWd62qvsGOG)II2P\",\"JPi\",\"rcU0'D-)ba U)M" ++ ((217 ∷ []) ++ (bytes "N90inPL#&LU3/" ++ ((244 ∷ []) ++ (bytes "XOaMP9ob3st75sUvhOGP" ++ ((141 ∷ []) ++ (bytes "j,D,6,FO,Z\",\"VU\",0,\"D\",\"b0o" ++ ((204 ∷ []) ++ (bytes "#t79b\",1993-01-31,\",XbF3IlIi" ++ ((245 ∷ []) ++ (bytes "50\",\".8YU\",3800-03-01,\"u,!\",\"P'NtoSth,&zL5Rp-Be" ++ ((130 ∷ []) ++ (bytes "yEx,\"" ++ ((13 ∷ 10 ∷ []) ++ (bytes "99,68,1,2030-04-30,114129" ++ ((13 ∷ 10 ∷ []))))))))))))))))))))))))); room = 298; undoRoom = 398; space = 296; fileWants = (0 ∷ 0 ∷ 0 ∷ 1 ∷ 0 ∷ 0 ∷ []); heldWants = (0 ∷ 0 ∷ 0 ∷ []); applyWants = (0 ∷ 0 ∷ 0 ∷ 1 ∷ 0 ∷ 0 ∷ []); output = (bytes "21,\"I\",1,000000000051,3,,1998-09-30,,0.24,7676170.22,0,2851,2025-11-01,,2021-08-01,2006-12-17" ++ ((13 ∷ 10 ∷ []) ++ (bytes "21,\"I\",2,469339532393,1,9,,,-9812363.88,-000000.20,8,1438,2015-04-01,2030-12-01,2023-04-18,2012-04-08" ++ ((13 ∷ 10 ∷ []) ++ (bytes "23,\"I\",3,000000000051,\"9000X000001071\",2006-12-31,2004-05-01,2022-02-01,,\" NL" ++ ((205 ∷ []) ++ (bytes "pWPaE" ++ ((133 ∷ []) ++ (bytes "G!\",\"gVP" ++ ((150 ∷ []) ++ (bytes "A\"" ++ ((13 ∷ 10 ∷ []))))))))))))); undoWants = (0 ∷ 0 ∷ 0 ∷ 1 ∷ 0 ∷ 0 ∷ []); undoOutput = (bytes "10,\"#mO\",986,1996-05-01,0,1999-05-01,173836,00.8,\"H\"" ++ ((13 ∷ 10 ∷ []) ++ (bytes "21,\"D\",1,469339532393,1,9,,,-9812363.88,-000000.20,8,1438,2015-04-01,2030-12-01,2023-04-18,2012-04-08" ++ ((13 ∷ 10 ∷ []) ++ (bytes "29,\"L8\",\"44" ++ ((168 ∷ []) ++ (bytes "zwj8'y" ++ ((144 ∷ []) ++ (bytes ",MIzw xWd62qvsGOG)II2P\",\"JPi\",\"rcU0'D-)ba U)M" ++ ((217 ∷ []) ++ (bytes "N90inPL#&LU3/" ++ ((244 ∷ []) ++ (bytes "XOaMP9ob3st75sUvhOGP" ++ ((141 ∷ []) ++ (bytes "j,D,6,FO,Z\",\"VU\",0,\"D\",\"b0o" ++ ((204 ∷ []) ++ (bytes "#t79b\",1993-01-31,\",XbF3IlIi" ++ ((245 ∷ []) ++ (bytes "50\",\".8YU\",3800-03-01,\"u,!\",\"P'NtoSth,&zL5Rp-Be" ++ ((130 ∷ []) ++ (bytes "yEx,\"" ++ ((13 ∷ 10 ∷ []) ++ (bytes "99,68,1,2030-04-30,114129" ++ ((13 ∷ 10 ∷ []))))))))))))))))))))))))) }
     ∷ []
 
+-- each case is answered as the reference answered it
 pub agreed : misses 0 cases ≡ []
 unfolding computed opened cases
 agreed = refl

@@ -1,11 +1,11 @@
 -- Cases of the reference, computed.
 use mathlib.Core.Path.{_≡_, refl}
 use mathlib.Core.List.{List, [], _∷_, _++_}
-use Prim.Native.Nat.{ℕ}
 use Rattle.base.specs.Lists.{bytes}
 use Rattle.meaning.specs.Computes.{computed}
-use Rattle.cases.specs.Cases.{Case, misses, Ask, askFind, askForce, askField, askMisses, opened}
+use Rattle.cases.specs.Cases.{Case, misses, opened}
 
+-- holding, file and lengths, and what the reference answered
 unfoldable pub cases : List Case
 cases =
     record { old = (bytes "21,\"I\",1,1,1,,,,0.00,0.00,1,1,2001-01-01,,2001-01-01,2001-01-01" ++ ((13 ∷ 10 ∷ []) ++ (bytes "21,\"I\",2,2,1,,,1,0.00,0.00,1,1,2001-01-01,,2001-01-01,2001-01-01" ++ ((13 ∷ 10 ∷ []) ++ (bytes "21,\"I\",3,3,1,,,2,0.00,0.00,1,1,2001-01-01,,2001-01-01,2001-01-01" ++ ((13 ∷ 10 ∷ []))))))); change = (bytes "10,\"a\",1,2001-01-01,1,2001-01-01,000000,1.0,\"A\"" ++ ((13 ∷ 10 ∷ []) ++ (bytes "12,\"I\",1,01,1,01,2001-01-01,2001-01-01,,2001-01-01" ++ ((13 ∷ 10 ∷ []) ++ (bytes "21,\"U\",2,01,1,,,1,0.00,0.00,1,1,2001-01-01,,2001-01-01,2001-01-01" ++ ((13 ∷ 10 ∷ []) ++ (bytes "29,\"a\",\"a\",\"a\",\"a\",\"a\",1,\"a\",\"a\",2001-01-01,\"a\",\"a\",2001-01-01,\"a\",\"a\"" ++ ((13 ∷ 10 ∷ []) ++ (bytes "99,1,2,2001-01-01,000000" ++ ((13 ∷ 10 ∷ []))))))))))); room = 497; undoRoom = 400; space = 496; fileWants = (0 ∷ 0 ∷ 0 ∷ 1 ∷ 1 ∷ 0 ∷ []); heldWants = (0 ∷ 0 ∷ 0 ∷ []); applyWants = (12 ∷ 2 ∷ 0 ∷ 0 ∷ 0 ∷ 0 ∷ []); output = []; undoWants = (12 ∷ 2 ∷ 0 ∷ 0 ∷ 0 ∷ 0 ∷ []); undoOutput = [] }
@@ -70,6 +70,7 @@ cases =
     ∷ record { old = (bytes "21,\"I\",1,1,1,,,,0.00,0.00,1,1,2001-01-01,,2001-01-01,2001-01-01" ++ ((13 ∷ 10 ∷ []) ++ (bytes "21,\"I\",2,2,1,,,1,0.00,0.00,1,1,2001-01-01,,2001-01-01,2001-01-01" ++ ((13 ∷ 10 ∷ []) ++ (bytes "21,\"I\",3,3,1,,,2,0.00,0.00,1,1,2001-01-01,,2001-01-01,2001-01-01" ++ ((13 ∷ 10 ∷ []))))))); change = (bytes "10,\"a\",1,2001-01-01,1,2001-01-01,000000,1.0,\"A\"" ++ ((13 ∷ 10 ∷ []) ++ (bytes "24,\"U\",1,1,\"9000L000000001\",\"a\",1,2001-01-01,,2001-01-01,2001-01-01,,\"\",,\"\",\"\",,\"\",,\"\",\"\",1,\"\",,\"a\",\"\",\"\",\"\"" ++ ((13 ∷ 10 ∷ []) ++ (bytes "11,\"U\",2,002,1,1,,,,2001-01-01,2001-01-01,2001-01-01,,0.00,0.00,0.00,0.00" ++ ((13 ∷ 10 ∷ []) ++ (bytes "29,\"a\",\"a\",\"a\",\"a\",\"a\",1,\"a\",\"a\",2001-01-01,\"a\",\"a\",2001-01-01,\"a\",\"a\"" ++ ((13 ∷ 10 ∷ []) ++ (bytes "99,1,2,2001-01-01,000000" ++ ((13 ∷ 10 ∷ []))))))))))); room = 497; undoRoom = 400; space = 496; fileWants = (0 ∷ 0 ∷ 0 ∷ 0 ∷ 2 ∷ 0 ∷ []); heldWants = (0 ∷ 0 ∷ 0 ∷ []); applyWants = (11 ∷ 2 ∷ 0 ∷ 0 ∷ 0 ∷ 0 ∷ []); output = []; undoWants = (11 ∷ 2 ∷ 0 ∷ 0 ∷ 0 ∷ 0 ∷ []); undoOutput = [] }
     ∷ []
 
+-- each case is answered as the reference answered it
 pub agreed : misses 0 cases ≡ []
 unfolding computed opened cases
 agreed = refl

@@ -1,7 +1,7 @@
 -- The limits of 4,096 body lines and 8,192 records, at the state that is reached: what the reference answered on the whole file or holding.
 use mathlib.Core.Path.{_≡_, refl}
 use mathlib.Core.List.{List, [], _∷_, _++_}
-use Prim.Native.Nat.{ℕ, zero, suc, _+_, _*_}
+use Prim.Native.Nat.{ℕ, zero, suc, _*_}
 use Rattle.theory.specs.Step.{Op, ins, upd, del, Change}
 use Rattle.theory.specs.Decimal.{dec}
 use Rattle.theory.specs.Run.{Out, done, stop, run}
@@ -37,10 +37,12 @@ tails =
     ∷ ((bytes "29,\"a\",\"a\",\"a\",\"a\",\"a\",1,\"a\",\"a\",2001-01-01,\"a\",\"a\",2001-01-01,\"ENG\",\"a\"" ++ ((13 ∷ 10 ∷ []))), (3 ∷ 4099 ∷ 0 ∷ 0 ∷ 0 ∷ 0 ∷ []))
     ∷ []
 
+-- the numbers of the tails that do not agree
 unfoldable pub tailMisses : ℕ → List (List ℕ × List ℕ) → List ℕ
 tailMisses i [] = []
 tailMisses i (c ∷ cs) = pick (same (sixList (checked (readFrom 4098 inBody 4096 (linesOf (c .0))))) (c .1)) (tailMisses (suc i) cs) (i ∷ tailMisses (suc i) cs)
 
+-- each tail is answered as the reference answered the whole file
 pub agreed-tails : tailMisses 0 tails ≡ []
 unfolding computed opened tails tailMisses
 agreed-tails = refl
@@ -49,6 +51,7 @@ agreed-tails = refl
 unfoldable pub numbered : ℕ → Rec
 numbered u = record { kind = street; content = dec u }
 
+-- a change to that street
 abbrev pub change : Op → ℕ → Change Rec
 change o u = record { op = o; rec = numbered u }
 
@@ -57,41 +60,34 @@ unfoldable pub evens : ℕ → ℕ → List Rec
 evens zero i = []
 evens (suc n) i = numbered (2 * i) ∷ evens n (suc i)
 
+-- the code and the line at which a run stops, 0 and 0 where it does not
 unfoldable pub stopped : Out (List Rec) → List ℕ
 stopped (done st) = 0 ∷ 0 ∷ []
 stopped (stop l w) = w ∷ l ∷ []
 
-unfoldable pub stops : List (Change Rec) → List ℕ
-stops cs = stopped (run keyed (stepTests 9999999) 2 (evens 8192 1) cs)
+-- one step on line 2, over 8,192 streets with even numbers
+unfoldable pub stops : Change Rec → List ℕ
+stops c = stopped (run keyed (stepTests 9999999) 2 (evens 8192 1) (c ∷ []))
 
-pub full1 : stops (change ins 1 ∷ []) ≡ 16 ∷ 2 ∷ []
-unfolding computed numbered evens stopped stops
-full1 = refl
+-- a step over the full holding, and the answer: 16 for an absent key, 10 for a held one, 11 for an update or delete of an absent one
+unfoldable pub full : List (Change Rec × List ℕ)
+full =
+    (change ins 1, (16 ∷ 2 ∷ []))
+    ∷ (change ins 3, (16 ∷ 2 ∷ []))
+    ∷ (change ins 5, (16 ∷ 2 ∷ []))
+    ∷ (change ins 41, (16 ∷ 2 ∷ []))
+    ∷ (change ins 401, (16 ∷ 2 ∷ []))
+    ∷ (change ins 400, (10 ∷ 2 ∷ []))
+    ∷ (change upd 401, (11 ∷ 2 ∷ []))
+    ∷ (change del 1, (11 ∷ 2 ∷ []))
+    ∷ []
 
-pub full2 : stops (change ins 3 ∷ []) ≡ 16 ∷ 2 ∷ []
-unfolding computed numbered evens stopped stops
-full2 = refl
+-- the numbers of the steps that do not agree
+unfoldable pub fullMisses : ℕ → List (Change Rec × List ℕ) → List ℕ
+fullMisses i [] = []
+fullMisses i (c ∷ cs) = pick (same (stops (c .0)) (c .1)) (fullMisses (suc i) cs) (i ∷ fullMisses (suc i) cs)
 
-pub full3 : stops (change ins 5 ∷ []) ≡ 16 ∷ 2 ∷ []
-unfolding computed numbered evens stopped stops
-full3 = refl
-
-pub full4 : stops (change ins 41 ∷ []) ≡ 16 ∷ 2 ∷ []
-unfolding computed numbered evens stopped stops
-full4 = refl
-
-pub full5 : stops (change ins 401 ∷ []) ≡ 16 ∷ 2 ∷ []
-unfolding computed numbered evens stopped stops
-full5 = refl
-
-pub full6 : stops (change ins 400 ∷ []) ≡ 10 ∷ 2 ∷ []
-unfolding computed numbered evens stopped stops
-full6 = refl
-
-pub full7 : stops (change upd 401 ∷ []) ≡ 11 ∷ 2 ∷ []
-unfolding computed numbered evens stopped stops
-full7 = refl
-
-pub full8 : stops (change del 1 ∷ []) ≡ 11 ∷ 2 ∷ []
-unfolding computed numbered evens stopped stops
-full8 = refl
+-- each step is answered as the reference answered it
+pub agreed-full : fullMisses 0 full ≡ []
+unfolding computed numbered evens stopped stops full fullMisses
+agreed-full = refl

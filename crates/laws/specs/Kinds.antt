@@ -1,18 +1,21 @@
 -- What holds of every row of the table holds of each kind: a fact of all kinds is one computed test.
-use mathlib.Core.Bool.{Bool, true, false, _&&_}
+use mathlib.Core.Path.{_≡_, refl, sym, ap, _∙_}
+use mathlib.Core.Bool.{Bool}
 use mathlib.Core.List.{List, [], _∷_}
-use lib.Dec.{T}
+use Prim.Native.Nat.{ℕ, zero, suc}
+use lib.Dec.{T, eqb, eqb-refl, eqb→eq}
 use Rattle.base.specs.Lists.{all}
 use Rattle.base.specs.Tests.{and-l, and-r}
-use Rattle.meaning.specs.Table.{Kind, header, street, streetXref, blpu, appXref, lpi, metadata, trailer, kinds}
+use Rattle.meaning.specs.Table.{Kind, header, street, streetXref, blpu, appXref, lpi, metadata, trailer, kinds, Role, headerLine, bodyLine, metadataLine, trailerLine}
+use Rattle.meaning.specs.Holding.{isHeld}
 
 -- p holds of each
-abbrev pub Each : (Kind → Bool) → List Kind → Type 0
-Each p [] = Unit {0}
-Each p (k ∷ ks) = T (p k) × Each p ks
+abbrev EachKind : (Kind → Bool) → List Kind → Type 0
+EachKind p [] = Unit {0}
+EachKind p (k ∷ ks) = T (p k) × EachKind p ks
 
 -- a test of all, taken apart
-all-each : (p : Kind → Bool) (ks : List Kind) → T (all p ks) → Each p ks
+all-each : (p : Kind → Bool) (ks : List Kind) → T (all p ks) → EachKind p ks
 all-each p [] t = tt
 all-each p (k ∷ ks) t = (and-l (p k) (all p ks) t, all-each p ks (and-r (p k) (all p ks) t))
 
@@ -21,7 +24,7 @@ pub every : (p : Kind → Bool) → T (all p kinds) → (k : Kind) → T (p k)
 unfolding kinds
 every p t k = go (all-each p kinds t) k
   where
-    go : Each p kinds → (k : Kind) → T (p k)
+    go : EachKind p kinds → (k : Kind) → T (p k)
     go h header = h .0
     go h street = h .1 .0
     go h streetXref = h .1 .1 .0
@@ -30,3 +33,46 @@ every p t k = go (all-each p kinds t) k
     go h lpi = h .1 .1 .1 .1 .1 .0
     go h metadata = h .1 .1 .1 .1 .1 .1 .0
     go h trailer = h .1 .1 .1 .1 .1 .1 .1 .0
+
+-- ---- roles
+
+-- roles in the order of a file
+abbrev rank : Role → ℕ
+rank headerLine = 0
+rank bodyLine = 1
+rank metadataLine = 2
+rank trailerLine = 3
+
+abbrev ranked : ℕ → Role
+ranked zero = headerLine
+ranked (suc zero) = bodyLine
+ranked (suc (suc zero)) = metadataLine
+ranked (suc (suc (suc n))) = trailerLine
+
+rank-back : (o : Role) → ranked (rank o) ≡ o
+rank-back headerLine = refl
+rank-back bodyLine = refl
+rank-back metadataLine = refl
+rank-back trailerLine = refl
+
+-- a line has that role
+unfoldable pub isRole : Role → Role → Bool
+isRole o r = eqb (rank o) (rank r)
+
+-- a role is itself
+pub role-refl : (o : Role) → T (isRole o o)
+unfolding isRole
+role-refl o = eqb-refl (rank o)
+
+-- roles that pass for one another are equal
+pub is-role : (o r : Role) → T (isRole o r) → r ≡ o
+unfolding isRole
+is-role o r t = sym (rank-back r) ∙ ap ranked (sym (eqb→eq (rank o) (rank r) t)) ∙ rank-back o
+
+-- held kinds are body lines
+pub held-role : (o : Role) → T (isHeld o) → o ≡ bodyLine
+unfolding isHeld
+held-role headerLine t = absurd t
+held-role bodyLine t = refl
+held-role metadataLine t = absurd t
+held-role trailerLine t = absurd t

@@ -6,10 +6,12 @@ use Prim.Native.Nat.{ℕ, zero, suc, _+_, _-_, _*_, _/_, _%_, _^_, _≤_, _<_}
 use native.Mathlib.Omega.{arith}
 use native.Mathlib.Numerals.{add-one}
 use native.Mathlib.Decide.{decLe}
-use native.Mathlib.Nat.{lt-of-not-le, le-refl}
-use lib.Dec.{T, ltb, lt→ltb}
+use native.Mathlib.Nat.{lt-of-not-le, le-refl, mod-lt}
+use lib.Dec.{T, ltb, lt→ltb, lit<}
 use lib.Arith.{le→nltb}
 use lib.ListN.{length, length-append}
+use Rattle.base.specs.Lists.{all}
+use Rattle.base.specs.ListLaws.{all-snoc}
 use Rattle.theory.specs.Decimal.{one-more, widthF, width, digits, dec, valueF, value}
 
 -- ---- the width
@@ -55,6 +57,14 @@ width-big n h = widthF-same n (suc n) n (le-refl n) (omega arith) ∙ widthF-big
 pub width-pos : (n : ℕ) → 0 < width n
 width-pos n = split 10 n (λ h. rw (width-big n h) (omega arith)) (λ h. rw (width-small n h) (omega arith))
 
+width-step : (n k : ℕ) → (10 ≤ n → width (n / 10) ≤ k) → width n ≤ suc k
+width-step n k f = split 10 n (λ h. rw (width-big n h) (omega (arith, f h))) (λ h. rw (width-small n h) (omega arith))
+
+-- a number below 10,000 has at most four digits
+pub width-four : (n : ℕ) → n < 10000 → width n ≤ 4
+width-four n h =
+    width-step n 3 (λ a. width-step (n / 10) 2 (λ b. width-step (n / 10 / 10) 1 (λ c. rw (width-small (n / 10 / 10 / 10) (omega arith)) (omega arith))))
+
 -- ---- the digits
 
 length-digits : (k n : ℕ) → length (digits k n) ≡ k
@@ -65,6 +75,15 @@ length-digits (suc k) n = length-append (digits k (n / 10)) ((48 + n % 10) ∷ [
 pub length-dec : (n : ℕ) → length (dec n) ≡ width n
 unfolding dec
 length-dec n = length-digits (width n) n
+
+digits-all : (p : ℕ → Bool) → ((d : ℕ) → d < 10 → T (p (48 + d))) → (k n : ℕ) → T (all p (digits k n))
+digits-all p h zero n = tt
+digits-all p h (suc k) n = all-snoc p (digits k (n / 10)) (48 + n % 10) (digits-all p h k (n / 10)) (h (n % 10) (mod-lt n (lit< tt)))
+
+-- a test that every digit's byte passes is passed by every byte of a number
+pub dec-all : (p : ℕ → Bool) → ((d : ℕ) → d < 10 → T (p (48 + d))) → (n : ℕ) → T (all p (dec n))
+unfolding dec
+dec-all p h n = digits-all p h (width n) n
 
 -- ---- the value
 

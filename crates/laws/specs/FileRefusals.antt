@@ -1,34 +1,20 @@
--- The shape of a refusal of the file check, as paper 01's table has it: the code's line and field.
-use mathlib.Core.Path.{_≡_, refl, sym, ap, _∙_, subst}
+-- What each refusal of the file check looks like, as paper 01's table has it: its code is 1 to 9, and its field is the code's.
+use mathlib.Core.Path.{_≡_, refl}
 use mathlib.Core.Bool.{Bool, true, false, not, _&&_, _||_}
 use mathlib.Core.Option.{Option, none, some}
-use mathlib.Core.List.{List, [], _∷_, _++_}
-use Prim.Native.Nat.{ℕ, zero, suc, _+_, _≤_, _<_}
+use mathlib.Core.List.{List, [], _∷_}
+use Prim.Native.Nat.{ℕ, suc}
 use native.Mathlib.Omega.{arith}
 use lib.Dec.{T, leb, eqb, le→leb}
-use lib.ListN.{length}
-use mir.Facts.{yes-eqb}
-use Rattle.base.specs.Tests.{and-in}
-use Rattle.theory.specs.Decimal.{value}
-use Rattle.theory.specs.Answer.{Read, fault, file}
 use Rattle.base.specs.Lists.{pick, ask}
-use Rattle.laws.specs.Kinds.{every}
-use Rattle.meaning.specs.Lines.{Line, linesOf, endsWell, identifier, fieldsOf, hasFields}
-use Rattle.meaning.specs.Table.{Kind, kinds, kindOf, Role, headerLine, bodyLine, metadataLine, trailerLine, role, Field, fields, named, placeFrom, startDate, endDate, proOrder, recordCount}
-use Rattle.meaning.specs.Sound.{Fault, soundField, forms, datesAgree, fieldFault, formFault}
-use Rattle.meaning.specs.File.{Place, next, hasRoom, countFault, Judged, bad, good, lineFault, verdict, judgeKind, judgeText, judgeLine, Sheet, adds, bodyAfter, atStart, inBody, afterMetadata, afterTrailer, atEnd, onLine, readFrom, readFile}
+use Rattle.theory.specs.Answer.{Read, fault, file}
+use Rattle.meaning.specs.Lines.{fieldsOf, identifier, Line, linesOf, endsWell}
+use Rattle.meaning.specs.Table.{Kind, kinds, Role, headerLine, bodyLine, metadataLine, trailerLine, role, Field, fields, kindOf, placeFrom, proOrder, recordCount, endDate}
+use Rattle.meaning.specs.Sound.{Fault, soundField, forms, fieldFault, formFault}
+use Rattle.meaning.specs.File.{Place, next, countFault, Judged, bad, good, lineFault, verdict, judgeKind, judgeText, judgeLine, Sheet, adds, bodyAfter, atStart, inBody, afterMetadata, afterTrailer, atEnd, onLine, readFrom, readFile}
+use Rattle.laws.specs.Kinds.{every, isRole}
 
-abbrev isBody : Role → Bool
-isBody headerLine = false
-isBody bodyLine = true
-isBody metadataLine = false
-isBody trailerLine = false
-
-abbrev isLast : Role → Bool
-isLast headerLine = false
-isLast bodyLine = false
-isLast metadataLine = false
-isLast trailerLine = true
+-- ---- the shape of a fault
 
 -- END_DATE's own number in each kind, 0 where a kind has none
 unfoldable pub endNumber : ℕ → Bool
@@ -47,7 +33,8 @@ shaped f =
     || ((eqb (f .0) 8 && eqb (f .1) 3)
     || (eqb (f .0) 9 && eqb (f .1) 0))))))))
 
-abbrev pub Shaped : Option Fault → Type 0
+-- a fault, where there is one, has that shape
+abbrev Shaped : Option Fault → Type 0
 Shaped none = Unit {0}
 Shaped (some f) = T (shaped f)
 
@@ -55,6 +42,8 @@ ask-shaped : (b : Bool) (f : Fault) (rest : Option Fault) → T (shaped f) → S
 unfolding ask
 ask-shaped true f rest p r = r
 ask-shaped false f rest p r = p
+
+-- ---- of a line
 
 five : (n : ℕ) → T (shaped (5, suc n))
 unfolding shaped
@@ -75,29 +64,30 @@ unfolding kinds shaped endNumber placeFrom fields
 six-shaped k = every (λ k. shaped (6, placeFrom 1 endDate (fields k))) tt k
 
 seven-shaped : (k : Kind) → role k ≡ bodyLine → T (shaped (7, placeFrom 1 proOrder (fields k)))
-unfolding kinds shaped placeFrom fields role
-seven-shaped k e = rw e at (every (λ k. not (isBody (role k)) || shaped (7, placeFrom 1 proOrder (fields k))) tt k)
+unfolding kinds shaped placeFrom fields role isRole
+seven-shaped k e = rw e at (every (λ k. not (isRole bodyLine (role k)) || shaped (7, placeFrom 1 proOrder (fields k))) tt k)
 
 eight-shaped : (k : Kind) → role k ≡ trailerLine → T (shaped (8, placeFrom 1 recordCount (fields k)))
-unfolding kinds shaped placeFrom fields role
-eight-shaped k e = rw e at (every (λ k. not (isLast (role k)) || shaped (8, placeFrom 1 recordCount (fields k))) tt k)
+unfolding kinds shaped placeFrom fields role isRole
+eight-shaped k e = rw e at (every (λ k. not (isRole trailerLine (role k)) || shaped (8, placeFrom 1 recordCount (fields k))) tt k)
 
 count-shaped : (o : Role) (n : ℕ) (k : Kind) (t : List ℕ) → role k ≡ o → Shaped (countFault o n k t)
 unfolding countFault
 count-shaped headerLine n k t e = tt
-count-shaped bodyLine n k t e = ask-shaped (eqb (value (named proOrder (fields k) (fieldsOf t))) (suc n)) (7, placeFrom 1 proOrder (fields k)) none (seven-shaped k e) tt
+count-shaped bodyLine n k t e = ask-shaped _ (7, placeFrom 1 proOrder (fields k)) none (seven-shaped k e) tt
 count-shaped metadataLine n k t e = tt
-count-shaped trailerLine n k t e = ask-shaped (eqb (value (named recordCount (fields k) (fieldsOf t))) n) (8, placeFrom 1 recordCount (fields k)) none (eight-shaped k e) tt
+count-shaped trailerLine n k t e = ask-shaped _ (8, placeFrom 1 recordCount (fields k)) none (eight-shaped k e) tt
 
 line-shaped : (k : Kind) (n : ℕ) (t : List ℕ) → Shaped (lineFault k n t)
-unfolding lineFault formFault fieldFault
+unfolding lineFault formFault fieldFault shaped
 line-shaped k n t =
-    ask-shaped (hasRoom (role k) n) (9, 0) _ (unfold shaped in tt)
-    (ask-shaped (hasFields (length (fields k)) t) (4, 0) _ (unfold shaped in tt)
+    ask-shaped _ (9, 0) _ tt
+    (ask-shaped _ (4, 0) _ tt
     (forms-shaped 0 (fields k) (fieldsOf t) _
-    (ask-shaped (datesAgree (named startDate (fields k) (fieldsOf t)) (named endDate (fields k) (fieldsOf t))) (6, placeFrom 1 endDate (fields k)) _ (six-shaped k) (count-shaped (role k) n k t refl))))
+    (ask-shaped _ (6, placeFrom 1 endDate (fields k)) _ (six-shaped k) (count-shaped (role k) n k t refl))))
 
-abbrev pub BadShaped : Judged → Type 0
+-- the same of the judgement of a line
+abbrev BadShaped : Judged → Type 0
 BadShaped (bad f) = T (shaped f)
 BadShaped (good k p) = Unit {0}
 
@@ -121,6 +111,9 @@ judge-shaped p n l = ended (endsWell l)
     ended true = kinded (kindOf (identifier (l .text)))
     ended false = tt
 
+-- ---- of a file
+
+-- the same of what is read
 abbrev pub ReadShaped : Read Sheet → Type 0
 ReadShaped (fault c l f) = T (shaped (c, f))
 ReadShaped (file s) = Unit {0}
@@ -130,7 +123,8 @@ unfolding adds
 adds-shaped o k t (fault c l f) i = i
 adds-shaped o k t (file s) i = tt
 
-on-shaped : (i : ℕ) (t : List ℕ) (go : Kind → Place → Read Sheet) → ((k : Kind) (q : Place) → ReadShaped (go k q)) → (j : Judged) → BadShaped j → ReadShaped (onLine i t j go)
+on-shaped : (i : ℕ) (t : List ℕ) (go : Kind → Place → Read Sheet) → ((k : Kind) (q : Place) → ReadShaped (go k q))
+    → (j : Judged) → BadShaped j → ReadShaped (onLine i t j go)
 unfolding onLine
 on-shaped i t go h (bad f) b = b
 on-shaped i t go h (good k q) b = adds-shaped (role k) k t (go k q) (h k q)
@@ -141,9 +135,49 @@ read-shaped i atStart n [] = tt
 read-shaped i inBody n [] = tt
 read-shaped i afterMetadata n [] = tt
 read-shaped i afterTrailer n [] = tt
-read-shaped i p n (l ∷ ls) = on-shaped i (l .text) (λ k q. readFrom (suc i) q (bodyAfter (role k) n) ls) (λ k q. read-shaped (suc i) q (bodyAfter (role k) n) ls) (judgeLine p n l) (judge-shaped p n l)
+read-shaped i p n (l ∷ ls) =
+    on-shaped i (l .text) (λ k q. readFrom (suc i) q (bodyAfter (role k) n) ls) (λ k q. read-shaped (suc i) q (bodyAfter (role k) n) ls)
+    (judgeLine p n l) (judge-shaped p n l)
 
 -- every refusal of the file check has its code's field
 pub file-shape : (b : List ℕ) → ReadShaped (readFile b)
 unfolding readFile
 file-shape b = read-shaped 1 atStart 0 (linesOf b)
+
+-- ---- and so its code is one of 1 to 9
+
+-- a code is one of those listed
+unfoldable pub among : ℕ → List ℕ → Bool
+among c [] = false
+among c (x ∷ xs) = eqb c x || among c xs
+
+-- the codes of the file check
+abbrev pub fileCodes : List ℕ
+fileCodes = 1 ∷ 2 ∷ 3 ∷ 4 ∷ 5 ∷ 6 ∷ 7 ∷ 8 ∷ 9 ∷ []
+
+shaped-among : (c f : ℕ) → T (shaped (c, f)) → T (among c fileCodes)
+unfolding shaped among
+shaped-among c f =
+    or (eqb c 1) (eqb f 0) _ _ (or (eqb c 2) (eqb f 1) _ _ (or (eqb c 3) (eqb f 0) _ _ (or (eqb c 4) (eqb f 0) _ _ (or (eqb c 5) (leb 1 f) _ _
+    (or (eqb c 6) (endNumber f) _ _ (or (eqb c 7) (eqb f 3) _ _ (or (eqb c 8) (eqb f 3) _ _ (nine (eqb c 9) (eqb f 0)))))))))
+  where
+    or : (a x b d : Bool) → (T b → T d) → T ((a && x) || b) → T (a || d)
+    or true x b d i t = tt
+    or false x b d i t = i t
+
+    nine : (a x : Bool) → T (a && x) → T (a || false)
+    nine true x t = tt
+    nine false x t = t
+
+-- a fault that is read has one of those codes
+abbrev pub ReadIn : Read Sheet → Type 0
+ReadIn (fault c l f) = T (among c fileCodes)
+ReadIn (file s) = Unit {0}
+
+-- the file check refuses with 1 to 9
+pub file-codes : (b : List ℕ) → ReadIn (readFile b)
+file-codes b = go (readFile b) (file-shape b)
+  where
+    go : (r : Read Sheet) → ReadShaped r → ReadIn r
+    go (fault c l f) s = shaped-among c f s
+    go (file s) i = tt

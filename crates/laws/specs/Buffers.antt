@@ -1,0 +1,63 @@
+-- What stands in the buffers afterwards, and how long they are; and that any two outcomes that meet a statement are equal.
+use mathlib.Core.Path.{_≡_, refl, sym, ap, _∙_, subst}
+use mathlib.Core.Bool.{Bool, true, false}
+use mathlib.Core.List.{List}
+use Prim.Native.Nat.{ℕ, zero, suc, _≤_, _-_}
+use native.Mathlib.Omega.{arith}
+use lib.Dec.{T, leb}
+use lib.ListN.{length, length-append}
+use Rattle.base.specs.Lists.{pick, zeros}
+use Rattle.theory.specs.Answer.{Answer, took, refused}
+use Rattle.meaning.specs.Load.{load, undoBytes, filled, applied, apply, Undone, undone, undoFile}
+use Rattle.laws.specs.FileRefusals.{among}
+use Rattle.laws.specs.LoadRefusals.{loadCodes, AnswerIn, load-in}
+use Rattle.laws.specs.Takes.{TookSays, took-takes, new-fits}
+
+-- the work buffer is all zeros afterwards, whatever happens
+pub work-zeros : (old b : List ℕ) (out space : ℕ) → undoFile old b out space .work ≡ zeros space
+unfolding undoFile undone
+work-zeros old b out space = go (load space old b)
+  where
+    either : (c : Bool) (x y : Undone) → x .work ≡ zeros space → y .work ≡ zeros space → pick c x y .work ≡ zeros space
+    either true x y p q = p
+    either false x y p q = q
+
+    go : (x : Answer) → undone out space (undoBytes old b) x .work ≡ zeros space
+    go (took n i u d) = either (leb (length (undoBytes old b)) out) _ _ refl refl
+    go (refused c l f) = refl
+
+-- where undo answers 0 its output is the undo's bytes, then zeros
+pub undo-output : (old b : List ℕ) (out space : ℕ) → undoFile old b out space .answer .code ≡ 0 → undoFile old b out space .output ≡ filled out (undoBytes old b)
+unfolding undoFile undone
+undo-output old b out space e = go (load space old b) (load-in space old b) e
+  where
+    fit : (c : Bool) (x y : Undone) (w : List ℕ) → x .output ≡ w → y .answer .code ≡ 17 → pick c x y .answer .code ≡ 0 → pick c x y .output ≡ w
+    fit true x y w p q e = p
+    fit false x y w p q e = absurd (omega (arith, e, q))
+
+    go : (x : Answer) → AnswerIn x → undone out space (undoBytes old b) x .answer .code ≡ 0 → undone out space (undoBytes old b) x .output ≡ filled out (undoBytes old b)
+    go (took new i u d) n e = fit (leb (length (undoBytes old b)) out) _ _ _ refl refl e
+    go (refused c l f) n e = absurd (unfold among in subst (λ z. T (among z loadCodes)) e n)
+
+length-zeros : (n : ℕ) → length (zeros n) ≡ n
+unfolding zeros
+length-zeros zero = refl
+length-zeros (suc n) = ap suc (length-zeros n)
+
+-- bytes that fit, then zeros, are as long as the buffer
+pub filled-length : (room : ℕ) (b : List ℕ) → length b ≤ room → length (filled room b) ≡ room
+unfolding filled
+filled-length room b h = length-append b (zeros (room - length b)) ∙ rw (length-zeros (room - length b)) (omega arith)
+
+-- the output of apply is as long as the buffer that was lent
+pub apply-length : (old b : List ℕ) (room : ℕ) → length (apply old b room .output) ≡ room
+unfolding apply applied
+apply-length old b room = go (load room old b) (took-takes room old b)
+  where
+    go : (x : Answer) → TookSays room old b x → length (applied room x .output) ≡ room
+    go (took new i u d) t = filled-length room new (new-fits room old b new t)
+    go (refused c l f) t = length-zeros room
+
+-- any two outcomes that meet a statement are equal
+pub one-outcome : {X : Type 0} (f x y : X) → x ≡ f → y ≡ f → x ≡ y
+one-outcome f x y p q = p ∙ sym q

@@ -1,0 +1,172 @@
+-- Demand 2: a file is taken exactly if the holding is sound and every line and step is allowed; what apply leaves then, and when it refuses.
+use mathlib.Core.Path.{_≡_, refl, ap, subst}
+use mathlib.Core.Bool.{true}
+use mathlib.Core.Option.{none}
+use mathlib.Core.List.{List, [], _∷_, _++_}
+use Prim.Native.Nat.{ℕ}
+use lib.Dec.{T, leb}
+use lib.ListN.{length}
+use Rattle.base.specs.Lists.{zeros}
+use Rattle.base.specs.Tests.{and-in, and-l, and-r}
+use Rattle.theory.specs.Store.{get}
+use Rattle.theory.specs.Refs.{met}
+use Rattle.theory.specs.Step.{ins, upd, del, Change, allowed, at, after, judge}
+use Rattle.theory.specs.Trail.{final, Each, Through}
+use Rattle.theory.specs.Run.{Taken, Good, last, free}
+use Rattle.theory.specs.Limits.{few}
+use Rattle.theory.specs.Answer.{Answer, took, refused, count}
+use Rattle.theory.specs.StepLaws.{judge-ok, ok-judge}
+use Rattle.theory.specs.RunLaws.{frame, get-final, good-through}
+use Rattle.meaning.specs.Records.{Rec, keyed, refsOf}
+use Rattle.meaning.specs.File.{Frame}
+use Rattle.meaning.specs.Holding.{readHolding, written}
+use Rattle.meaning.specs.Load.{fits, load, six, filled, applied, apply}
+use Rattle.laws.specs.HoldingReadBack.{always, heldRecords}
+use Rattle.laws.specs.SoundHolding.{SoundHolding, held-sound, sound-held, held-is-sound}
+use Rattle.laws.specs.SoundFile.{SoundFile, sound-read, read-sound}
+use Rattle.laws.specs.FileRefusals.{among}
+use Rattle.laws.specs.LoadRefusals.{loadCodes, AnswerIn, load-in}
+use Rattle.laws.specs.Takes.{late, Takes, taken, TookSays, took-takes, good-old, new-held}
+
+-- ---- steps, without running them
+
+-- a step is allowed: insert needs its key absent, update and delete need it present; and afterwards there are at most 8,192 records, every reference is met,
+-- and the holding is not longer than its buffer
+pub record StepAllowed (room : ℕ) (st : List Rec) (c : Change Rec) : Type 0 where
+  pub keyed? : T (allowed (c .op) (get keyed (at keyed c) st))
+  pub fewRecords : T (few (after keyed st c))
+  pub references : T (met keyed refsOf (after keyed st c))
+  pub roomy : T (fits room (after keyed st c))
+
+-- each step is allowed where the steps before it lead
+abbrev pub StepsAllowed : ℕ → List Rec → List (Change Rec) → Type 0
+StepsAllowed room = Each (after keyed) (StepAllowed room)
+
+allowed-ok : (room : ℕ) (st : List Rec) (c : Change Rec) → StepAllowed room st c → judge keyed (always ++ late room) st c ≡ none
+unfolding fits
+allowed-ok room st c s =
+    let st2 = after keyed st c in
+    let r = and-in (leb (length (written st2)) room) true (s .roomy) tt in
+    judge-ok keyed (always ++ late room) st c (s .keyed?) (and-in (few st2) _ (s .fewRecords) (and-in (met keyed refsOf st2) _ (s .references) r))
+
+ok-allowed : (room : ℕ) (st : List Rec) (c : Change Rec) → judge keyed (always ++ late room) st c ≡ none → StepAllowed room st c
+unfolding fits
+ok-allowed room st c e =
+    let st2 = after keyed st c in
+    let a = ok-judge keyed (always ++ late room) st c e in
+    let q = and-r (few st2) _ (a .1) in
+    let r = and-r (met keyed refsOf st2) _ q in
+    record {
+      keyed? = a .0;
+      fewRecords = and-l (few st2) _ (a .1);
+      references = and-l (met keyed refsOf st2) _ q;
+      roomy = and-l (leb (length (written st2)) room) true r;
+    }
+
+steps-ok : (room : ℕ) (st : List Rec) (cs : List (Change Rec)) → StepsAllowed room st cs → Taken keyed (always ++ late room) st cs
+steps-ok room st [] s = tt
+steps-ok room st (c ∷ cs) s = (allowed-ok room st c (s .0), steps-ok room (after keyed st c) cs (s .1))
+
+ok-steps : (room : ℕ) (st : List Rec) (cs : List (Change Rec)) → Taken keyed (always ++ late room) st cs → StepsAllowed room st cs
+ok-steps room st [] s = tt
+ok-steps room st (c ∷ cs) s = (ok-allowed room st c (s .0), ok-steps room (after keyed st c) cs (s .1))
+
+-- ---- taken exactly if all is allowed
+
+-- everything is allowed: the holding is sound, every line of the file is allowed at its place, there is room at the start, and every step is allowed
+pub record Allowed (old b : List ℕ) (room : ℕ) : Type 0 where
+  pub st : List Rec
+  pub fr : Frame
+  pub cs : List (Change Rec)
+  pub held : SoundHolding old st
+  pub lines : SoundFile b fr cs
+  pub starts : T (fits room st)
+  pub steps : StepsAllowed room st cs
+
+-- the records afterwards
+abbrev pub afterAll : {old b : List ℕ} {room : ℕ} → Allowed old b room → List Rec
+afterAll a = final (after keyed) (a .st) (a .cs)
+
+-- where all is allowed the file is taken
+pub allowed-takes : (old b : List ℕ) (room : ℕ) (a : Allowed old b room) → Takes room old b (written (afterAll a))
+unfolding heldRecords fits
+allowed-takes old b room a = record {
+  st = a .st;
+  fr = a .fr;
+  cs = a .cs;
+  held = ap heldRecords (sound-held old (a .st) (a .held));
+  read = sound-read b (a .fr) (a .cs) (a .lines);
+  starts = and-in (leb (length (written (a .st))) room) true (a .starts) tt;
+  takes = steps-ok room (a .st) (a .cs) (a .steps);
+  made = refl;
+}
+
+-- and where the file is taken all is allowed
+pub takes-allowed : (old b new : List ℕ) (room : ℕ) → Takes room old b new → Allowed old b room
+unfolding fits
+takes-allowed old b new room a = record {
+  st = a .st;
+  fr = a .fr;
+  cs = a .cs;
+  held = held-is-sound old (a .st) (held-sound old (a .st) (readHolding old) (a .held));
+  lines = read-sound b (a .fr) (a .cs) (a .read);
+  starts = and-l (leb (length (written (a .st))) room) true (a .starts);
+  steps = ok-steps room (a .st) (a .cs) (a .takes);
+}
+
+-- where all is allowed: 0, the counts of the body lines, and the new holding, then zeros
+pub allowed-done : (old b : List ℕ) (room : ℕ) (a : Allowed old b room)
+    → apply old b room ≡ record { answer = six 0 0 0 (count ins (a .cs)) (count upd (a .cs)) (count del (a .cs)); output = filled room (written (afterAll a)) }
+unfolding allowed-takes
+allowed-done old b room a = taken room old b (written (afterAll a)) (allowed-takes old b room a)
+
+-- the answer is 0 only where all is allowed
+pub done-allowed : (old b : List ℕ) (room : ℕ) → apply old b room .answer .code ≡ 0 → Allowed old b room
+unfolding apply applied
+done-allowed old b room e = go (load room old b) (took-takes room old b) (load-in room old b) e
+  where
+    go : (x : Answer) → TookSays room old b x → AnswerIn x → applied room x .answer .code ≡ 0 → Allowed old b room
+    go (took new i u d) t n e = takes-allowed old b new room t
+    go (refused c l f) t n e = absurd (unfold among in subst (λ z. T (among z loadCodes)) e n)
+
+-- a file is taken exactly if every line is allowed at its place and every step is allowed
+pub taken-exactly : (old b : List ℕ) (room : ℕ) → (apply old b room .answer .code ≡ 0 → Allowed old b room) × (Allowed old b room → apply old b room .answer .code ≡ 0)
+taken-exactly old b room = (done-allowed old b room, λ a. ap (λ x. x .answer .code) (allowed-done old b room a))
+
+-- a refusal leaves zeros, and the three counts are 0
+pub refused-zeros : (old b : List ℕ) (room : ℕ) → (apply old b room .answer .code ≡ 0 → ⊥)
+    → (apply old b room .output ≡ zeros room) × (apply old b room .answer .inserts ≡ 0) × (apply old b room .answer .updates ≡ 0) × (apply old b room .answer .deletes ≡ 0)
+unfolding apply applied
+refused-zeros old b room n = go (load room old b) n
+  where
+    go : (x : Answer) → (applied room x .answer .code ≡ 0 → ⊥)
+        → (applied room x .output ≡ zeros room) × (applied room x .answer .inserts ≡ 0) × (applied room x .answer .updates ≡ 0) × (applied room x .answer .deletes ≡ 0)
+    go (took new i u d) n = absurd (n refl)
+    go (refused c l f) n = (refl, refl, refl, refl)
+
+-- ---- what follows for the new holding
+
+module _ (old b : List ℕ) (room : ℕ) (a : Allowed old b room) where
+  -- the file is taken
+  abbrev pub takes : Takes room old b (written (afterAll a))
+  takes = allowed-takes old b room a
+
+  -- at every state of the run each key stands once and in order, every reference is met, and there is room
+  pub at-every-state : Through (after keyed) (Good keyed (always ++ late room)) (a .st) (a .cs)
+  unfolding allowed-takes
+  at-every-state = good-through keyed (always ++ late room) (a .st) (a .cs) (good-old room old b (written (afterAll a)) takes) (takes .takes)
+
+  -- at a key stands what the last line naming it says
+  pub last-line : (k : List ℕ) → get keyed k (afterAll a) ≡ last keyed k (a .cs) (get keyed k (a .st))
+  last-line k = get-final keyed k (a .st) (a .cs) (a .held .ascending)
+
+  -- a key that no line names keeps its content byte for byte
+  pub unnamed : (k : List ℕ) → T (free keyed k (a .cs)) → get keyed k (afterAll a) ≡ get keyed k (a .st)
+  unnamed k f = frame keyed k (a .st) (a .cs) (a .held .ascending) f
+
+  -- the new holding is sound
+  pub new-sound : SoundHolding (written (afterAll a)) (afterAll a)
+  unfolding allowed-takes
+  new-sound =
+      let new = written (afterAll a) in
+      held-is-sound new (afterAll a) (held-sound new (afterAll a) (readHolding new) (new-held room old b new takes))

@@ -1,0 +1,193 @@
+-- Find, exactly: it answers 0 just where a sound holding has a record of that kind and number, and hands back that record's held line.
+use mathlib.Core.Path.{_≡_, refl, sym, ap, _∙_, subst}
+use mathlib.Core.Bool.{Bool, true, false, not}
+use mathlib.Core.Option.{Option, none, some}
+use mathlib.Core.List.{List, [], _∷_, _++_}
+use Prim.Native.Nat.{ℕ, suc, _+_, _<_}
+use native.Mathlib.Nat.{add-zero}
+use native.Mathlib.Numerals.{one-add}
+use native.Mathlib.Omega.{arith}
+use lib.Dec.{T, eqb, eqb→eq}
+use lib.ListN.{length, getD, take, drop}
+use Rattle.base.specs.ListLaws.{same-refl, same-eq}
+use Rattle.base.specs.Lists.{all, pick, same}
+use Rattle.base.specs.Tests.{and-in, and-l, and-r, some≢none, T-false}
+use Rattle.theory.specs.Tri.{Tri, lt, eq, gt, flip}
+use Rattle.theory.specs.Lex.{lex}
+use Rattle.theory.specs.Decimal.{value}
+use Rattle.theory.specs.Store.{get, Asc, Low, gets}
+use Rattle.theory.specs.Run.{inserts}
+use Rattle.theory.specs.LexLaws.{lex-order}
+use Rattle.theory.specs.StoreLaws.{low-down}
+use Rattle.meaning.specs.Lines.{linesOf}
+use Rattle.meaning.specs.Table.{Kind, ident, enquiries, numberedAmong}
+use Rattle.meaning.specs.Records.{Rec, changeText, keyed, changeTexts, keyOf}
+use Rattle.meaning.specs.Holding.{Held, sound, unsound, readHolding}
+use Rattle.meaning.specs.Load.{three}
+use Rattle.meaning.specs.Enquiries.{Found, first, refusal, partOf, heldAt, heldPart, findIn, findKind, find}
+use Rattle.laws.specs.LinesAndFields.{ends, endsAll}
+use Rattle.laws.specs.HoldingReadBack.{insertOf}
+use Rattle.laws.specs.SoundHolding.{SoundHolding, sound-held, held-is-sound}
+use Rattle.laws.specs.LinePart.{noLine, part-is}
+
+-- ---- where a key stands among records
+
+-- nowhere, or at a record with that key
+abbrev StandsAt : List ℕ → ℕ → List Rec → Option ℕ → Type 0
+StandsAt q i st none = T (all (λ r. not (same q (keyOf r))) st)
+StandsAt q i st (some j) = (pre : List Rec) × (r : Rec) × (post : List Rec) × (st ≡ pre ++ (r ∷ post)) × (j ≡ i + length pre) × (q ≡ keyOf r)
+
+stands-cons : (q : List ℕ) (i : ℕ) (x : Rec) (st : List Rec) → T (not (same q (keyOf x))) → (o : Option ℕ) → StandsAt q (suc i) st o → StandsAt q i (x ∷ st) o
+stands-cons q i x st n none s = and-in (not (same q (keyOf x))) _ n s
+stands-cons q i x st n (some j) s = (x ∷ s .0, s .1, s .2, ap (λ l. x ∷ l) (s .3), omega (arith, s .4), s .5)
+
+stands : (q : List ℕ) (i : ℕ) (st : List Rec) → StandsAt q i st (heldAt q i st)
+unfolding heldAt
+stands q i [] = tt
+stands q i (r ∷ rs) = go (same q (keyOf r)) refl (stands q (suc i) rs)
+  where
+    go : (c : Bool) → same q (keyOf r) ≡ c → StandsAt q (suc i) rs (heldAt q (suc i) rs) → StandsAt q i (r ∷ rs) (pick c (some i) (heldAt q (suc i) rs))
+    go true e h = ([], r, rs, refl, omega arith, same-eq q (keyOf r) (rw e tt))
+    go false e h = stands-cons q i r rs (rw e tt) (heldAt q (suc i) rs) h
+
+get-absent : (q : List ℕ) (st : List Rec) → T (all (λ r. not (same q (keyOf r))) st) → get keyed q st ≡ none
+unfolding get
+get-absent q [] t = refl
+get-absent q (r ∷ rs) t = go (lex q (keyOf r)) refl (get-absent q rs (and-r (not (same q (keyOf r))) _ t))
+  where
+    differs : same q (keyOf r) ≡ false
+    differs = T-false (same q (keyOf r)) (and-l (not (same q (keyOf r))) _ t)
+
+    go : (c : Tri) → lex q (keyOf r) ≡ c → get keyed q rs ≡ none → gets keyed c r (get keyed q rs) ≡ none
+    go lt e i = refl
+    go eq e i = absurd (subst T differs (subst (λ x. T (same q x)) (lex-order .equal q (keyOf r) e) (same-refl q)))
+    go gt e i = i
+
+low-all : (k : List ℕ) (pre : List Rec) (r : Rec) (post : List Rec) → Low keyed k (pre ++ (r ∷ post)) → Asc keyed (pre ++ (r ∷ post)) → lex k (keyOf r) ≡ lt
+low-all k [] r post l a = l
+low-all k (x ∷ pre) r post l a = low-all k pre r post (low-down keyed k (keyOf x) (pre ++ (r ∷ post)) l (a .0)) (a .1)
+
+get-there : (pre : List Rec) (r : Rec) (post : List Rec) → Asc keyed (pre ++ (r ∷ post)) → get keyed (keyOf r) (pre ++ (r ∷ post)) ≡ some r
+unfolding get
+get-there [] r post a = rw (lex-order .same (keyOf r))
+get-there (x ∷ pre) r post a =
+    let t : lex (keyOf r) (keyOf x) ≡ gt = lex-order .turn (keyOf x) (keyOf r) ∙ ap flip (low-all (keyOf x) pre r post (a .0) (a .1)) in
+    rw t (get-there pre r post (a .1))
+
+-- the place that is found for a key is that of the record that stands at the key
+abbrev Looks : List ℕ → List Rec → Option ℕ → Type 0
+Looks q st none = get keyed q st ≡ none
+Looks q st (some i) = (pre : List Rec) × (r : Rec) × (post : List Rec) × (st ≡ pre ++ (r ∷ post)) × (i ≡ length pre) × (get keyed q st ≡ some r)
+
+held-looks : (q : List ℕ) (st : List Rec) → Asc keyed st → Looks q st (heldAt q 0 st)
+held-looks q st a = go (heldAt q 0 st) (stands q 0 st)
+  where
+    go : (o : Option ℕ) → StandsAt q 0 st o → Looks q st o
+    go none s = get-absent q st s
+    go (some i) s =
+        (s .0, s .1, s .2, s .3, omega (arith, s .4), rw (s .5, s .3) (get-there (s .0) (s .1) (s .2) (subst (Asc keyed) (s .3) a)))
+
+-- ---- the bytes at a record's place are its held line
+
+line-at : (n : ℕ) (pre : List Rec) (r : Rec) (post : List Rec)
+    → getD (endsAll (changeTexts n (inserts (pre ++ (r ∷ post))))) (length pre) noLine ≡ ends (changeText (n + length pre) (insertOf r))
+unfolding changeTexts
+line-at n [] r post = rw (add-zero n)
+line-at n (x ∷ pre) r post = line-at (suc n) pre r post ∙ ap (λ m. ends (changeText m (insertOf r))) (shift n (length pre))
+  where
+    shift : (n m : ℕ) → suc n + m ≡ n + suc m
+    shift n m = omega arith
+
+line-there : (n : ℕ) (pre : List Rec) (r : Rec) (post : List Rec) → length pre < length (endsAll (changeTexts n (inserts (pre ++ (r ∷ post)))))
+unfolding changeTexts
+line-there n [] r post = omega arith
+line-there n (x ∷ pre) r post = omega (arith, line-there (suc n) pre r post)
+
+place-line : (old : List ℕ) (st pre : List Rec) (r : Rec) (post : List Rec) (i : ℕ) → SoundHolding old st → st ≡ pre ++ (r ∷ post) → i ≡ length pre
+    → take (partOf first (linesOf old) i .size) (drop (partOf first (linesOf old) i .start) old) ≡ changeText (suc i) (insertOf r)
+place-line old st pre r post i h e d =
+    let ls = linesOf old in
+    let l : ls ≡ endsAll (changeTexts 1 (inserts (pre ++ (r ∷ post)))) = h .lines ∙ ap (λ x. endsAll (changeTexts 1 (inserts x))) e in
+    let t : length pre < length ls = subst (λ x. length pre < length x) (sym l) (line-there 1 pre r post) in
+    let a : getD ls (length pre) noLine ≡ ends (changeText (1 + length pre) (insertOf r)) = ap (λ x. getD x (length pre) noLine) l ∙ line-at 1 pre r post in
+    rw d (part-is first old (length pre) t ∙ ap (λ x. x .text) a ∙ ap (λ m. changeText m (insertOf r)) (one-add (length pre)))
+
+-- ---- find
+
+-- what find says of a sound holding: no record has the key; or the part handed back is the held line of the record that has it, without CR LF
+abbrev pub FindSays : List ℕ → List ℕ → List Rec → Option ℕ → Type 0
+FindSays old q st none = T (all (λ r. not (same q (keyOf r))) st)
+FindSays old q st (some i) =
+    (r : Rec)
+    × (q ≡ keyOf r)
+    × (take (heldPart old (some i) .size) (drop (heldPart old (some i) .start) old) ≡ changeText (suc i) (insertOf r))
+    × (heldPart old (some i) .answer ≡ three 0 0 0)
+
+-- and that is so of every key
+pub find-says : (old q : List ℕ) (st : List Rec) → SoundHolding old st → FindSays old q st (heldAt q 0 st)
+unfolding heldPart
+find-says old q st h = go (heldAt q 0 st) (stands q 0 st)
+  where
+    go : (o : Option ℕ) → StandsAt q 0 st o → FindSays old q st o
+    go none s = s
+    go (some i) s = (s .1, s .5, place-line old st (s .0) (s .1) (s .2) i h (s .3) (omega (arith, s .4)), unfold partOf in refl)
+
+-- the kind that an enquiry's number names has that identifier
+abbrev EnquiredIs : ℕ → Option Kind → Type 0
+EnquiredIs n none = Unit {0}
+EnquiredIs n (some k) = value (ident k) ≡ n
+
+enquired-is : (ks : List Kind) (n : ℕ) → EnquiredIs n (numberedAmong ks n)
+unfolding numberedAmong
+enquired-is [] n = tt
+enquired-is (k ∷ ks) n = go (eqb n (value (ident k))) refl (enquired-is ks n)
+  where
+    go : (c : Bool) → eqb n (value (ident k)) ≡ c → EnquiredIs n (numberedAmong ks n) → EnquiredIs n (pick c (some k) (numberedAmong ks n))
+    go true e i = sym (eqb→eq n (value (ident k)) (rw e tt))
+    go false e i = i
+
+-- a record of that kind and number is held, and f hands back its line
+pub record FoundIt (old : List ℕ) (kind n : ℕ) (f : Found) : Type 0 where
+  pub st : List Rec
+  pub rec : Rec
+  pub number : ℕ
+  pub held : SoundHolding old st
+  pub looks : get keyed (kind ∷ n ∷ []) st ≡ some rec
+  pub bytes : take (f .size) (drop (f .start) old) ≡ changeText number (insertOf rec)
+
+-- where find answers 0 such a record is held, and its line is handed back
+pub find-finds : (old : List ℕ) (kind n : ℕ) → find old kind n .answer .code ≡ 0 → FoundIt old kind n (find old kind n)
+unfolding find findKind findIn heldPart refusal
+find-finds old kind n e = asked (numberedAmong enquiries kind) (enquired-is enquiries kind) e
+  where
+    looked : (q : List ℕ) (st : List Rec) → q ≡ kind ∷ n ∷ [] → SoundHolding old st → (o : Option ℕ) → Looks q st o → heldPart old o .answer .code ≡ 0
+        → FoundIt old kind n (heldPart old o)
+    looked q st d h none l e = absurd (omega (arith, e))
+    looked q st d h (some i) l e = record {
+      st = st;
+      rec = l .1;
+      number = suc i;
+      held = h;
+      looks = subst (λ x. get keyed x st ≡ some (l .1)) d (l .5);
+      bytes = place-line old st (l .0) (l .1) (l .2) i h (l .3) (l .4);
+    }
+
+    held : (q : List ℕ) → q ≡ kind ∷ n ∷ [] → (h : Held) → readHolding old ≡ h → findIn old q h .answer .code ≡ 0 → FoundIt old kind n (findIn old q h)
+    held q d (unsound m) r e = absurd (omega (arith, e))
+    held q d (sound st) r e = let s = held-is-sound old st r in looked q st d s (heldAt q 0 st) (held-looks q st (s .ascending)) e
+
+    asked : (o : Option Kind) → EnquiredIs kind o → findKind old n o .answer .code ≡ 0 → FoundIt old kind n (findKind old n o)
+    asked none i e = absurd (omega (arith, e))
+    asked (some k) i e = held (value (ident k) ∷ n ∷ []) (ap (λ x. x ∷ n ∷ []) i) (readHolding old) refl e
+
+-- and where such a record is held, it is found
+pub finds-find : (old : List ℕ) (k : Kind) (kind n : ℕ) (st : List Rec) (r : Rec) → numberedAmong enquiries kind ≡ some k → SoundHolding old st
+    → get keyed (kind ∷ n ∷ []) st ≡ some r → find old kind n .answer ≡ three 0 0 0
+unfolding find findKind findIn
+finds-find old k kind n st r e h g =
+    let i : value (ident k) ≡ kind = subst (EnquiredIs kind) e (enquired-is enquiries kind) in
+    rw (e, i, sound-held old st h) (go (heldAt (kind ∷ n ∷ []) 0 st) (held-looks (kind ∷ n ∷ []) st (h .ascending)))
+  where
+    go : (o : Option ℕ) → Looks (kind ∷ n ∷ []) st o → heldPart old o .answer ≡ three 0 0 0
+    go none l = absurd (some≢none (sym g ∙ l))
+    go (some j) l = unfold heldPart partOf in refl

@@ -1,0 +1,101 @@
+-- Paper 01, 'Order': in the file check, nothing after the first faulty line changes the answer; and past sound body lines the check goes on as if from there.
+use mathlib.Core.Path.{_≡_, refl, sym, ap, subst}
+use mathlib.Core.List.{List, [], _∷_, _++_}
+use Prim.Native.Nat.{ℕ, suc, _+_, _≤_, _<_}
+use native.Mathlib.Nat.{add-zero}
+use native.Mathlib.Omega.{arith}
+use lib.ListN.{length}
+use Rattle.theory.specs.Step.{Change}
+use Rattle.theory.specs.Answer.{Read, fault, file}
+use Rattle.meaning.specs.Lines.{Line, linesOf}
+use Rattle.meaning.specs.Table.{Kind, Role, bodyLine, role}
+use Rattle.meaning.specs.Records.{Rec}
+use Rattle.meaning.specs.File.{Place, Judged, bad, good, judgeLine, Sheet, adds, bodyAfter, atStart, inBody, afterMetadata, afterTrailer, atEnd, onLine, readFrom, readFile, mostBody}
+use Rattle.laws.specs.LinesAndFields.{ends, endsAll}
+use Rattle.laws.specs.SoundFile.{SaysChanges, body-accepted}
+
+-- ---- where a fault stands
+
+-- a fault stands at one of the lines, or at the line after the last
+abbrev pub FaultAt : ℕ → ℕ → Read Sheet → Type 0
+FaultAt i m (fault c l f) = (i ≤ l) × (l ≤ i + m)
+FaultAt i m (file s) = Unit {0}
+
+at-adds : (i m : ℕ) (o : Role) (k : Kind) (t : List ℕ) (r : Read Sheet) → FaultAt (suc i) m r → FaultAt i (suc m) (adds o k t r)
+unfolding adds
+at-adds i m o k t (fault c l f) h = (omega (arith, h .0), omega (arith, h .1))
+at-adds i m o k t (file s) h = tt
+
+at-line : (i m : ℕ) (t : List ℕ) (go : Kind → Place → Read Sheet) → ((k : Kind) (q : Place) → FaultAt (suc i) m (go k q)) → (j : Judged) → FaultAt i (suc m) (onLine i t j go)
+unfolding onLine
+at-line i m t go h (bad f) = (omega arith, omega arith)
+at-line i m t go h (good k q) = at-adds i m (role k) k t (go k q) (h k q)
+
+fault-at : (i : ℕ) (p : Place) (n : ℕ) (ls : List Line) → FaultAt i (length ls) (readFrom i p n ls)
+unfolding readFrom atEnd
+fault-at i atStart n [] = (omega arith, omega arith)
+fault-at i inBody n [] = (omega arith, omega arith)
+fault-at i afterMetadata n [] = (omega arith, omega arith)
+fault-at i afterTrailer n [] = tt
+fault-at i p n (l ∷ ls) =
+    at-line i (length ls) (l .text) (λ k q. readFrom (suc i) q (bodyAfter (role k) n) ls) (λ k q. fault-at (suc i) q (bodyAfter (role k) n) ls) (judgeLine p n l)
+
+-- a file's fault is at one of its lines, or at the line after its last
+pub file-fault-at : (b : List ℕ) → FaultAt 1 (length (linesOf b)) (readFile b)
+unfolding readFile
+file-fault-at b = fault-at 1 atStart 0 (linesOf b)
+
+-- ---- nothing after the first fault counts
+
+-- one read's fault before line i is the other's too
+abbrev pub SameFault : ℕ → Read Sheet → Read Sheet → Type 0
+SameFault i (fault c l f) s = l < i → s ≡ fault c l f
+SameFault i (file x) s = Unit {0}
+
+same-adds : (i : ℕ) (o : Role) (k : Kind) (t : List ℕ) (r s : Read Sheet) → SameFault i r s → SameFault i (adds o k t r) (adds o k t s)
+unfolding adds
+same-adds i o k t (fault c l f) s h = λ lt. ap (adds o k t) (h lt)
+same-adds i o k t (file x) s h = tt
+
+same-line : (i e : ℕ) (t : List ℕ) (go to : Kind → Place → Read Sheet) → ((k : Kind) (q : Place) → SameFault e (go k q) (to k q))
+    → (j : Judged) → SameFault e (onLine i t j go) (onLine i t j to)
+unfolding onLine
+same-line i e t go to h (bad f) = λ lt. refl
+same-line i e t go to h (good k q) = same-adds e (role k) k t (go k q) (to k q) (h k q)
+
+early : (i : ℕ) (r s : Read Sheet) (m : ℕ) → FaultAt i m r → SameFault i r s
+early i (fault c l f) s m h = λ lt. absurd (omega (arith, h .0, lt))
+early i (file x) s m h = tt
+
+-- files that agree in their first lines have the same fault, where it is at one of those
+pub nothing-after : (i : ℕ) (p : Place) (n : ℕ) (ls ms ns : List Line) → SameFault (i + length ls) (readFrom i p n (ls ++ ms)) (readFrom i p n (ls ++ ns))
+unfolding readFrom
+nothing-after i p n [] ms ns =
+    let a = readFrom i p n ms in
+    let b = readFrom i p n ns in
+    subst (λ e. SameFault e a b) (sym (add-zero i)) (early i a b (length ms) (fault-at i p n ms))
+nothing-after i p n (l ∷ ls) ms ns =
+    let go : List Line → Kind → Place → Read Sheet = λ xs k q. readFrom (suc i) q (bodyAfter (role k) n) (ls ++ xs) in
+    let e : suc i + length ls ≡ i + suc (length ls) = omega arith in
+    same-line i (i + suc (length ls)) (l .text) (go ms) (go ns)
+    (λ k q. subst (λ e. SameFault e (go ms k q) (go ns k q)) e (nothing-after (suc i) q (bodyAfter (role k) n) ls ms ns)) (judgeLine p n l)
+
+-- ---- past sound body lines
+
+past-line : (i n : ℕ) (l : Line) (ls : List Line) (k : Kind) (c r f : ℕ) → judgeLine inBody n l ≡ good k inBody → role k ≡ bodyLine
+    → readFrom (suc i) inBody (suc n) ls ≡ fault c r f → readFrom i inBody n (l ∷ ls) ≡ fault c r f
+unfolding readFrom onLine adds bodyAfter
+past-line i n l ls k c r f e o h = rw (e, o, h)
+
+-- a fault after any run of sound body lines, at whatever line, is the file's fault: so what the 4,097th body line gets is what the line itself gets
+pub past-body : (i n : ℕ) (ts : List (List ℕ)) (cs : List (Change Rec)) (ls : List Line) (c r f : ℕ) → SaysChanges (suc n) ts cs → n + length cs ≤ mostBody
+    → readFrom (i + length cs) inBody (n + length cs) ls ≡ fault c r f → readFrom i inBody n (endsAll ts ++ ls) ≡ fault c r f
+past-body i n [] [] ls c r f w l h = rw (add-zero i, add-zero n) at h
+past-body i n [] (x ∷ cs) ls c r f w l h = absurd w
+past-body i n (t ∷ ts) [] ls c r f w l h = absurd w
+past-body i n (t ∷ ts) (x ∷ cs) ls c r f w l h =
+    let a = w .0 .line in
+    let d : i + length (x ∷ cs) ≡ suc i + length cs = omega arith in
+    let e : n + length (x ∷ cs) ≡ suc n + length cs = omega arith in
+    let rest = past-body (suc i) (suc n) ts cs ls c r f (w .1) (omega arith) (rw (d, e) at h) in
+    past-line i n (ends t) (endsAll ts ++ ls) (a .kind) c r f (body-accepted n t x (w .0) (omega arith)) (a .roles) rest

@@ -1,0 +1,124 @@
+-- Which codes apply refuses with: 14 for the holding, the file check's, and those of the steps; and at which line a step is refused.
+use mathlib.Core.Bool.{Bool, true, false, _||_}
+use mathlib.Core.Option.{Option, none, some}
+use mathlib.Core.List.{List, [], _∷_, _++_}
+use Prim.Native.Nat.{ℕ, suc, _+_, _≤_, _<_}
+use native.Mathlib.Omega.{arith}
+use lib.Dec.{T, eqb}
+use lib.ListN.{length}
+use Rattle.base.specs.Lists.{pick}
+use Rattle.theory.specs.Store.{get}
+use Rattle.theory.specs.Step.{Op, ins, upd, del, Change, Test, fails, need, allowed, codeOf, at, after, judge}
+use Rattle.theory.specs.Run.{Out, done, stop, on, run}
+use Rattle.theory.specs.Answer.{Read, fault, file, Answer, took, refused}
+use Rattle.meaning.specs.Records.{Rec, keyed}
+use Rattle.meaning.specs.File.{Sheet, readFile}
+use Rattle.meaning.specs.Holding.{Held, sound, unsound, readHolding}
+use Rattle.meaning.specs.Load.{fits, stepTests, outcome, fromStart, onFile, onHolding, load}
+use Rattle.laws.specs.FileRefusals.{among, fileCodes, ReadIn, file-codes}
+
+-- the codes of the steps, and 13 for the start
+abbrev pub stepCodes : List ℕ
+stepCodes = 10 ∷ 11 ∷ 16 ∷ 12 ∷ 13 ∷ []
+
+-- the codes of apply: the holding's, the file's, the steps'
+abbrev pub loadCodes : List ℕ
+loadCodes = 14 ∷ (fileCodes ++ stepCodes)
+
+among-l : (c : ℕ) (xs ys : List ℕ) → T (among c xs) → T (among c (xs ++ ys))
+unfolding among
+among-l c [] ys t = absurd t
+among-l c (x ∷ xs) ys t = go (eqb c x) t (λ u. among-l c xs ys u)
+  where
+    go : (b : Bool) → T (b || among c xs) → (T (among c xs) → T (among c (xs ++ ys))) → T (b || among c (xs ++ ys))
+    go true t i = tt
+    go false t i = i t
+
+among-r : (c : ℕ) (xs ys : List ℕ) → T (among c ys) → T (among c (xs ++ ys))
+unfolding among
+among-r c [] ys t = t
+among-r c (x ∷ xs) ys t = go (eqb c x) (among-r c xs ys t)
+  where
+    go : (b : Bool) → T (among c (xs ++ ys)) → T (b || among c (xs ++ ys))
+    go true i = tt
+    go false i = i
+
+-- ---- steps
+
+-- a step's code, where it is refused, is one of those
+abbrev CodeIn : Option ℕ → Type 0
+CodeIn none = Unit {0}
+CodeIn (some w) = T (among w stepCodes)
+
+need-in : (b : Bool) (w : ℕ) (rest : Option ℕ) → T (among w stepCodes) → CodeIn rest → CodeIn (need b w rest)
+unfolding need
+need-in true w rest p r = r
+need-in false w rest p r = p
+
+-- each test has one of those codes
+abbrev TestsIn : List (Test Rec) → Type 0
+TestsIn [] = Unit {0}
+TestsIn (t ∷ ts) = T (among (t .0) stepCodes) × TestsIn ts
+
+fails-in : (ts : List (Test Rec)) (st : List Rec) → TestsIn ts → CodeIn (fails ts st)
+unfolding fails
+fails-in [] st i = tt
+fails-in (t ∷ ts) st i = need-in (t .1 st) (t .0) (fails ts st) (i .0) (fails-in ts st (i .1))
+
+op-in : (o : Op) → T (among (codeOf o) stepCodes)
+unfolding among
+op-in ins = tt
+op-in upd = tt
+op-in del = tt
+
+step-in : (room : ℕ) (st : List Rec) (c : Change Rec) → CodeIn (judge keyed (stepTests room) st c)
+unfolding judge
+step-in room st c =
+    need-in (allowed (c .op) (get keyed (at keyed c) st)) (codeOf (c .op)) (fails (stepTests room) (after keyed st c)) (op-in (c .op))
+    (fails-in (stepTests room) (after keyed st c) (unfold stepTests among in (tt, (tt, (tt, tt)))))
+
+-- a run from line n on that stops does so at one of its m lines, with the code of a step
+abbrev pub OutIn : ℕ → ℕ → Out (List Rec) → Type 0
+OutIn n m (done st) = Unit {0}
+OutIn n m (stop l w) = T (among w stepCodes) × (n ≤ l) × (l < n + m)
+
+-- and that is so of every run
+pub run-in : (room n : ℕ) (st : List Rec) (cs : List (Change Rec)) → OutIn n (length cs) (run keyed (stepTests room) n st cs)
+unfolding run
+run-in room n st [] = tt
+run-in room n st (c ∷ cs) =
+    let st2 = after keyed st c in
+    go (judge keyed (stepTests room) st c) (step-in room st c) (run keyed (stepTests room) (suc n) st2 cs) (run-in room (suc n) st2 cs)
+  where
+    go : (o : Option ℕ) → CodeIn o → (r : Out (List Rec)) → OutIn (suc n) (length cs) r → OutIn n (length (c ∷ cs)) (on o n r)
+    go none i (done s) h = unfold on in tt
+    go none i (stop l w) h = unfold on in (h .0, omega (arith, h .1), omega (arith, h .2))
+    go (some w) i r h = unfold on in (i, omega arith, omega arith)
+
+-- ---- apply
+
+-- a refusal has one of the codes of apply
+abbrev pub AnswerIn : Answer → Type 0
+AnswerIn (took new i u d) = Unit {0}
+AnswerIn (refused c l f) = T (among c loadCodes)
+
+-- and that is so of every holding, file and buffer
+pub load-in : (room : ℕ) (old b : List ℕ) → AnswerIn (load room old b)
+unfolding load onHolding onFile fromStart outcome among
+load-in room old b = holds (readHolding old)
+  where
+    ran : (cs : List (Change Rec)) (o : Out (List Rec)) → OutIn 2 (length cs) o → AnswerIn (outcome cs o)
+    ran cs (done st) i = tt
+    ran cs (stop l w) i = among-r w (14 ∷ fileCodes) stepCodes (i .0)
+
+    starts : (c : Bool) (st : List Rec) (s : Sheet) → AnswerIn (pick c (outcome (s .1) (run keyed (stepTests room) 2 st (s .1))) (refused 13 0 0))
+    starts true st s = ran (s .1) (run keyed (stepTests room) 2 st (s .1)) (run-in room 2 st (s .1))
+    starts false st s = tt
+
+    files : (st : List Rec) (r : Read Sheet) → ReadIn r → AnswerIn (onFile room st r)
+    files st (fault c l f) i = among-r c (14 ∷ []) (fileCodes ++ stepCodes) (among-l c fileCodes stepCodes i)
+    files st (file s) i = starts (fits room st) st s
+
+    holds : (h : Held) → AnswerIn (onHolding room b h)
+    holds (unsound n) = tt
+    holds (sound st) = files st (readFile b) (file-codes b)
