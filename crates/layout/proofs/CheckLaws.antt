@@ -36,7 +36,7 @@ at-row : (rs : List Row) (k : ℕ) → k < length rs → drop k rs ≡ getD rs k
 at-row rs k h = rw (add-one, drop-cons rs k noRow)
 
 -- the fields left at an offset, where one is not the last
-fields-more : (t : List ℕ) (at e : ℕ) → e ≡ fieldEnd t at → at ≤ e → (e ≡ length t → ⊥) → e ≤ length t
+pub fields-more : (t : List ℕ) (at e : ℕ) → e ≡ fieldEnd t at → at ≤ e → (e ≡ length t → ⊥) → e ≤ length t
     → fieldsFrom false (drop at t) ≡ take (e - at) (drop at t) ∷ fieldsFrom false (drop (e + 1) t)
 fields-more t at e p a n l =
     let size : fieldLen false (drop at t) ≡ e - at = omega arith in
@@ -44,7 +44,7 @@ fields-more t at e p a n l =
     fields-at t at ∙ rw (size, lt-ltb (e - at) (length t - at) (omega arith), next)
 
 -- and where it is
-fields-last : (t : List ℕ) (at e : ℕ) → e ≡ fieldEnd t at → at ≤ e → e ≡ length t → fieldsFrom false (drop at t) ≡ take (e - at) (drop at t) ∷ []
+pub fields-last : (t : List ℕ) (at e : ℕ) → e ≡ fieldEnd t at → at ≤ e → e ≡ length t → fieldsFrom false (drop at t) ≡ take (e - at) (drop at t) ∷ []
 fields-last t at e p a q =
     let size : fieldLen false (drop at t) ≡ e - at = omega arith in
     fields-at t at ∙ rw (size, le-ltb (e - at) (length t - at) (omega arith))
@@ -155,7 +155,7 @@ dates-told (y ∷ s) (x ∷ e) o p b m n t q h = rw (← t, q) h
 pub ruleset dates = (needs, dates-no-end, dates-no-start, dates-told)
 
 -- a place is one of those counted
-place-from : (n : ℕ) (s : String) (ds : List Field) → (placeFrom n s ds ≡ 0 → ⊥) → n ≤ placeFrom n s ds
+pub place-from : (n : ℕ) (s : String) (ds : List Field) → (placeFrom n s ds ≡ 0 → ⊥) → n ≤ placeFrom n s ds
 unfolding placeFrom
 place-from n s [] h = absurd (h refl)
 place-from n s (d ∷ ds) h = go (eqt s (d .name)) h (place-from (suc n) s ds)
@@ -165,7 +165,7 @@ place-from n s (d ∷ ds) h = go (eqt s (d .name)) h (place-from (suc n) s ds)
     go false h ih = omega (arith, ih h)
 
 -- the field of a name is the one at its place
-named-at : (n : ℕ) (s : String) (ds : List Field) (fs : List (List ℕ)) → (placeFrom (suc n) s ds ≡ 0 → ⊥) → named s ds fs ≡ getD fs (placeFrom (suc n) s ds - suc n) []
+pub named-at : (n : ℕ) (s : String) (ds : List Field) (fs : List (List ℕ)) → (placeFrom (suc n) s ds ≡ 0 → ⊥) → named s ds fs ≡ getD fs (placeFrom (suc n) s ds - suc n) []
 unfolding named placeFrom
 named-at n s [] fs h = absurd (h refl)
 named-at n s (d ∷ ds) [] h = refl
@@ -220,12 +220,12 @@ pub ruleset kinddates = (needs, kind-no-start, kind-no-end, kind-dates)
 -- ---- a line's faults in order
 
 -- the meaning's questions, by what is answered
-fault-is : (kd : Kind) (t : List ℕ) → formFault kd t none
+pub fault-is : (kd : Kind) (t : List ℕ) (rest : Option meant.Fault) → formFault kd t rest
     ≡ ask (hasFields (length (fields kd)) t) (4, 0)
-    (pick (eqb (lowestBad 1 (map bare (fields kd)) (fieldsOf t)) 0) (ask (kindDates kd (fieldsOf t)) (6, placeFrom 1 endDate (fields kd)) none)
+    (pick (eqb (lowestBad 1 (map bare (fields kd)) (fieldsOf t)) 0) (ask (kindDates kd (fieldsOf t)) (6, placeFrom 1 endDate (fields kd)) rest)
     (some (5, lowestBad 1 (map bare (fields kd)) (fieldsOf t))))
 unfolding formFault fieldFault kindDates
-fault-is kd t = rw (forms-is 0 (fields kd) (fieldsOf t) (ask (datesAgree (named startDate (fields kd) (fieldsOf t)) (named endDate (fields kd) (fieldsOf t))) (6, placeFrom 1 endDate (fields kd)) none))
+fault-is kd t rest = rw (forms-is 0 (fields kd) (fieldsOf t) (ask (datesAgree (named startDate (fields kd) (fieldsOf t)) (named endDate (fields kd) (fieldsOf t))) (6, placeFrom 1 endDate (fields kd)) rest))
 
 module _ (kd : Kind) (t : List ℕ) (l : Layout) (e : l ≡ laidOut kd) where
   -- as many fields as the kind has
@@ -236,23 +236,23 @@ module _ (kd : Kind) (t : List ℕ) (l : Layout) (e : l ≡ laidOut kd) where
   -- 4 for their number
   pub fault-count : (a : Bool) → a ≡ hasFields (l .count) t → a ≡ false → record { code = 4; field = 0 } ≡ told (formFault kd t none)
   unfolding ask
-  fault-count a p f = rw (fault-is kd t, ← counted, sym p ∙ f)
+  fault-count a p f = rw (fault-is kd t none, ← counted, sym p ∙ f)
 
   module _ (a : Bool) (p : a ≡ hasFields (l .count) t) (f : a ≡ true) (n : ℕ) (q : n ≡ lowestBad 1 (map bare (fields kd)) (fieldsOf t)) where
     -- 5 for the lowest that is malformed
     pub fault-form : (n ≡ 0 → ⊥) → record { code = 5; field = n } ≡ told (formFault kd t none)
     unfolding ask
-    fault-form m = rw (fault-is kd t, ← counted, sym p ∙ f, ← q, ne-eqb n 0 m)
+    fault-form m = rw (fault-is kd t none, ← counted, sym p ∙ f, ← q, ne-eqb n 0 m)
 
     module _ (z : n ≡ 0) (b : Bool) (r : b ≡ kindDates kd (fieldsOf t)) where
       -- 6 for END_DATE before START_DATE
       pub fault-dates : b ≡ false → record { code = 6; field = l .end } ≡ told (formFault kd t none)
       unfolding ask laidOut
-      fault-dates g = let v : l .end ≡ placeFrom 1 endDate (fields kd) = ap (λ x. x .end) e in rw (fault-is kd t, ← counted, sym p ∙ f, ← q, eq-eqb n 0 z, sym r ∙ g, v)
+      fault-dates g = let v : l .end ≡ placeFrom 1 endDate (fields kd) = ap (λ x. x .end) e in rw (fault-is kd t none, ← counted, sym p ∙ f, ← q, eq-eqb n 0 z, sym r ∙ g, v)
 
       -- else none
       pub fault-none : b ≡ true → record { code = 0; field = 0 } ≡ told (formFault kd t none)
       unfolding ask
-      fault-none g = rw (fault-is kd t, ← counted, sym p ∙ f, ← q, eq-eqb n 0 z, sym r ∙ g)
+      fault-none g = rw (fault-is kd t none, ← counted, sym p ∙ f, ← q, eq-eqb n 0 z, sym r ∙ g)
 
 pub ruleset faults = (needs, not-true, not-false, fault-count, fault-form, fault-dates, fault-none)

@@ -1,19 +1,19 @@
 -- The laws of lines: by which the loops go, and how offsets stand to the lines that the meaning says.
-use mathlib.Core.Path.{_≡_, refl, _∙_, sym}
-use mathlib.Core.Bool.{Bool, true, false}
+use mathlib.Core.Path.{_≡_, refl, ap, _∙_, sym}
+use mathlib.Core.Bool.{Bool, true, false, not, _&&_}
 use mathlib.Core.List.{List, [], _∷_}
-use Prim.Native.Nat.{ℕ, suc, _+_, _≤_, _<_}
-use native.Mathlib.Nat.{suc-add}
+use Prim.Native.Nat.{ℕ, suc, _+_, _-_, _≤_, _<_}
+use native.Mathlib.Nat.{suc-add, add-zero}
 use native.Mathlib.Omega.{arith}
-use borrow.Author.Tests.{eq-eqb, ne-eqb, lt-ltb}
+use borrow.Author.Tests.{not-true, not-false, eq-eqb, ne-eqb, lt-ltb}
 use borrow.Author.Needs.{needs}
 use lib.Dec.{eqb, ltb, leb·suc-suc}
 use lib.ListN.{length, getD, drop, take, length-drop}
 use lib.Seq.{drop-drop}
-use Rattle.base.specs.Lists.{pick}
+use Rattle.base.specs.Lists.{all, pick}
 use Rattle.base.proofs.Walk.{at-cons, at-end}
-use Rattle.meaning.specs.Lines.{Line, grow, linesOf}
-use Rattle.text.specs.Places.{endsHere, lineLen, lineEnd}
+use Rattle.meaning.specs.Lines.{Line, grow, linesOf, plain, endsWell}
+use Rattle.text.specs.Places.{endsHere, lineLen, lineEnd, plainLen, plainEnd}
 
 -- ---- a CR LF at an index
 
@@ -111,3 +111,74 @@ lines-at s at h = lines-next (drop at s) (simp length-drop (omega arith)) ∙ rw
 pub lines-end : (s : List ℕ) (at : ℕ) → length s ≤ at → linesOf (drop at s) ≡ []
 unfolding linesOf
 lines-end s at h = rw (at-end s at h)
+
+-- ---- the walk over bytes that are neither CR nor LF, i bytes on
+
+-- a CR or LF ends it
+pub plain-stop : (s : List ℕ) (i x : ℕ) (b : Bool) → plainEnd s i ≡ x → i < length s → b ≡ plain (getD s i 0) → b ≡ false → i ≡ x
+unfolding plainLen
+plain-stop s i x b e h q t = sym (add-zero i) ∙ (rw (at-cons s i h, sym q ∙ t) at e)
+
+-- another byte is passed
+pub plain-turn : (s : List ℕ) (i x : ℕ) (b : Bool) → plainEnd s i ≡ x → i < length s → b ≡ plain (getD s i 0) → b ≡ true → plainEnd s (i + 1) ≡ x
+unfolding plainLen
+plain-turn s i x b e h q t = omega (arith, rw (at-cons s i h, sym q ∙ t) at e)
+
+-- so do the bytes' end
+pub plain-done : (s : List ℕ) (i x : ℕ) → plainEnd s i ≡ x → length s ≤ i → i ≡ x
+unfolding plainLen
+plain-done s i x e h = sym (add-zero i) ∙ (rw (at-end s i h) at e)
+
+pub ruleset plains = (needs, not-true, not-false, plain-stop, plain-turn, plain-done)
+
+-- ---- a line that ends well is one that its first CR or LF ends
+
+-- no CR LF begins with a plain byte
+plain-here : (x : ℕ) (r : List ℕ) → plain x ≡ true → endsHere (x ∷ r) ≡ false
+unfolding plain
+plain-here x [] p = refl
+plain-here x (y ∷ r) p = go (eqb x 13) p
+  where
+    go : (b : Bool) → (not b && not (eqb x 10)) ≡ true → (b && eqb y 10) ≡ false
+    go true q = let z : _≡_ {A = Bool} false true = q in cc
+    go false q = refl
+
+-- the first line ends well where a CR LF is the first CR or LF
+plain-ends : (s : List ℕ) → endsWell (firstLine s) ≡ endsHere (drop (plainLen s) s)
+unfolding lineLen plainLen endsWell
+plain-ends [] = refl
+plain-ends (x ∷ r) = go (plain x) refl (endsHere (x ∷ r)) refl (plain-ends r)
+  where
+    go : (b : Bool) → plain x ≡ b → (c : Bool) → endsHere (x ∷ r) ≡ c → endsWell (firstLine r) ≡ endsHere (drop (plainLen r) r) →
+        (ltb (pick c 0 (suc (lineLen r))) (suc (length r)) && all plain (take (pick c 0 (suc (lineLen r))) (x ∷ r))) ≡ endsHere (drop (pick b (suc (plainLen r)) 0) (x ∷ r))
+    go true p true q e = let z : _≡_ {A = Bool} true false = sym q ∙ plain-here x r p in cc
+    go true p false q e = rw (p, leb·suc-suc (suc (lineLen r)) (length r)) e
+    go false p true q e = rw (q, lt-ltb 0 (suc (length r)) (omega arith))
+    go false p false q e = rw (q, p) (none (ltb (suc (lineLen r)) (suc (length r))))
+      where
+        none : (b : Bool) → (b && false) ≡ false
+        none true = refl
+        none false = refl
+
+-- and then it ends there
+plain-length : (s : List ℕ) → endsHere (drop (plainLen s) s) ≡ true → lineLen s ≡ plainLen s
+unfolding lineLen plainLen
+plain-length [] h = refl
+plain-length (x ∷ r) h = go (plain x) refl h (plain-length r)
+  where
+    go : (b : Bool) → plain x ≡ b → endsHere (drop (pick b (suc (plainLen r)) 0) (x ∷ r)) ≡ true → (endsHere (drop (plainLen r) r) ≡ true → lineLen r ≡ plainLen r) →
+        pick (endsHere (x ∷ r)) 0 (suc (lineLen r)) ≡ pick b (suc (plainLen r)) 0
+    go true p q e = rw (plain-here x r p, e q)
+    go false p q e = rw q
+
+-- the byte after the plain ones, at an offset
+plain-at : (s : List ℕ) (at e : ℕ) → e ≡ plainEnd s at → drop (plainLen (drop at s)) (drop at s) ≡ drop e s
+plain-at s at e q = drop-drop (plainLen (drop at s)) at s ∙ rw q
+
+-- the line at an offset ends well where the first CR or LF after it is a CR LF
+pub ends-well-at : (s : List ℕ) (at e : ℕ) → e ≡ plainEnd s at → endsWell (firstLine (drop at s)) ≡ endsHere (drop e s)
+ends-well-at s at e q = plain-ends (drop at s) ∙ ap endsHere (plain-at s at e q)
+
+-- and then it ends there
+pub ends-there : (s : List ℕ) (at e : ℕ) → e ≡ plainEnd s at → endsHere (drop e s) ≡ true → lineLen (drop at s) ≡ e - at
+ends-there s at e q h = plain-length (drop at s) (ap endsHere (plain-at s at e q) ∙ h) ∙ omega arith

@@ -6,7 +6,7 @@ use mathlib.Core.Path.{_≡_}
 use lib.Dec.{eqb, ltb}
 use lib.ListN.{length, getD, take, drop}
 use Rattle.base.specs.Lists.{pick}
-use Rattle.meaning.specs.Lines.{isSep, turned, fieldsOf, oddQuotes, afterField}
+use Rattle.meaning.specs.Lines.{plain, isSep, turned, fieldsOf, oddQuotes, afterField}
 use Rattle.meaning.specs.Records.{contentOf}
 use Rattle.meaning.specs.Enquiries.{fieldsSpanned}
 
@@ -24,6 +24,15 @@ lineLen (x ∷ r) = pick (endsHere (x ∷ r)) 0 (suc (lineLen r))
 -- where the line that starts at `at` ends
 abbrev pub lineEnd : List ℕ → ℕ → ℕ
 lineEnd s at = at + lineLen (drop at s)
+
+-- how many bytes stand before the first CR or LF, or in all where there is none
+unfoldable pub plainLen : List ℕ → ℕ
+plainLen [] = 0
+plainLen (x ∷ r) = pick (plain x) (suc (plainLen r)) 0
+
+-- where the first CR or LF at or after `at` stands
+abbrev pub plainEnd : List ℕ → ℕ → ℕ
+plainEnd s at = at + plainLen (drop at s)
 
 -- how many fields a line has; 0 where its quotes are odd, since every line has a field
 unfoldable pub fieldCount : List ℕ → ℕ

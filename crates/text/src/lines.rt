@@ -4,7 +4,7 @@ ghost use Prim.Native.Nat.{_≤_};
 ghost use lib.ListN.{length, drop};
 ghost use Rattle.base.specs.Lists.{all};
 ghost use Rattle.meaning.specs.Lines.{plain};
-ghost use Rattle.text.specs.Places.{endsHere, lineEnd};
+ghost use Rattle.text.specs.Places.{endsHere, lineEnd, plainEnd};
 
 // Whether a CR LF stands at i.
 pub fn ends_at(s: &[u8], i: usize) -> bool
@@ -43,6 +43,21 @@ pub fn is_plain_byte(b: u8) -> bool
         return false;
     }
     b != 10
+}
+
+// Where the first CR or LF at or after `at` stands, or where the bytes end.
+pub fn plain_end(s: &[u8], at: usize) -> usize
+    requires { ⌜ at ≤ length (now s) ⌝ }
+    ensures { λ r. ⌜ (r ≡ plainEnd (now (s .entry)) at) × (at ≤ r) × (r ≤ length (now (s .entry))) ⌝ }
+{
+    let mut i = at;
+    while i < s.len() {
+        if !is_plain_byte(s[i]) {
+            return i;
+        }
+        i += 1;
+    }
+    i
 }
 
 // Whether a line holds no CR or LF.

@@ -1,10 +1,9 @@
 -- `text::fields::field_count` meets its contract.
-use Rattle.text.proofs.FieldLaws.{count}
+use Rattle.text.proofs.FieldLaws.{count, countAt}
 use mathlib.Core.Path.{_≡_}
 use Prim.Native.Nat.{_-_, _≤_}
 use lib.ListN.{length}
 use Rattle.text.specs.Places.{fieldCount}
-use Rattle.text.proofs.FieldLaws.{countAt}
 use Rattle.text.proofs.fields.field_count.Statement.{statement}
 use Rattle.text.proofs.fields.field_count.Tie as tie
 

@@ -1,0 +1,250 @@
+-- The laws of the walk over a file's lines: what is left of the file answers what the whole does.
+use mathlib.Core.Path.{_≡_, refl, sym, ap, _∙_}
+use mathlib.Core.Bool.{Bool, true, false}
+use mathlib.Core.Option.{Option, none, some}
+use mathlib.Core.List.{List, []}
+use Prim.Native.Nat.{ℕ, suc, _+_, _-_, _≤_, _<_}
+use native.Mathlib.Nat.{zero-add, add-zero, add-assoc}
+use native.Mathlib.Omega.{arith}
+use borrow.Author.Tests.{eq-eqb, ne-eqb}
+use lib.Dec.{eqb}
+use lib.ListN.{length, getD, take, drop}
+use Rattle.base.specs.Lists.{pick, ask}
+use Rattle.theory.specs.Decimal.{value}
+use Rattle.theory.specs.Step.{Op, ins, upd, del}
+use Rattle.theory.specs.Answer.{Read, fault, file, isOp, count}
+use Rattle.meaning.specs.Lines.{linesOf, identifier, fieldsOf, hasFields}
+use Rattle.meaning.specs.Table.{Kind, kindOf, Role, headerLine, bodyLine, metadataLine, trailerLine, role, fields, named, placeFrom, endDate, proOrder, recordCount}
+use Rattle.meaning.specs.Sound.{Fault}
+use Rattle.meaning.specs.Records.{opOf, changeOf}
+use Rattle.meaning.specs.File.{Place, atStart, next, hasRoom, countFault, Judged, bad, good, lineFault, verdict, judgeKind, judgeText, judgeLine, Sheet, addLine, adds, bodyAfter, onLine, readFrom, readFile}
+use Rattle.meaning.specs.Load.{six, checked, checkFile}
+use Rattle.text.specs.Places.{endsHere, lineLen, plainEnd}
+use Rattle.text.proofs.LineLaws.{lines-at, lines-end, ends-well-at, ends-there}
+use Rattle.layout.specs.declared.check.Fault.{Fault as FaultTold}
+use Rattle.layout.specs.Meant.{kindMeant}
+use Rattle.layout.specs.Check.{kindDates, told}
+use Rattle.layout.proofs.CheckLaws.{fault-is}
+use Rattle.volume.specs.declared.places.Place.{Place as PlaceNamed}
+use Rattle.volume.specs.declared.lines.Opened.{Opened}
+use Rattle.volume.specs.declared.lines.Line.{Line as Known}
+use Rattle.volume.specs.declared.walk.Walk.{Walk}
+use Rattle.volume.specs.declared.check.Answer.{Answer}
+use Rattle.volume.specs.Meant.{placeMeant, changeMeant}
+use Rattle.volume.specs.Judged.{opensAt, opensAs, opens, closes, judgedAs}
+use Rattle.volume.specs.Walk.{unwalked, tally, walkedOn, checkedFrom, leftOf, Within}
+use Rattle.volume.specs.Answer.{answerOf}
+use Rattle.volume.proofs.FieldLaws.{lowest}
+use Rattle.volume.proofs.WalkLaws.{within-on}
+
+-- ---- a line is judged before its fields, in its fields, and after them
+
+-- 5, then 6, 7 and 8, of a line that was opened
+abbrev fully : ℕ → List ℕ → Judged → Judged
+fully n t (bad f) = bad f
+fully n t (good k q) = verdict (pick (eqb (lowest k t) 0) (closes n k t) (some (5, lowest k t))) k q
+
+-- that is the meaning's judgement
+judge-is : (p : Place) (n : ℕ) (b : Bool) (t : List ℕ) → pick b (judgeText p n t (kindOf (identifier t))) (bad (1, 0)) ≡ fully n t (opens p n b t)
+unfolding opens opensAs opensAt judgeText judgeKind verdict lineFault closes ask
+judge-is p n false t = refl
+judge-is p n true t = kinded (kindOf (identifier t))
+  where
+    asked : (k : Kind) (q : Place) (r f : Bool) (rest : Option Fault)
+        → verdict (ask r (9, 0) (ask f (4, 0) rest)) k q ≡ pick r (pick f (verdict rest k q) (bad (4, 0))) (bad (9, 0))
+    asked k q true true rest = refl
+    asked k q true false rest = refl
+    asked k q false f rest = refl
+
+    opened : (k : Kind) (q : Place) (r f : Bool)
+        → pick r (pick f (verdict (pick (eqb (lowest k t) 0) (closes n k t) (some (5, lowest k t))) k q) (bad (4, 0))) (bad (9, 0))
+        ≡ fully n t (verdict (ask r (9, 0) (ask f (4, 0) none)) k q)
+    opened k q true true = refl
+    opened k q true false = refl
+    opened k q false f = refl
+
+    placed : (k : Kind) (o : Option Place) → judgeKind n t k o ≡ fully n t (opensAt n t k o)
+    placed k none = refl
+    placed k (some q) =
+        rw (fault-is k t (countFault (role k) n k t))
+        (asked k q (hasRoom (role k) n) (hasFields (length (fields k)) t) (pick (eqb (lowest k t) 0) (closes n k t) (some (5, lowest k t)))
+        ∙ opened k q (hasRoom (role k) n) (hasFields (length (fields k)) t))
+
+    kinded : (o : Option Kind) → judgeText p n t o ≡ fully n t (opensAs p n t o)
+    kinded none = refl
+    kinded (some k) = placed k (next p (role k))
+
+-- a line that was opened has as many fields as its kind
+opened-fields : (p : Place) (n : ℕ) (b : Bool) (t : List ℕ) (k : Kind) (q : Place) → good k q ≡ opens p n b t → hasFields (length (fields k)) t ≡ true
+unfolding opens opensAs opensAt verdict ask
+opened-fields p n false t k q e = let z : good k q ≡ bad (1, 0) = e in cc
+opened-fields p n true t k q e = kinded (kindOf (identifier t)) e
+  where
+    asked : (k′ : Kind) (q′ : Place) (r f : Bool) → good k q ≡ verdict (ask {A = Fault} r (9, 0) (ask {A = Fault} f (4, 0) none)) k′ q′ → f ≡ hasFields (length (fields k′)) t → hasFields (length (fields k)) t ≡ true
+    asked k′ q′ true true e h = let z : good k q ≡ good k′ q′ = e in cc
+    asked k′ q′ true false e h = let z : good k q ≡ bad (4, 0) = e in cc
+    asked k′ q′ false f e h = let z : good k q ≡ bad (9, 0) = e in cc
+
+    placed : (k′ : Kind) (o : Option Place) → good k q ≡ opensAt n t k′ o → hasFields (length (fields k)) t ≡ true
+    placed k′ none e = let z : good k q ≡ bad (3, 0) = e in cc
+    placed k′ (some q′) e = asked k′ q′ (hasRoom (role k′) n) (hasFields (length (fields k′)) t) e refl
+
+    kinded : (o : Option Kind) → good k q ≡ opensAs p n t o → hasFields (length (fields k)) t ≡ true
+    kinded none e = let z : good k q ≡ bad (2, 1) = e in cc
+    kinded (some k′) e = placed k′ (next p (role k′)) e
+
+-- ---- what is told of a line after its fields
+
+-- a fault has a code
+closes-told : (n : ℕ) (k : Kind) (t : List ℕ) → told (closes n k t) .code ≡ 0 → closes n k t ≡ none
+unfolding closes countFault ask
+closes-told n k t z = dated (kindDates k (fieldsOf t)) (role k) z
+  where
+    asked : (b : Bool) (c f : ℕ) → told (ask {A = Fault} b (suc c, f) none) .code ≡ 0 → ask {A = Fault} b (suc c, f) none ≡ none
+    asked true c f z = refl
+    asked false c f z = absurd (omega (arith, z))
+
+    dated : (b : Bool) (r : Role) → told (ask {A = Fault} b (6, placeFrom 1 endDate (fields k)) (countFault r n k t)) .code ≡ 0 → ask {A = Fault} b (6, placeFrom 1 endDate (fields k)) (countFault r n k t) ≡ none
+    dated false r z = absurd (omega (arith, z))
+    dated true headerLine z = refl
+    dated true bodyLine z = asked (eqb (value (named proOrder (fields k) (fieldsOf t))) (suc n)) 6 (placeFrom 1 proOrder (fields k)) z
+    dated true metadataLine z = refl
+    dated true trailerLine z = asked (eqb (value (named recordCount (fields k) (fieldsOf t))) n) 7 (placeFrom 1 recordCount (fields k)) z
+
+-- no code, no fault
+told-none : (n : ℕ) (k : Kind) (t : List ℕ) (f : FaultTold) → f ≡ told (closes n k t) → f .code ≡ 0 → closes n k t ≡ none
+told-none n k t f g z = closes-told n k t (ap (λ x. x .code) (sym g) ∙ z)
+
+-- a code, and the fault is told
+told-some : (o : Option Fault) (f : FaultTold) → f ≡ told o → (f .code ≡ 0 → ⊥) → o ≡ some (f .code, f .field)
+told-some none f g z = absurd (z (ap (λ x. x .code) g))
+told-some (some w) f g z = rw g
+
+-- ---- what is counted of a line
+
+-- a line that is put in front of what the lines after it say is counted before them
+counted-on : (w : Walk) (k : Kind) (t : List ℕ) (p : PlaceNamed) (r : Role) (s : Read Sheet)
+    → checkedFrom w (adds r k t s) ≡ checkedFrom (walkedOn w r (opOf (getD (fieldsOf t) 1 [])) p) s
+unfolding checkedFrom adds addLine walkedOn tally count changeOf
+counted-on w k t p r (fault c l f) = refl
+counted-on w k t p headerLine (file s) = rw (add-zero (w .inserts), add-zero (w .updates), add-zero (w .deletes))
+counted-on w k t p metadataLine (file s) = rw (add-zero (w .inserts), add-zero (w .updates), add-zero (w .deletes))
+counted-on w k t p trailerLine (file s) = rw (add-zero (w .inserts), add-zero (w .updates), add-zero (w .deletes))
+counted-on w k t p bodyLine (file s) =
+    rw (add-assoc (w .inserts) (isOp ins o) (count ins (s .1)), add-assoc (w .updates) (isOp upd o) (count upd (s .1)), add-assoc (w .deletes) (isOp del o) (count del (s .1)))
+  where
+    o : Op
+    o = opOf (getD (fieldsOf t) 1 [])
+
+-- before the first line nothing is counted
+counted-none : (s : Read Sheet) → checkedFrom unwalked s ≡ checked s
+unfolding checkedFrom checked
+counted-none (fault c l f) = refl
+counted-none (file s) = rw (zero-add (count ins (s .1)), zero-add (count upd (s .1)), zero-add (count del (s .1)))
+
+-- ---- the walk, at an offset
+
+-- what is left answers what the file does, and no number has passed the bytes that were read
+pub record Reading (s : List ℕ) (w : Walk) (at : ℕ) : Type 0 where
+  pub left : leftOf w (linesOf (drop at s)) ≡ checkFile s
+  pub within : Within w at
+  pub stands : at ≤ length s + 2
+
+-- it begins at the file's start
+pub read-start : (s : List ℕ) (w : Walk) → w ≡ unwalked → Reading s w 0
+unfolding leftOf checkFile readFile
+read-start s w e = rw e (record {
+  left = counted-none (readFrom 1 atStart 0 (linesOf s));
+  within = record { lines = omega arith; bodies = omega arith; insertsIn = omega arith; updatesIn = omega arith; deletesIn = omega arith };
+  stands = omega arith;
+})
+
+-- it ends where no line is left
+pub read-done : (s : List ℕ) (w : Walk) (at : ℕ) (r : Answer) → Reading s w at → length s ≤ at → r ≡ answerOf (leftOf w []) → r ≡ answerOf (checkFile s)
+read-done s w at r v h e = e ∙ ap answerOf (rw (lines-end s at h) at (v .left))
+
+module _ (s : List ℕ) (w : Walk) (at e : ℕ) (h : at < length s) (q : e ≡ plainEnd s at) where
+  -- the lines after this one
+  abbrev rest : Kind → Place → Read Sheet
+  rest k p = readFrom (suc (w .line)) p (bodyAfter (role k) (w .body)) (linesOf (drop (e + 2) s))
+
+  -- the line, as its bytes and its ending say
+  line-left : leftOf w (linesOf (drop at s))
+      ≡ checkedFrom w
+      (onLine (w .line) (take (e - at) (drop at s)) (fully (w .body) (take (e - at) (drop at s)) (opens (placeMeant (w .place)) (w .body) (endsHere (drop e s)) (take (e - at) (drop at s)))) rest)
+  unfolding leftOf readFrom judgeLine onLine
+  line-left =
+      rw (← judge-is (placeMeant (w .place)) (w .body) (endsHere (drop e s)) (take (e - at) (drop at s)), lines-at s at h, ends-well-at s at e q)
+      (go (endsHere (drop e s)) refl)
+    where
+      n : ℕ
+      n = lineLen (drop at s)
+
+      after : List ℕ → Judged
+      after t = judgeText (placeMeant (w .place)) (w .body) t (kindOf (identifier t))
+
+      go : (b : Bool) → endsHere (drop e s) ≡ b
+          → checkedFrom w (onLine (w .line) (take n (drop at s)) (pick b (after (take n (drop at s))) (bad (1, 0))) (λ k p. readFrom (suc (w .line)) p (bodyAfter (role k) (w .body)) (linesOf (drop (at + (n + 2)) s))))
+          ≡ checkedFrom w (onLine (w .line) (take (e - at) (drop at s)) (pick b (after (take (e - at) (drop at s))) (bad (1, 0))) rest)
+      go false f = refl
+      go true f =
+          let size : n ≡ e - at = ends-there s at e q f in
+          let next : at + (n + 2) ≡ e + 2 = omega (arith, size) in
+          rw (next, size)
+
+  module _ (v : Reading s w at) (b : Bool) (i : b ≡ endsHere (drop e s)) (o : Opened)
+      (j : judgedAs o ≡ opens (placeMeant (w .place)) (w .body) b (take (e - at) (drop at s))) where
+    -- the line, as it was opened
+    line-opened : checkFile s ≡ checkedFrom w (onLine (w .line) (take (e - at) (drop at s)) (fully (w .body) (take (e - at) (drop at s)) (judgedAs o)) rest)
+    line-opened = sym (v .left) ∙ line-left ∙ rw (j, i)
+
+    -- 1, 2, 3, 9 or 4 is the file's fault
+    pub read-opened : (r : Answer) → (o .code ≡ 0 → ⊥) → r ≡ answerOf (six (o .code) (w .line) (o .field) 0 0 0) → r ≡ answerOf (checkFile s)
+    unfolding onLine checkedFrom
+    read-opened r z g = g ∙ ap answerOf (sym (line-opened ∙ rw (ne-eqb (o .code) 0 z)))
+
+    module _ (z : o .code ≡ 0) where
+      -- a line without a fault so far
+      line-good : checkFile s
+          ≡ checkedFrom w
+          (onLine (w .line) (take (e - at) (drop at s))
+          (fully (w .body) (take (e - at) (drop at s)) (good (kindMeant (o .kind)) (placeMeant (o .place)))) rest)
+      line-good = line-opened ∙ rw (eq-eqb (o .code) 0 z)
+
+      -- it has as many fields as its kind
+      pub read-fields : hasFields (length (fields (kindMeant (o .kind)))) (take (e - at) (drop at s)) ≡ true
+      read-fields =
+          opened-fields (placeMeant (w .place)) (w .body) b (take (e - at) (drop at s)) (kindMeant (o .kind)) (placeMeant (o .place)) (rw (eq-eqb (o .code) 0 z) at j)
+
+      -- 5 is the file's fault
+      pub read-malformed : (r : Answer) (k n : ℕ) → k + 1 ≡ lowest (kindMeant (o .kind)) (take (e - at) (drop at s)) → n ≡ k + 1 → r ≡ answerOf (six 5 (w .line) n 0 0 0) → r ≡ answerOf (checkFile s)
+      unfolding onLine checkedFrom verdict
+      read-malformed r k n m d g = g ∙ ap answerOf (rw d (sym (line-good ∙ rw (← m, ne-eqb (k + 1) 0 (λ u. omega (arith, u))))))
+
+      module _ (y : 0 ≡ lowest (kindMeant (o .kind)) (take (e - at) (drop at s))) (f : FaultTold) (g : f ≡ told (closes (w .body) (kindMeant (o .kind)) (take (e - at) (drop at s)))) where
+        -- 6, 7 or 8 is the file's fault
+        pub read-closed : (r : Answer) → (f .code ≡ 0 → ⊥) → r ≡ answerOf (six (f .code) (w .line) (f .field) 0 0 0) → r ≡ answerOf (checkFile s)
+        unfolding onLine checkedFrom verdict
+        read-closed r m u =
+            u ∙ ap answerOf (sym (line-good ∙ rw (eq-eqb (lowest (kindMeant (o .kind)) (take (e - at) (drop at s))) 0 (sym y), told-some (closes (w .body) (kindMeant (o .kind)) (take (e - at) (drop at s))) f g m)))
+
+        -- a good line is passed
+        passed : f .code ≡ 0
+            → checkFile s
+            ≡ leftOf (walkedOn w (role (kindMeant (o .kind))) (opOf (getD (fieldsOf (take (e - at) (drop at s))) 1 [])) (o .place)) (linesOf (drop (e + 2) s))
+        unfolding onLine verdict leftOf walkedOn
+        passed m =
+            line-good
+            ∙ rw (eq-eqb (lowest (kindMeant (o .kind)) (take (e - at) (drop at s))) 0 (sym y), told-none (w .body) (kindMeant (o .kind)) (take (e - at) (drop at s)) f g m)
+            (counted-on w (kindMeant (o .kind)) (take (e - at) (drop at s)) (o .place) (role (kindMeant (o .kind))) (rest (kindMeant (o .kind)) (placeMeant (o .place))))
+
+        -- and the walk goes on after it
+        pub read-turn : f .code ≡ 0 → (l : Known) → l .kind ≡ o .kind → changeMeant (l .change) ≡ opOf (getD (fieldsOf (take (e - at) (drop at s))) 1 [])
+            → (u : Walk) → u ≡ walkedOn w (role (kindMeant (l .kind))) (changeMeant (l .change)) (o .place) → at ≤ e → e ≤ length s → Reading s u (e + 2)
+        read-turn m l k c u x a d =
+            let x′ : u ≡ walkedOn w (role (kindMeant (o .kind))) (opOf (getD (fieldsOf (take (e - at) (drop at s))) 1 [])) (o .place) = x ∙ rw (k, c) in
+            rw x′ (record {
+              left = sym (passed m);
+              within = within-on w (role (kindMeant (o .kind))) (opOf (getD (fieldsOf (take (e - at) (drop at s))) 1 [])) (o .place) at (e + 2) (v .within) (omega arith);
+              stands = omega arith;
+            })

@@ -1,0 +1,268 @@
+-- The laws of one line in its place: before its fields, and after them.
+use mathlib.Core.Path.{_≡_, refl, sym, _∙_}
+use mathlib.Core.Bool.{Bool, true, false, _&&_}
+use mathlib.Core.Option.{Option, none}
+use mathlib.Core.List.{List, [], _∷_, map}
+use Prim.Native.Nat.{ℕ, zero, suc, _+_, _-_, _≤_, _<_}
+use Prim.Native.String.{String}
+use native.Mathlib.Numerals.{add-one}
+use native.Mathlib.Omega.{arith}
+use borrow.Author.Needs.{needs}
+use borrow.Author.Tests.{not-true, not-false, ne-eqb}
+use lib.Dec.{T, eqb, ltb, leb, eqb→eq, ltb→lt, leb→le}
+use lib.ListN.{length, getD, take, drop}
+use Rattle.base.specs.Lists.{pick, ask, all, same, bytes}
+use Rattle.base.specs.Tests.{and-l, and-r}
+use Rattle.theory.specs.Step.{ins, upd, del}
+use Rattle.theory.specs.Decimal.{value}
+use Rattle.meaning.specs.Forms.{Form, number, atLeast1, decimal, date, time, text, changeType, xrefType, fileType, keyText, isNumber, hasForm, isTextual, isEmpty, isDigit, soundAs}
+use Rattle.meaning.specs.Lines.{identifier, fieldsOf, hasFields}
+use Rattle.meaning.specs.Table.{Kind, kinds, kindOf, Role, headerLine, bodyLine, metadataLine, trailerLine, role, fields, named, placeFrom, proOrder, recordCount}
+use Rattle.meaning.specs.Records.{letter, opOf}
+use Rattle.meaning.specs.File.{Place, afterTrailer, next, hasRoom, countFault, Judged, bad, good, verdict}
+use Rattle.laws.specs.Kinds.{every}
+use Rattle.text.proofs.FieldLaws.{identifier-part}
+use Rattle.layout.specs.declared.kinds.Kind.{Kind as Named}
+use Rattle.layout.specs.declared.kinds.KindFound.{KindFound}
+use Rattle.layout.specs.declared.kinds.KindFound.the-variants.{Known, Unknown}
+use Rattle.layout.specs.declared.kinds.Role.{Role as RoleNamed}
+use Rattle.layout.specs.declared.kinds.Role.the-variants.{HeaderLine, BodyLine, MetadataLine, TrailerLine}
+use Rattle.layout.specs.declared.records.Layout.{Layout}
+use Rattle.layout.specs.declared.check.Fault.{Fault as FaultTold}
+use Rattle.layout.specs.Meant.{kindMeant, kindFound, roleMeant, roleNamed}
+use Rattle.layout.specs.Rows.{Row, bare, noRow, rowOf, laidOut}
+use Rattle.layout.specs.Check.{lowestBad, kindDates, told}
+use Rattle.layout.proofs.CheckLaws.{named-at}
+use Rattle.volume.specs.declared.places.Place.{Place as PlaceNamed}
+use Rattle.volume.specs.declared.places.Place.the-variants.{AfterTrailer}
+use Rattle.volume.specs.declared.places.PlaceFound.{PlaceFound}
+use Rattle.volume.specs.declared.places.PlaceFound.the-variants.{At, Nowhere}
+use Rattle.volume.specs.declared.lines.Opened.{Opened}
+use Rattle.volume.specs.Meant.{placeMeant, placeFound}
+use Rattle.volume.specs.Judged.{opensAt, opensAs, opens, closes, judgedAs}
+
+-- ---- the place, the kind, the change and the number of a line
+
+-- after the trailer nothing may stand
+pub next-last : (p : PlaceNamed) (r : Role) → p ≡ AfterTrailer → none ≡ next (placeMeant p) r
+next-last p r e = rw e (go r)
+  where
+    go : (r : Role) → none ≡ next afterTrailer r
+    go headerLine = unfold next in refl
+    go bodyLine = unfold next in refl
+    go metadataLine = unfold next in refl
+    go trailerLine = unfold next in refl
+
+-- the kind is that of the bytes before the first comma
+pub kind-part : (t : List ℕ) (e : ℕ) (o : Option Kind) → e ≡ length (identifier t) → o ≡ kindOf (take (e - 0) (drop 0 t)) → o ≡ kindOf (identifier t)
+kind-part t e o p q = let z : e - 0 ≡ length (identifier t) = omega arith in q ∙ rw (z, identifier-part t)
+
+pub ruleset kindat = (needs, kind-part)
+
+module _ (f g : List ℕ) (a : Bool) (e : f ≡ g) (p : a ≡ same f (34 ∷ 73 ∷ 34 ∷ [])) where
+  -- an insert is written "I"
+  pub change-insert : a ≡ true → ins ≡ opOf g
+  unfolding opOf letter bytes
+  change-insert h = rw (← e, sym p ∙ h)
+
+  -- an update "U"
+  pub change-update : (b : Bool) → a ≡ false → b ≡ same f (34 ∷ 85 ∷ 34 ∷ []) → b ≡ true → upd ≡ opOf g
+  unfolding opOf letter bytes
+  change-update b h q k = rw (← e, sym p ∙ h, sym q ∙ k)
+
+  -- any other is a delete
+  pub change-delete : (b : Bool) → a ≡ false → b ≡ same f (34 ∷ 85 ∷ 34 ∷ []) → b ≡ false → del ≡ opOf g
+  unfolding opOf letter bytes
+  change-delete b h q k = rw (← e, sym p ∙ h, sym q ∙ k)
+
+pub ruleset changes = (needs, change-insert, change-update, change-delete)
+
+-- a field is as long as the field it is
+pub as-long : (f g : List ℕ) → f ≡ g → length g ≤ 16 → length f ≤ 16
+as-long f g e h = rw e h
+
+-- ---- where the number stands
+
+-- a number of at most 16 digits
+abbrev narrow : Form → Bool
+narrow (number w) = leb w 16
+narrow (atLeast1 w) = false
+narrow (decimal w d) = false
+narrow date = false
+narrow time = false
+narrow (text w) = false
+narrow changeType = false
+narrow xrefType = false
+narrow fileType = false
+narrow (keyText c) = false
+
+-- the field of that name is the third, a number of at most 16 digits
+abbrev thirdIs : String → Kind → Bool
+thirdIs s k = eqb (placeFrom 1 s (fields k)) 3 && (ltb 2 (length (map bare (fields k))) && narrow (rowOf k 2 .0))
+
+-- PRO_ORDER of a body line, RECORD_COUNT of the trailer
+abbrev numbered : Role → Kind → Bool
+numbered headerLine k = true
+numbered bodyLine k = thirdIs proOrder k
+numbered metadataLine k = true
+numbered trailerLine k = thirdIs recordCount k
+
+-- so it is in every kind
+third : (k : Kind) → T (numbered (role k) k)
+unfolding kinds role fields placeFrom rowOf
+third k = every (λ k. numbered (role k) k) tt k
+
+-- a sound number of at most 16 digits is no longer
+narrow-short : (m : Form) (b : Bool) (f : List ℕ) → T (narrow m) → soundAs m b f ≡ true → length f ≤ 16
+unfolding soundAs isEmpty isTextual same hasForm isNumber
+narrow-short (number w) b [] n s = omega arith
+narrow-short (number w) b (x ∷ f) n s =
+    let u : T (isNumber w (x ∷ f)) = rw s tt in
+    let t = and-r (leb 1 (length (x ∷ f))) (leb (length (x ∷ f)) w && all isDigit (x ∷ f)) u in
+    omega (arith, leb→le w 16 n, leb→le (length (x ∷ f)) w (and-l (leb (length (x ∷ f)) w) (all isDigit (x ∷ f)) t))
+narrow-short (atLeast1 w) b f n s = absurd n
+narrow-short (decimal w d) b f n s = absurd n
+narrow-short date b f n s = absurd n
+narrow-short time b f n s = absurd n
+narrow-short (text w) b f n s = absurd n
+narrow-short changeType b f n s = absurd n
+narrow-short xrefType b f n s = absurd n
+narrow-short fileType b f n s = absurd n
+narrow-short (keyText c) b f n s = absurd n
+
+-- where no field is malformed, such a field is no longer
+sound-short : (n : ℕ) (ds : List Row) (fs : List (List ℕ)) (i : ℕ) → 0 ≡ lowestBad (suc n) ds fs → i < length ds → T (narrow (getD ds i noRow .0)) → length (getD fs i []) ≤ 16
+unfolding lowestBad
+sound-short n [] fs i z h w = absurd (omega arith)
+sound-short n (d ∷ ds) [] i z h w = omega arith
+sound-short n (d ∷ ds) (f ∷ fs) i z h w = go (soundAs (d .0) (d .1) f) refl i h w z (sound-short (suc n) ds fs)
+  where
+    go : (b : Bool) → soundAs (d .0) (d .1) f ≡ b → (i : ℕ) → i < suc (length ds) → T (narrow (getD (d ∷ ds) i noRow .0)) → 0 ≡ pick b (lowestBad (suc (suc n)) ds fs) (suc n)
+        → ((i : ℕ) → 0 ≡ lowestBad (suc (suc n)) ds fs → i < length ds → T (narrow (getD ds i noRow .0)) → length (getD fs i []) ≤ 16) → length (getD (f ∷ fs) i []) ≤ 16
+    go false s i h w z ih = absurd (omega arith)
+    go true s zero h w z ih = narrow-short (d .0) (d .1) f w s
+    go true s (suc i) h w z ih = ih i z (omega arith) w
+
+-- the field of that name, its place, and its length
+third-is : (s : String) (k : Kind) (t : List ℕ) → T (thirdIs s k) → (placeFrom 1 s (fields k) ≡ 3) × (named s (fields k) (fieldsOf t) ≡ getD (fieldsOf t) 2 [])
+third-is s k t h =
+    let p : placeFrom 1 s (fields k) ≡ 3 = eqb→eq (placeFrom 1 s (fields k)) 3 (and-l (eqb (placeFrom 1 s (fields k)) 3) _ h) in
+    (p, named-at 0 s (fields k) (fieldsOf t) (λ z. omega (arith, p, z)) ∙ rw p)
+
+third-short : (s : String) (k : Kind) (t : List ℕ) → T (thirdIs s k) → 0 ≡ lowestBad 1 (map bare (fields k)) (fieldsOf t) → length (getD (fieldsOf t) 2 []) ≤ 16
+unfolding rowOf
+third-short s k t h z =
+    let r = and-r (eqb (placeFrom 1 s (fields k)) 3) _ h in
+    sound-short 0 (map bare (fields k)) (fieldsOf t) 2 z (ltb→lt 2 (length (map bare (fields k))) (and-l (ltb 2 (length (map bare (fields k)))) _ r)) (and-r (ltb 2 (length (map bare (fields k)))) _ r)
+
+-- ---- a line before its fields
+
+-- the role of a kind is the one that code names
+role-named : (r : Role) → roleMeant (roleNamed r) ≡ r
+role-named headerLine = refl
+role-named bodyLine = refl
+role-named metadataLine = refl
+role-named trailerLine = refl
+
+role-is : (k : Kind) (l : Layout) → l ≡ laidOut k → roleMeant (l .role) ≡ role k
+unfolding laidOut
+role-is k l e = rw e (role-named (role k))
+
+-- so it is known by the table's row
+pub role-of : (k : Kind) (l : Layout) (r : RoleNamed) → l ≡ laidOut k → l .role ≡ r → role k ≡ roleMeant r
+role-of k l r e h = sym (role-is k l e) ∙ rw h
+
+count-is : (k : Kind) (l : Layout) → l ≡ laidOut k → l .count ≡ length (fields k)
+unfolding laidOut
+count-is k l e = rw e
+
+-- a code that is not 0 is a fault
+refused-is : (o : Opened) (c f : ℕ) (j : Judged) → o .code ≡ suc c → o .field ≡ f → bad (suc c, f) ≡ j → judgedAs o ≡ j
+refused-is o c f j p q e = rw (p, q, ne-eqb (suc c) 0 (λ z. omega (arith, z))) e
+
+module _ (p : Place) (n : ℕ) (t : List ℕ) (b : Bool) where
+  -- 1
+  pub open-unended : (o : Opened) → o .code ≡ 1 → o .field ≡ 0 → b ≡ false → judgedAs o ≡ opens p n b t
+  unfolding opens
+  open-unended o c f e = refused-is o 0 0 (opens p n b t) c f (rw e)
+
+  module _ (e : b ≡ true) (kf : KindFound) (g : kindFound kf ≡ kindOf (identifier t)) where
+    -- 2
+    pub open-unknown : (o : Opened) → o .code ≡ 2 → o .field ≡ 1 → kf ≡ Unknown → judgedAs o ≡ opens p n b t
+    unfolding opens opensAs
+    open-unknown o c f u = refused-is o 1 1 (opens p n b t) c f (rw (e, ← g, u))
+
+    module _ (kind : Named) (h : kf ≡ Known kind) (l : Layout) (d : l ≡ laidOut (kindMeant kind)) (pf : PlaceFound) (y : placeFound pf ≡ next p (roleMeant (l .role))) where
+      -- a known kind is judged in its place
+      known : opens p n b t ≡ opensAt n t (kindMeant kind) (placeFound pf)
+      unfolding opens opensAs
+      known = rw (e, ← g, h, y, role-is (kindMeant kind) l d)
+
+      -- 3
+      pub open-nowhere : (o : Opened) → o .code ≡ 3 → o .field ≡ 0 → pf ≡ Nowhere → judgedAs o ≡ opens p n b t
+      unfolding opensAt
+      open-nowhere o c f u = refused-is o 2 0 (opens p n b t) c f (rw (known, u))
+
+      module _ (q : PlaceNamed) (z : pf ≡ At q) (r : Bool) (m : r ≡ hasRoom (roleMeant (l .role)) n) where
+        -- 9
+        pub open-full : (o : Opened) → o .code ≡ 9 → o .field ≡ 0 → r ≡ false → judgedAs o ≡ opens p n b t
+        unfolding opensAt ask verdict
+        open-full o c f u = refused-is o 8 0 (opens p n b t) c f (rw (known, z, ← role-is (kindMeant kind) l d, sym m ∙ u))
+
+        module _ (w : r ≡ true) (a : Bool) (i : a ≡ hasFields (l .count) t) where
+          -- 4
+          pub open-count : (o : Opened) → o .code ≡ 4 → o .field ≡ 0 → a ≡ false → judgedAs o ≡ opens p n b t
+          unfolding opensAt ask verdict
+          open-count o c f u = refused-is o 3 0 (opens p n b t) c f (rw (known, z, ← role-is (kindMeant kind) l d, sym m ∙ w, ← count-is (kindMeant kind) l d, sym i ∙ u))
+
+          -- else its fields are to be judged
+          pub open-good : a ≡ true → good (kindMeant kind) (placeMeant q) ≡ opens p n b t
+          unfolding opensAt ask verdict
+          open-good u = rw (known, z, ← role-is (kindMeant kind) l d, sym m ∙ w, ← count-is (kindMeant kind) l d, sym i ∙ u)
+
+pub ruleset opening = (needs, not-true, not-false, open-unended, open-unknown, open-nowhere, open-full, open-count, open-good)
+
+-- ---- a line after its fields
+
+module _ (k : Kind) (n : ℕ) (t : List ℕ) (l : Layout) (e : l ≡ laidOut k) where
+  -- a body line's number is no longer than 16 bytes
+  pub close-short : l .role ≡ BodyLine → 0 ≡ lowestBad 1 (map bare (fields k)) (fieldsOf t) → length (getD (fieldsOf t) 2 []) ≤ 16
+  close-short h z = third-short proOrder k t (rw (role-of k l BodyLine e h) at (third k)) z
+
+  -- nor a trailer's
+  pub close-short-last : l .role ≡ TrailerLine → 0 ≡ lowestBad 1 (map bare (fields k)) (fieldsOf t) → length (getD (fieldsOf t) 2 []) ≤ 16
+  close-short-last h z = third-short recordCount k t (rw (role-of k l TrailerLine e h) at (third k)) z
+
+  module _ (b : Bool) (r : b ≡ kindDates k (fieldsOf t)) where
+    -- 6
+    pub close-dates : b ≡ false → record { code = 6; field = l .end } ≡ told (closes n k t)
+    unfolding closes ask laidOut
+    close-dates f = rw (sym r ∙ f, e)
+
+    module _ (d : b ≡ true) where
+      -- a header has no number
+      pub close-header : l .role ≡ HeaderLine → record { code = 0; field = 0 } ≡ told (closes n k t)
+      unfolding closes ask countFault
+      close-header h = rw (sym r ∙ d, role-of k l HeaderLine e h)
+
+      -- nor has metadata
+      pub close-metadata : l .role ≡ MetadataLine → record { code = 0; field = 0 } ≡ told (closes n k t)
+      unfolding closes ask countFault
+      close-metadata h = rw (sym r ∙ d, role-of k l MetadataLine e h)
+
+      module _ (v : ℕ) (q : v ≡ value (getD (fieldsOf t) 2 [])) (f : FaultTold) where
+        -- 7
+        pub close-body : l .role ≡ BodyLine → f ≡ told (ask (eqb v (n + 1)) (7, 3) none) → f ≡ told (closes n k t)
+        unfolding closes ask countFault
+        close-body h g =
+            let w = third-is proOrder k t (rw (role-of k l BodyLine e h) at (third k)) in
+            g ∙ rw (sym r ∙ d, role-of k l BodyLine e h, w .0, w .1, q, add-one n)
+
+        -- 8
+        pub close-trailer : l .role ≡ TrailerLine → f ≡ told (ask (eqb v n) (8, 3) none) → f ≡ told (closes n k t)
+        unfolding closes ask countFault
+        close-trailer h g =
+            let w = third-is recordCount k t (rw (role-of k l TrailerLine e h) at (third k)) in
+            g ∙ rw (sym r ∙ d, role-of k l TrailerLine e h, w .0, w .1, q)
+
+pub ruleset closing = (needs, not-true, not-false, close-short, close-short-last, close-dates, close-header, close-metadata, close-body, close-trailer)

@@ -1,0 +1,155 @@
+-- The laws of what a walk counts.
+use mathlib.Core.Path.{_≡_, _∙_}
+use mathlib.Core.List.{[]}
+use Prim.Native.Nat.{ℕ, _+_, _≤_}
+use native.Mathlib.Nat.{add-zero}
+use native.Mathlib.Numerals.{add-one}
+use native.Mathlib.Omega.{arith}
+use borrow.Author.Needs.{needs}
+use Rattle.theory.specs.Step.{Op, ins, upd, del}
+use Rattle.theory.specs.Answer.{count}
+use Rattle.meaning.specs.Table.{Kind, Role, headerLine, bodyLine, metadataLine, trailerLine, role}
+use Rattle.meaning.specs.File.{bodyAfter, atEnd, readFrom}
+use Rattle.meaning.specs.Load.{six}
+use Rattle.layout.specs.declared.kinds.Role.the-variants.{HeaderLine, BodyLine, MetadataLine, TrailerLine}
+use Rattle.layout.specs.declared.records.Layout.{Layout}
+use Rattle.layout.specs.Rows.{laidOut}
+use Rattle.volume.specs.declared.places.Place.{Place}
+use Rattle.volume.specs.declared.places.Place.the-variants.{AtStart, InBody, AfterMetadata, AfterTrailer}
+use Rattle.volume.specs.declared.lines.Change.{Change}
+use Rattle.volume.specs.declared.lines.Change.the-variants.{Insert, Update, Delete}
+use Rattle.volume.specs.declared.walk.Walk.{Walk}
+use Rattle.volume.specs.Meant.{changeMeant}
+use Rattle.volume.specs.Walk.{tally, countedIn, walkedOn, checkedFrom, leftOf, Within}
+use Rattle.volume.specs.declared.check.Answer.{Answer}
+use Rattle.volume.specs.Answer.{answerOf}
+use Rattle.volume.proofs.LineLaws.{role-of}
+
+-- ---- one body line more
+
+module _ (w : Walk) (c : Change) where
+  -- an insert
+  pub count-insert : c ≡ Insert → record { place = w .place; line = w .line; body = w .body + 1; inserts = w .inserts + 1; updates = w .updates; deletes = w .deletes } ≡ countedIn w (changeMeant c)
+  unfolding countedIn
+  count-insert e = rw (e, add-one (w .body), add-zero (w .updates), add-zero (w .deletes))
+
+  -- an update
+  pub count-update : c ≡ Update → record { place = w .place; line = w .line; body = w .body + 1; inserts = w .inserts; updates = w .updates + 1; deletes = w .deletes } ≡ countedIn w (changeMeant c)
+  unfolding countedIn
+  count-update e = rw (e, add-one (w .body), add-zero (w .inserts), add-zero (w .deletes))
+
+  -- a delete
+  pub count-delete : c ≡ Delete → record { place = w .place; line = w .line; body = w .body + 1; inserts = w .inserts; updates = w .updates; deletes = w .deletes + 1 } ≡ countedIn w (changeMeant c)
+  unfolding countedIn
+  count-delete e = rw (e, add-one (w .body), add-zero (w .inserts), add-zero (w .updates))
+
+pub ruleset counts = (needs, count-insert, count-update, count-delete)
+
+-- ---- one line more
+
+-- the walk at the next line, before the line is counted
+abbrev pub stepped : Walk → Place → Walk
+stepped w p = record { place = p; line = w .line + 1; body = w .body; inserts = w .inserts; updates = w .updates; deletes = w .deletes }
+
+-- within fewer bytes is within more
+pub within-more : (w : Walk) (n m : ℕ) → Within w n → n ≤ m → Within w m
+within-more w n m h l = record {
+  lines = let q = h .lines in omega arith;
+  bodies = let q = h .bodies in omega arith;
+  insertsIn = let q = h .insertsIn in omega arith;
+  updatesIn = let q = h .updatesIn in omega arith;
+  deletesIn = let q = h .deletesIn in omega arith;
+}
+
+-- a line takes a byte or more
+pub within-stepped : (w : Walk) (p : Place) (n : ℕ) → Within w n → Within (stepped w p) (n + 1)
+within-stepped w p n h = let v = within-more w n (n + 1) h (omega arith) in record {
+  lines = let q = h .lines in omega arith;
+  bodies = v .bodies;
+  insertsIn = v .insertsIn;
+  updatesIn = v .updatesIn;
+  deletesIn = v .deletesIn;
+}
+
+-- a line is at most one body line, with one change
+tally-one : (r : Role) (o c : Op) → tally r o c ≤ 1
+unfolding tally
+tally-one headerLine o c = omega arith
+tally-one bodyLine ins ins = omega arith
+tally-one bodyLine ins upd = omega arith
+tally-one bodyLine ins del = omega arith
+tally-one bodyLine upd ins = omega arith
+tally-one bodyLine upd upd = omega arith
+tally-one bodyLine upd del = omega arith
+tally-one bodyLine del ins = omega arith
+tally-one bodyLine del upd = omega arith
+tally-one bodyLine del del = omega arith
+tally-one metadataLine o c = omega arith
+tally-one trailerLine o c = omega arith
+
+-- so the body lines grow by one at most
+body-one : (r : Role) (n : ℕ) → bodyAfter r n ≤ n + 1
+unfolding bodyAfter
+body-one headerLine n = omega arith
+body-one bodyLine n = omega arith
+body-one metadataLine n = omega arith
+body-one trailerLine n = omega arith
+
+-- after a line the walk is within the bytes up to the next
+pub within-on : (w : Walk) (r : Role) (c : Op) (p : Place) (n m : ℕ) → Within w n → n + 1 ≤ m → Within (walkedOn w r c p) m
+unfolding walkedOn
+within-on w r c p n m h l = record {
+  lines = let q = h .lines in omega arith;
+  bodies = let q = h .bodies in omega (arith, body-one r (w .body));
+  insertsIn = let q = h .insertsIn in omega (arith, tally-one r ins c);
+  updatesIn = let q = h .updatesIn in omega (arith, tally-one r upd c);
+  deletesIn = let q = h .deletesIn in omega (arith, tally-one r del c);
+}
+
+module _ (w : Walk) (p : Place) (c : Op) (k : Kind) (l : Layout) (e : l ≡ laidOut k) where
+  -- a header is not counted
+  pub after-header : l .role ≡ HeaderLine → stepped w p ≡ walkedOn w (role k) c p
+  unfolding walkedOn tally bodyAfter
+  after-header h = rw (role-of k l HeaderLine e h, add-one (w .line), add-zero (w .inserts), add-zero (w .updates), add-zero (w .deletes))
+
+  -- nor is metadata
+  pub after-metadata : l .role ≡ MetadataLine → stepped w p ≡ walkedOn w (role k) c p
+  unfolding walkedOn tally bodyAfter
+  after-metadata h = rw (role-of k l MetadataLine e h, add-one (w .line), add-zero (w .inserts), add-zero (w .updates), add-zero (w .deletes))
+
+  -- nor is the trailer
+  pub after-trailer : l .role ≡ TrailerLine → stepped w p ≡ walkedOn w (role k) c p
+  unfolding walkedOn tally bodyAfter
+  after-trailer h = rw (role-of k l TrailerLine e h, add-one (w .line), add-zero (w .inserts), add-zero (w .updates), add-zero (w .deletes))
+
+  -- a body line is
+  pub after-body : (v : Walk) → l .role ≡ BodyLine → v ≡ countedIn (stepped w p) c → v ≡ walkedOn w (role k) c p
+  unfolding walkedOn tally bodyAfter countedIn
+  after-body v h q = q ∙ rw (role-of k l BodyLine e h, add-one (w .line))
+
+pub ruleset after = (needs, after-header, after-metadata, after-trailer, after-body, within-stepped)
+
+-- ---- no line is left
+
+module _ (w : Walk) (r : Answer) where
+  -- before the header
+  pub end-start : w .place ≡ AtStart → r ≡ answerOf (six 3 (w .line) 0 0 0 0) → r ≡ answerOf (leftOf w [])
+  unfolding leftOf readFrom atEnd checkedFrom
+  end-start e q = q ∙ rw e
+
+  -- in the body
+  pub end-body : w .place ≡ InBody → r ≡ answerOf (six 3 (w .line) 0 0 0 0) → r ≡ answerOf (leftOf w [])
+  unfolding leftOf readFrom atEnd checkedFrom
+  end-body e q = q ∙ rw e
+
+  -- before the trailer
+  pub end-metadata : w .place ≡ AfterMetadata → r ≡ answerOf (six 3 (w .line) 0 0 0 0) → r ≡ answerOf (leftOf w [])
+  unfolding leftOf readFrom atEnd checkedFrom
+  end-metadata e q = q ∙ rw e
+
+-- after it
+pub end-trailer : (w : Walk) → w .place ≡ AfterTrailer → record { code = 0; line = 0; field = 0; inserts = w .inserts; updates = w .updates; deletes = w .deletes } ≡ answerOf (leftOf w [])
+unfolding leftOf readFrom atEnd checkedFrom count
+end-trailer w e = rw (e, add-zero (w .inserts), add-zero (w .updates), add-zero (w .deletes))
+
+pub ruleset ends = (needs, end-start, end-body, end-metadata, end-trailer)

@@ -1,0 +1,38 @@
+-- What is judged of a line before its fields (1, 2, 3, 9, 4), and after them (6, 7, 8). A law of proofs/ puts 5 between, and it is the meaning's judgement.
+use mathlib.Core.Bool.{Bool}
+use mathlib.Core.Option.{Option, none, some}
+use mathlib.Core.List.{List}
+use Prim.Native.Nat.{ℕ}
+use lib.Dec.{eqb}
+use lib.ListN.{length}
+use Rattle.base.specs.Lists.{pick, ask}
+use Rattle.meaning.specs.Lines.{identifier, fieldsOf, hasFields}
+use Rattle.meaning.specs.Table.{Kind, kindOf, role, fields, placeFrom, endDate}
+use Rattle.meaning.specs.Sound.{Fault}
+use Rattle.meaning.specs.File.{Place, next, hasRoom, countFault, Judged, bad, good, verdict}
+use Rattle.layout.specs.Meant.{kindMeant}
+use Rattle.layout.specs.Check.{kindDates}
+use Rattle.volume.specs.declared.lines.Opened.{Opened}
+use Rattle.volume.specs.Meant.{placeMeant}
+
+-- then 3, then 9, then 4
+unfoldable pub opensAt : ℕ → List ℕ → Kind → Option Place → Judged
+opensAt n t k none = bad (3, 0)
+opensAt n t k (some q) = verdict (ask (hasRoom (role k) n) (9, 0) (ask (hasFields (length (fields k)) t) (4, 0) none)) k q
+
+-- then 2
+unfoldable pub opensAs : Place → ℕ → List ℕ → Option Kind → Judged
+opensAs p n t none = bad (2, 1)
+opensAs p n t (some k) = opensAt n t k (next p (role k))
+
+-- a line before its fields are judged: 1 where it does not end well
+unfoldable pub opens : Place → ℕ → Bool → List ℕ → Judged
+opens p n ended t = pick ended (opensAs p n t (kindOf (identifier t))) (bad (1, 0))
+
+-- a line after its fields: 6, then 7 or 8
+unfoldable pub closes : ℕ → Kind → List ℕ → Option Fault
+closes n k t = ask (kindDates k (fieldsOf t)) (6, placeFrom 1 endDate (fields k)) (countFault (role k) n k t)
+
+-- a line that was opened, as the meaning judges it: a fault, or its kind and the place after it
+abbrev pub judgedAs : Opened → Judged
+judgedAs o = pick (eqb (o .code) 0) (good (kindMeant (o .kind)) (placeMeant (o .place))) (bad (o .code, o .field))

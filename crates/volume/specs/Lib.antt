@@ -1,0 +1,4 @@
+pub mod Meant
+pub mod Judged
+pub mod Walk
+pub mod Answer

@@ -1,0 +1,63 @@
+-- The walk of a file's lines: what is counted so far, and what is answered of the lines that are left.
+use mathlib.Core.List.{List}
+use Prim.Native.Nat.{ℕ, suc, _+_, _≤_}
+use Rattle.theory.specs.Step.{Op, ins, upd, del}
+use Rattle.theory.specs.Answer.{Read, fault, file, isOp, count}
+use Rattle.meaning.specs.Lines as meant
+use Rattle.meaning.specs.Table.{Role, headerLine, bodyLine, metadataLine, trailerLine}
+use Rattle.meaning.specs.File.{Sheet, bodyAfter, readFrom}
+use Rattle.meaning.specs.Load.{Six, six}
+use Rattle.volume.specs.declared.places.Place.{Place}
+use Rattle.volume.specs.declared.places.Place.the-variants.{AtStart}
+use Rattle.volume.specs.declared.walk.Walk.{Walk}
+use Rattle.volume.specs.Meant.{placeMeant}
+
+-- before the first line
+abbrev pub unwalked : Walk
+unwalked = record { place = AtStart; line = 1; body = 0; inserts = 0; updates = 0; deletes = 0 }
+
+-- 1 for a body line with that operation, else 0
+unfoldable pub tally : Role → Op → Op → ℕ
+tally headerLine o c = 0
+tally bodyLine o c = isOp o c
+tally metadataLine o c = 0
+tally trailerLine o c = 0
+
+-- the walk with one body line more, with a change
+unfoldable pub countedIn : Walk → Op → Walk
+countedIn w c = record {
+  place = w .place;
+  line = w .line;
+  body = suc (w .body);
+  inserts = w .inserts + isOp ins c;
+  updates = w .updates + isOp upd c;
+  deletes = w .deletes + isOp del c;
+}
+
+-- the walk after a line of a role, with a change, before a place
+unfoldable pub walkedOn : Walk → Role → Op → Place → Walk
+walkedOn w r c p = record {
+  place = p;
+  line = suc (w .line);
+  body = bodyAfter r (w .body);
+  inserts = w .inserts + tally r ins c;
+  updates = w .updates + tally r upd c;
+  deletes = w .deletes + tally r del c;
+}
+
+-- the numbers of the check, where I, U and D lines are counted already
+unfoldable pub checkedFrom : Walk → Read Sheet → Six
+checkedFrom w (fault c l f) = six c l f 0 0 0
+checkedFrom w (file s) = six 0 0 0 (w .inserts + count ins (s .1)) (w .updates + count upd (s .1)) (w .deletes + count del (s .1))
+
+-- what the walk answers of the lines that are left
+unfoldable pub leftOf : Walk → List meant.Line → Six
+leftOf w ls = checkedFrom w (readFrom (w .line) (placeMeant (w .place)) (w .body) ls)
+
+-- no number of the walk has passed the bytes before n
+pub record Within (w : Walk) (n : ℕ) : Type 0 where
+  pub lines : w .line ≤ n + 1
+  pub bodies : w .body ≤ n
+  pub insertsIn : w .inserts ≤ n
+  pub updatesIn : w .updates ≤ n
+  pub deletesIn : w .deletes ≤ n

@@ -1,0 +1,187 @@
+// One line in its place: what is judged before its fields, and after them.
+ghost use mathlib.Core.Path.{_≡_};
+ghost use mathlib.Core.Option.{none};
+ghost use mathlib.Core.List.{[], map};
+ghost use Prim.Native.Nat.{_<_, _≤_, _^_};
+ghost use lib.ListN.{length, getD};
+ghost use Rattle.base.specs.Lists.{ask};
+ghost use Rattle.theory.specs.Decimal.{value};
+ghost use Rattle.meaning.specs.Lines.{identifier, fieldsOf};
+ghost use Rattle.meaning.specs.Table.{kindOf, fields};
+ghost use Rattle.meaning.specs.Records.{opOf};
+ghost use Rattle.meaning.specs.File.{hasRoom};
+ghost use Rattle.layout.specs.Meant.{kindMeant, kindFound, roleMeant};
+ghost use Rattle.layout.specs.Rows.{bare};
+ghost use Rattle.layout.specs.Check.{lowestBad, told};
+ghost use Rattle.volume.specs.Meant.{placeMeant, changeMeant};
+ghost use Rattle.volume.specs.Judged.{opens, closes, judgedAs};
+use crate::places::Place;
+use crate::places::PlaceFound;
+use crate::places::next_place;
+use crate::walk::Walk;
+use layout::check::Fault;
+use layout::check::dates_agree;
+use layout::check::kind_of;
+use layout::kinds::Kind;
+use layout::kinds::KindFound;
+use layout::kinds::Role;
+use layout::limits::File;
+use layout::rules::layout;
+use text::fields::field;
+use text::fields::has_fields;
+use text::fields::identifier_end;
+use text::order::is_same;
+
+// PRO_ORDER of every body line, and RECORD_COUNT of the trailer: both are field 3.
+const NUMBER: usize = 3;
+
+// What a body line does to its record.
+pub enum Change {
+    Insert,
+    Update,
+    Delete,
+}
+
+// A line as it is known: of one kind, and as an insert, update or delete.
+pub struct Line {
+    pub kind: Kind,
+    pub change: Change,
+}
+
+// A line before its fields are judged: its first fault, or code 0, its kind and the place after it.
+pub struct Opened {
+    pub code: u64,
+    pub field: usize,
+    pub kind: Kind,
+    pub place: Place,
+}
+
+// The kind of a line.
+pub fn kind_at(text: &[u8]) -> KindFound
+    ensures { λ r. ⌜ kindFound r ≡ kindOf (identifier (now (text .entry))) ⌝ }
+{
+    let end = identifier_end(text);
+    kind_of(&text[0..end])
+}
+
+// Whether there is room for a line after so many body lines: only a body line takes room.
+pub fn has_room(role: Role, body: usize) -> bool
+    ensures { λ r. ⌜ r ≡ hasRoom (roleMeant role) body ⌝ }
+{
+    match role {
+        Role::HeaderLine => true,
+        Role::BodyLine => body < File::MOST_BODY_LINES,
+        Role::MetadataLine => true,
+        Role::TrailerLine => true,
+    }
+}
+
+// A line with a fault: its kind and place say nothing.
+fn refusal(code: u64, field: usize, place: Place) -> Opened
+    ensures { λ r. ⌜ (r .code ≡ code) × (r .field ≡ field) ⌝ }
+{
+    Opened {
+        code,
+        field,
+        kind: Kind::Header,
+        place,
+    }
+}
+
+// A line before its fields: 1, 2, 3, 9, 4, or its kind and the place after it.
+pub fn open_line(walk: Walk, text: &[u8], ended: bool) -> Opened
+    ensures { λ r. ⌜ judgedAs r ≡ opens (placeMeant (walk .place)) (walk .body) ended (now (text .entry)) ⌝ }
+{
+    let place = walk.place;
+    if !ended {
+        return refusal(1, 0, place);
+    }
+    let KindFound::Known(kind) = kind_at(text) else {
+        return refusal(2, 1, place);
+    };
+    let l = layout(kind);
+    let role = l.role;
+    let count = l.count;
+    let PlaceFound::At(after) = next_place(place, role) else {
+        return refusal(3, 0, place);
+    };
+    if !has_room(role, walk.body) {
+        return refusal(9, 0, place);
+    }
+    if !has_fields(text, count) {
+        return refusal(4, 0, place);
+    }
+    Opened {
+        code: 0,
+        field: 0,
+        kind,
+        place: after,
+    }
+}
+
+// The running number of a body line, or the number of body lines that a trailer says.
+fn number_of(text: &[u8]) -> u64
+    requires { ⌜ length (getD (fieldsOf (now text)) 2 []) ≤ 16 ⌝ }
+    ensures { λ r. ⌜ r ≡ value (getD (fieldsOf (now (text .entry))) 2 []) ⌝ }
+{
+    text::numbers::value(field(text, NUMBER - 1))
+}
+
+// A fault of the number, where it is not right.
+fn number_fault(right: bool, code: u64) -> Fault
+    ensures { λ r. ⌜ r ≡ told (ask right (code, 3) none) ⌝ }
+{
+    if right {
+        return Fault { code: 0, field: 0 };
+    }
+    Fault {
+        code,
+        field: NUMBER,
+    }
+}
+
+// A line after its fields, which are sound: 6, then 7 or 8.
+pub fn close_line(kind: Kind, body: usize, text: &[u8]) -> Fault
+    requires { ⌜ (0 ≡ lowestBad 1 (map bare (fields (kindMeant kind))) (fieldsOf (now text))) × (body < 2 ^ 63) ⌝ }
+    ensures { λ r. ⌜ r ≡ told (closes body (kindMeant kind) (now (text .entry))) ⌝ }
+{
+    let l = layout(kind);
+    let role = l.role;
+    let end = l.end;
+    if !dates_agree(kind, text) {
+        return Fault {
+            code: 6,
+            field: end,
+        };
+    }
+    let lines = body as u64;
+    let next = lines + 1;
+    match role {
+        Role::HeaderLine => Fault { code: 0, field: 0 },
+        Role::BodyLine => number_fault(number_of(text) == next, 7),
+        Role::MetadataLine => Fault { code: 0, field: 0 },
+        Role::TrailerLine => number_fault(number_of(text) == lines, 8),
+    }
+}
+
+// The change that a sound body line says.
+pub fn change_of(text: &[u8]) -> Change
+    ensures { λ r. ⌜ changeMeant r ≡ opOf (getD (fieldsOf (now (text .entry))) 1 []) ⌝ }
+{
+    let letter = field(text, 1);
+    if is_same(letter, b"\"I\"") {
+        return Change::Insert;
+    }
+    if is_same(letter, b"\"U\"") {
+        return Change::Update;
+    }
+    Change::Delete
+}
+
+// A sound line, as it is known; the change says something of a body line only.
+pub fn known(kind: Kind, text: &[u8]) -> Line
+    ensures { λ r. ⌜ (r .kind ≡ kind) × (changeMeant (r .change) ≡ opOf (getD (fieldsOf (now (text .entry))) 1 [])) ⌝ }
+{
+    let change = change_of(text);
+    Line { kind, change }
+}
