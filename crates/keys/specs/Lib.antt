@@ -1,0 +1,5 @@
+pub mod Numbers
+pub mod Places
+pub mod DigitLaws
+pub mod FieldLaws
+pub mod KeyLaws

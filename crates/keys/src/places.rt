@@ -1,0 +1,89 @@
+// The number of a field, by its place in the line: places count from 1, and a content begins with field 4.
+ghost use mathlib.Core.Path.{_≡_};
+ghost use lib.ListN.{take};
+ghost use Rattle.theory.specs.Decimal.{value};
+ghost use Rattle.form.specs.Meant.{meant};
+ghost use Rattle.layout.specs.Meant.{kindMeant};
+ghost use Rattle.layout.specs.Rows.{rowOf};
+ghost use Rattle.keys.specs.Numbers.{digitsIn, numberOf};
+ghost use Rattle.keys.specs.Places.{numberAt, emptyAt};
+use form::Form;
+use layout::kinds::Kind;
+use layout::rules::form_of;
+use layout::rules::layout;
+use layout::rules::row;
+use text::fields::field;
+use text::numbers::digit;
+use text::numbers::value;
+
+// The number of a key's text: its digits, without the letter.
+pub fn text_number(f: &[u8]) -> u64
+    ensures { λ r. ⌜ r ≡ value (digitsIn (now (f .entry))) ⌝ }
+{
+    let mut v: u64 = 0;
+    let mut i = 1;
+    while i < 15 {
+        if f.len() <= i {
+            return v;
+        }
+        if i == 5 {
+            i += 1;
+            continue;
+        }
+        v = v * 10 + digit(f[i]);
+        i += 1;
+    }
+    v
+}
+
+// The value of a number, or of its first 16 bytes.
+pub fn plain_number(f: &[u8]) -> u64
+    ensures { λ r. ⌜ r ≡ value (take 16 (now (f .entry))) ⌝ }
+{
+    if 16 < f.len() {
+        return value(&f[0..16]);
+    }
+    value(f)
+}
+
+// The number by which keys compare a field.
+pub fn number_of(form: Form, f: &[u8]) -> u64
+    ensures { λ r. ⌜ r ≡ numberOf (meant form) (now (f .entry)) ⌝ }
+{
+    if form::is_textual(form) {
+        return text_number(f);
+    }
+    plain_number(f)
+}
+
+// The form of a kind's field, counted from 0; N 0 where there is none.
+pub fn form_at(kind: Kind, k: usize) -> Form
+    ensures { λ r. ⌜ meant r ≡ rowOf (kindMeant kind) k .0 ⌝ }
+{
+    let l = layout(kind);
+    let count = l.count;
+    if count <= k {
+        return Form::Number(0);
+    }
+    form_of(row(kind, k))
+}
+
+// The number of a content's field at a place; 0 where there is none.
+pub fn number_at(kind: Kind, content: &[u8], place: usize) -> u64
+    ensures { λ r. ⌜ r ≡ numberAt (kindMeant kind) (now (content .entry)) place ⌝ }
+{
+    if place < 4 {
+        return 0;
+    }
+    number_of(form_at(kind, place - 1), field(content, place - 4))
+}
+
+// Whether a content's field at a place is empty, or there is none.
+pub fn is_empty_at(kind: Kind, content: &[u8], place: usize) -> bool
+    ensures { λ r. ⌜ r ≡ emptyAt (kindMeant kind) (now (content .entry)) place ⌝ }
+{
+    if place < 4 {
+        return true;
+    }
+    form::is_empty(form_at(kind, place - 1), field(content, place - 4))
+}
