@@ -1,0 +1,5 @@
+pub mod SaysLaws
+pub mod EntryLaws
+pub mod SearchLaws
+pub mod MoveLaws
+pub mod LineLaws

@@ -1,0 +1,12 @@
+-- `places::entries::against` meets its contract.
+use Rattle.places.proofs.EntryLaws.{keyagainst}
+use Rattle.places.proofs.entries.against.Statement.{statement}
+use Rattle.places.proofs.entries.against.Tie as tie
+
+pub against-spec : {M : Type 1} → statement M
+against-spec =
+    tie.close
+    (tie.spec
+    (λ c κs. search keyagainst)  -- entry-key-requires
+    (λ c κs. search keyagainst)  -- order-requires
+    (λ c. search keyagainst))  -- returns

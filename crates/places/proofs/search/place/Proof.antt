@@ -1,0 +1,30 @@
+-- `places::search::place` meets its contract.
+use Rattle.places.proofs.SearchLaws.{placing, Placing}
+use Prim.Native.Nat.{_-_}
+use Rattle.keys.specs.Numbers.{keyList}
+use Rattle.places.proofs.search.place.Statement.{statement}
+use Rattle.places.proofs.search.place.Tie as tie
+
+pub place-spec : {M : Type 1} → statement M
+place-spec =
+    tie.close
+    (tie.spec
+    (λ h f a n k low₀ high₀ low high. Placing h f a n (keyList k) low high)
+    (λ h f a n k low₀ high₀ low high. high - low)
+    (λ c. search placing)  -- loop-holds
+    (λ c. search placing)  -- sub-mid
+    (λ c. search placing)  -- add-mid
+    (λ c. search placing)  -- add-next
+    (λ c. search placing)  -- mul-against
+    (λ c. search placing)  -- shared-slice-read-against
+    (λ c κs. search placing)  -- against-requires
+    (λ c. search placing)  -- enum-told
+    (λ c. search placing)  -- loop-less
+    (λ c. search placing)  -- loop-again
+    (λ c. search placing)  -- enum-told-2
+    (λ c. search placing)  -- loop-less-2
+    (λ c. search placing)  -- loop-again-2
+    (λ c. search placing)  -- enum-told-3
+    (λ c. search placing)  -- loop-less-3
+    (λ c. search placing)  -- loop-again-3
+    (λ c. search placing))  -- returns
