@@ -1,8 +1,7 @@
 -- `enquiries::lines::line_at` meets its contract.
-use Rattle.enquiries.proofs.LineSeekLaws.{seekline}
+use Rattle.enquiries.proofs.LineSeekLaws.{seekline, Seeking}
 use Prim.Native.Nat.{_+_, _-_, _≤_}
 use lib.ListN.{length}
-use Rattle.enquiries.proofs.LineSeekLaws.{Seeking}
 use Rattle.enquiries.proofs.lines.line_at.Statement.{statement}
 use Rattle.enquiries.proofs.lines.line_at.Tie as tie
 
