@@ -206,6 +206,13 @@ module _ (kd : Kind) (t : List ℕ) (l : Layout) (e : l ≡ laidOut kd) where
   unfolding laidOut kindDates
   kind-no-end h = rw (named-none 0 endDate (fields kd) (fieldsOf t) (rw e at h)) (dates-no-end _ [] refl)
 
+  -- so is a line whose END_DATE is empty
+  pub kind-end-empty : (f : List ℕ) → (l .end ≡ 0 → ⊥) → f ≡ getD (fieldsOf t) (l .end - 1) [] → length f ≡ 0 → true ≡ kindDates kd (fieldsOf t)
+  unfolding laidOut kindDates
+  kind-end-empty f n q h =
+      let v : l .end ≡ placeFrom 1 endDate (fields kd) = ap (λ x. x .end) e in
+      rw (named-at 0 endDate (fields kd) (fieldsOf t) (λ z. n (v ∙ z)), ← v, ← q) (dates-no-end _ f h)
+
   -- else the two fields say it
   pub kind-dates : (b : Bool) (s f : List ℕ) → (l .start ≡ 0 → ⊥) → (l .end ≡ 0 → ⊥) → s ≡ getD (fieldsOf t) (l .start - 1) [] → f ≡ getD (fieldsOf t) (l .end - 1) [] → b ≡ datesAgree s f
       → b ≡ kindDates kd (fieldsOf t)
@@ -215,7 +222,7 @@ module _ (kd : Kind) (t : List ℕ) (l : Layout) (e : l ≡ laidOut kd) where
       let v : l .end ≡ placeFrom 1 endDate (fields kd) = ap (λ x. x .end) e in
       rw (named-at 0 startDate (fields kd) (fieldsOf t) (λ z. m (u ∙ z)), named-at 0 endDate (fields kd) (fieldsOf t) (λ z. n (v ∙ z)), ← u, ← v, ← p, ← q) h
 
-pub ruleset kinddates = (needs, kind-no-start, kind-no-end, kind-dates)
+pub ruleset kinddates = (needs, kind-no-start, kind-no-end, kind-end-empty, kind-dates)
 
 -- ---- a line's faults in order
 

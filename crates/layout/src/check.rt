@@ -103,7 +103,11 @@ pub fn dates_agree(kind: Kind, line: &[u8]) -> bool
     if end == 0 {
         return true;
     }
-    in_order(field(line, start - 1), field(line, end - 1))
+    let ends = field(line, end - 1);
+    if ends.len() == 0 {
+        return true;
+    }
+    in_order(field(line, start - 1), ends)
 }
 
 // A line's first fault in count, form and dates.
