@@ -143,14 +143,15 @@ numbersIn k [] = true
 numbersIn k (s ∷ ss) = narrow (formNamed s (ownFields k)) && numbersIn k ss
 
 -- fields that are numbers have their numbers for values
-numbers-values : (r : Rec) → T (fine r) → (ss : List String) → T (numbersIn (r .kind) ss) → valuesNamed r ss ≡ numbersNamed r ss
+pub numbers-values : (r : Rec) → T (fine r) → (ss : List String) → T (numbersIn (r .kind) ss) → valuesNamed r ss ≡ numbersNamed r ss
 unfolding valuesNamed numbersNamed valueNamed numberNamed numbersIn
 numbers-values r f [] t = refl
 numbers-values r f (s ∷ ss) t =
     rw (narrow-value (formIn r s) (filledIn r s) (fieldIn r s) (and-l (narrow (formIn r s)) (numbersIn (r .kind) ss) t) (fine-field r s f))
     (ap (λ l. numberOf (formIn r s) (fieldIn r s) ∷ l) (numbers-values r f ss (and-r (narrow (formIn r s)) (numbersIn (r .kind) ss) t)))
 
-length-numbers : (r : Rec) (ss : List String) → length (numbersNamed r ss) ≡ length ss
+-- there are as many numbers as names
+pub length-numbers : (r : Rec) (ss : List String) → length (numbersNamed r ss) ≡ length ss
 unfolding numbersNamed
 length-numbers r [] = refl
 length-numbers r (s ∷ ss) = ap suc (length-numbers r ss)

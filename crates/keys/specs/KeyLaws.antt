@@ -27,7 +27,7 @@ use Rattle.laws.specs.Body.{fine}
 use Rattle.layout.specs.Rows.{padded}
 use Rattle.keys.specs.Numbers.{numberOf, numberNamed, numbersNamed, keyNumbers, refKey, refNumbersFrom, refNumbers, refFirst, refAt, numbered}
 use Rattle.keys.specs.DigitLaws.{lex-one, lex-padded}
-use Rattle.keys.specs.FieldLaws.{filledNamed, fine-field, narrow, numbersIn, Ordered, numbers-agree, lettered, text-agree}
+use Rattle.keys.specs.FieldLaws.{filledNamed, fine-field, narrow, numbersIn, Ordered, numbers-agree, lettered, text-agree, numbers-values, length-numbers}
 
 -- ---- keys
 
@@ -161,6 +161,16 @@ rows-alike r f (p ∷ ps) t =
 pub refs-alike : (r : Rec) → T (fine r) → Alike (refNumbers r) (refsOf r)
 unfolding refNumbers refsOf
 refs-alike r f = rows-alike r f (refersTo (r .kind)) (rows-fit (r .kind))
+
+-- a number stands for the key of a kind whose key is one number
+pub number-agrees : (k : Kind) (n : ℕ) → T (numbersIn k (keyNames k)) → length (keyNames k) ≡ 1 → Agree (value (ident k) ∷ padded 3 (n ∷ [])) (value (ident k) ∷ n ∷ [])
+unfolding keyNumbers keyOf
+number-agrees k n t l x g =
+    first-agree (value (ident k)) (value (ident (x .kind))) (padded 3 (n ∷ [])) (padded 3 (numbersNamed x (keyNames (x .kind)))) (n ∷ []) (valuesNamed x (keyNames (x .kind)))
+    (λ e. let j = kind-told k (x .kind) e in
+    let u : length (keyNames (x .kind)) ≡ 1 = subst (λ k. length (keyNames k) ≡ 1) j l in
+    rw (numbers-values x g (keyNames (x .kind)) (subst (λ k. T (numbersIn k (keyNames k))) j t))
+    (lex-padded 3 (n ∷ []) (numbersNamed x (keyNames (x .kind))) (omega (arith, length-numbers x (keyNames (x .kind)), u)) (omega arith)))
 
 -- lists that are alike are of one length
 pub alike-length : (ns bs : List (List ℕ)) → Alike ns bs → length ns ≡ length bs
