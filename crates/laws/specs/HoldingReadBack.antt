@@ -53,7 +53,7 @@ held-in n r h f =
     ∙ ap (λ x. some (record { kind = r .kind; content = x })) (m .contentM)
 
 -- a line that is read as a record is that record's line
-abbrev HeldIs : ℕ → Line → Option Rec → Type 0
+abbrev pub HeldIs : ℕ → Line → Option Rec → Type 0
 HeldIs n l none = Unit {0}
 HeldIs n l (some r) = (l ≡ ends (changeText n (insertOf r))) × T (fine r)
 
@@ -75,7 +75,8 @@ held-main n l k e i h =
     let w : t ≡ changeText n (insertOf (record { kind = k; content = contentOf t })) = cut-is t (b .f1) (b .f2) (b .f3) (ident k) (letter ins) (dec n) (b .cuts) e1 e2 e3 in
     (line-ends l e ∙ ap ends w, content-fine k t none hk (and-r (l .ended) _ e) hs)
 
-held-out : (n : ℕ) (l : Line) → HeldIs n l (heldLine n l)
+-- a line that is held is a fine record's
+pub held-out : (n : ℕ) (l : Line) → HeldIs n l (heldLine n l)
 unfolding heldLine
 held-out n l = ending (endsWell l) refl
   where
@@ -95,7 +96,7 @@ held-out n l = ending (endsWell l) refl
 -- ---- all lines
 
 -- the first record's key is above that of the line before, if there is one
-abbrev Above : Option (List ℕ) → List Rec → Type 0
+abbrev pub Above : Option (List ℕ) → List Rec → Type 0
 Above none st = Unit {0}
 Above (some k) st = Low keyed k st
 
@@ -131,7 +132,7 @@ pub record Reads (n : ℕ) (lo : Option (List ℕ)) (ls : List Line) (st : List 
   pub short : n + length st ≤ suc most
 
 -- the same of what the first pass comes to
-abbrev Scanned : ℕ → Option (List ℕ) → List Line → Held → Type 0
+abbrev pub Scanned : ℕ → Option (List ℕ) → List Line → Held → Type 0
 Scanned n lo ls (unsound m) = Unit {0}
 Scanned n lo ls (sound st) = Reads n lo ls st
 
@@ -159,7 +160,8 @@ scanned-line n lo l ls go i (some r) w = when (above lo r && leb n most) refl
         scanned-add n lo l ls r w (and-l (above lo r) (leb n most) t) (go r) (i (leb→le n most (and-r (above lo r) (leb n most) t)) r)
     when false q = tt
 
-scanned : (n : ℕ) (lo : Option (List ℕ)) (ls : List Line) → n ≤ suc most → Scanned n lo ls (scan n lo ls)
+-- the records that the first pass comes to are fine, in order and not too many
+pub scanned : (n : ℕ) (lo : Option (List ℕ)) (ls : List Line) → n ≤ suc most → Scanned n lo ls (scan n lo ls)
 unfolding scan changeTexts
 scanned n lo [] h = record { lines = refl; fines = tt; aboves = above-nil lo; asc = tt; short = omega arith }
 scanned n lo (l ∷ ls) h =

@@ -1,23 +1,29 @@
--- The laws of identifiers: two digits are known by their number.
+-- The laws of identifiers and roles: two digits are known by their number, and a kind's role is the table's.
 use mathlib.Core.Path.{_≡_, refl, sym, ap, ap₂, subst, _∙_}
 use mathlib.Core.Bool.{Bool, true, false, not, _&&_}
 use mathlib.Core.Option.{Option, none, some}
 use mathlib.Core.List.{List, [], _∷_}
 use Prim.Native.Nat.{ℕ, zero, suc, _+_, _-_, _*_, _≤_, _<_}
+use native.Mathlib.Nat.{sub-zero}
 use native.Mathlib.Omega.{arith}
 use borrow.Author.Needs.{needs}
 use borrow.Author.Tests.{not-true, not-false}
 use lib.Dec.{T, eqb, leb, leb→le, eqb→eq, eqb-refl}
-use lib.ListN.{length}
+use lib.ListN.{length, take}
 use mir.Facts.{yes-eqb}
 use Rattle.base.specs.Lists.{pick, all, same, bytes}
 use Rattle.base.specs.Tests.{and-in, and-l, and-r, same-test, T-true, some≢none}
 use Rattle.base.specs.ListLaws.{same-eq, same-refl}
 use Rattle.theory.specs.Decimal.{value, valueF}
 use Rattle.meaning.specs.Forms.{isDigit}
-use Rattle.meaning.specs.Table.{Kind, kinds, ident, kindAmong, kindOf, numberedAmong}
+use Rattle.meaning.specs.Lines.{identifier}
+use Rattle.meaning.specs.Table.{Kind, kinds, ident, Role, headerLine, bodyLine, metadataLine, trailerLine, role, kindAmong, kindOf, numberedAmong}
 use Rattle.laws.specs.Kinds.{every}
 use Rattle.laws.specs.Body.{kind-out}
+use Rattle.text.proofs.FieldLaws.{identifier-part}
+use Rattle.layout.specs.declared.records.Layout.{Layout}
+use Rattle.layout.specs.Meant.{roleMeant, roleNamed}
+use Rattle.layout.specs.Rows.{laidOut}
 
 -- a run of two digits
 abbrev pub twoDigits : List ℕ → Bool
@@ -85,3 +91,22 @@ unfolding kindOf
 kind-number f b n o l p q v e = e ∙ rw v (among-number f kinds (and-in (eqb (length f) 2) (all isDigit f) (yes-eqb l) (rw (sym p ∙ q) tt)))
 
 pub ruleset identifiers = (needs, not-true, not-false, kind-length, kind-other, kind-number)
+
+-- the bytes up to where the identifier ends are the identifier
+pub kind-told : (t : List ℕ) (n : ℕ) (o : Option Kind) → n ≡ length (identifier t) → o ≡ kindOf (take (n - 0) t) → o ≡ kindOf (identifier t)
+kind-told t n o e g = g ∙ rw (sub-zero, e, identifier-part t)
+
+pub ruleset kindtold = (needs, kind-told)
+
+-- ---- roles
+
+role-named : (r : Role) → roleMeant (roleNamed r) ≡ r
+role-named headerLine = refl
+role-named bodyLine = refl
+role-named metadataLine = refl
+role-named trailerLine = refl
+
+-- the role of a kind is the one that the table names
+pub role-is : (k : Kind) (l : Layout) → l ≡ laidOut k → roleMeant (l .role) ≡ role k
+unfolding laidOut
+role-is k l e = rw e (role-named (role k))

@@ -5,7 +5,7 @@ ghost use mathlib.Core.Option.{none};
 ghost use Prim.Native.Nat.{_<_};
 ghost use lib.ListN.{length};
 ghost use Rattle.meaning.specs.Forms.{soundAs};
-ghost use Rattle.meaning.specs.Lines.{fieldsOf};
+ghost use Rattle.meaning.specs.Lines.{identifier, fieldsOf};
 ghost use Rattle.meaning.specs.Table.{fields, kindOf};
 ghost use Rattle.meaning.specs.Sound.{datesAgree, formFault};
 ghost use Rattle.layout.specs.Meant.{kindMeant, kindFound};
@@ -21,6 +21,7 @@ use crate::rules::row;
 use text::fields::field;
 use text::fields::field_end;
 use text::fields::has_fields;
+use text::fields::identifier_end;
 use text::order::Order;
 
 // A line's first fault: its code and field, or two zeros.
@@ -40,6 +41,14 @@ pub fn kind_of(identifier: &[u8]) -> KindFound
         return KindFound::Unknown;
     }
     kind_numbered(text::numbers::value(identifier))
+}
+
+// The kind of a line.
+pub fn kind_at(line: &[u8]) -> KindFound
+    ensures { λ r. ⌜ kindFound r ≡ kindOf (identifier (now (line .entry))) ⌝ }
+{
+    let end = identifier_end(line);
+    kind_of(&line[0..end])
 }
 
 // Whether a field, counted from 0, is sound as its row has it.

@@ -1,5 +1,5 @@
 -- The laws of the keys of lines and entries.
-use mathlib.Core.Path.{_≡_, _∙_}
+use mathlib.Core.Path.{_≡_, ap, _∙_}
 use mathlib.Core.List.{List, []}
 use Prim.Native.Nat.{ℕ, _-_, _/_, _%_, _<_}
 use native.Mathlib.Nat.{sub-zero}
@@ -12,6 +12,7 @@ use Rattle.theory.specs.Tri.{Tri}
 use Rattle.theory.specs.Lex.{lex}
 use Rattle.meaning.specs.Lines.{identifier}
 use Rattle.meaning.specs.Table.{Kind, header, kindOf}
+use Rattle.meaning.specs.Records.{contentOf}
 use Rattle.text.specs.Places.{lineLen, lineEnd, contentStart}
 use Rattle.text.proofs.FieldLaws.{identifier-part, content-part}
 use Rattle.layout.specs.declared.kinds.Kind as code
@@ -36,24 +37,40 @@ module _ (t : List ℕ) (n : ℕ) (r : found.KindFound) (e : n ≡ length (ident
 
 pub ruleset kinds = (needs, kind-known, kind-unknown)
 
--- the key of a line is that of its kind and content
-pub key-line : (t r : List ℕ) (k : Kind) (c : ℕ) → k ≡ known (kindOf (identifier t)) → c ≡ contentStart t → r ≡ keyNumbers (record { kind = k; content = take (length t - c) (drop c t) }) → r ≡ keyNumbers (recOf t)
+-- what stands from where the content starts is the content
+pub content-told : (t : List ℕ) (c : ℕ) → c ≡ contentStart t → take (length t - c) (drop c t) ≡ contentOf t
+content-told t c q = rw (take-all (length t - c) (drop c t) (omega (arith, length-drop c t)), q, content-part t)
+
+-- a line's record is of its kind and content
+pub rec-line : (t : List ℕ) (k : Kind) (c : ℕ) → k ≡ known (kindOf (identifier t)) → c ≡ contentStart t → record { kind = k; content = take (length t - c) (drop c t) } ≡ recOf t
 unfolding recOf
-key-line t r k c e q u = u ∙ rw (e, take-all (length t - c) (drop c t) (omega (arith, length-drop c t)), q, content-part t)
+rec-line t k c e q = rw (e, content-told t c q)
+
+-- and so is its key
+pub key-line : (t r : List ℕ) (k : Kind) (c : ℕ) → k ≡ known (kindOf (identifier t)) → c ≡ contentStart t → r ≡ keyNumbers (record { kind = k; content = take (length t - c) (drop c t) }) → r ≡ keyNumbers (recOf t)
+key-line t r k c e q u = u ∙ ap keyNumbers (rec-line t k c e q)
 
 pub ruleset linekey = (needs, key-line)
 
 -- past the end stands an empty line
-pub record-past : (s r : List ℕ) (at : ℕ) → length s < at → r ≡ keyNumbers (recOf []) → r ≡ keyNumbers (recOf (lineAt s at))
+pub line-past : (s : List ℕ) (at : ℕ) → length s < at → [] ≡ lineAt s at
 unfolding lineAt lineLen
-record-past s r at l u = u ∙ rw (at-end s at (omega arith))
+line-past s at l = rw (at-end s at (omega arith))
 
 -- else the line runs up to its end
-pub record-here : (s r : List ℕ) (at e : ℕ) → e ≡ lineEnd s at → r ≡ keyNumbers (recOf (take (e - at) (drop at s))) → r ≡ keyNumbers (recOf (lineAt s at))
+pub line-here : (s : List ℕ) (at e : ℕ) → e ≡ lineEnd s at → take (e - at) (drop at s) ≡ lineAt s at
 unfolding lineAt
-record-here s r at e q u =
+line-here s at e q =
     let n : e - at ≡ lineLen (drop at s) = omega arith in
-    rw n at u
+    rw n
+
+-- the key of what stands past the end
+pub record-past : (s r : List ℕ) (at : ℕ) → length s < at → r ≡ keyNumbers (recOf []) → r ≡ keyNumbers (recOf (lineAt s at))
+record-past s r at l u = u ∙ ap (λ t. keyNumbers (recOf t)) (line-past s at l)
+
+-- the key of a line
+pub record-here : (s r : List ℕ) (at e : ℕ) → e ≡ lineEnd s at → r ≡ keyNumbers (recOf (take (e - at) (drop at s))) → r ≡ keyNumbers (recOf (lineAt s at))
+record-here s r at e q u = u ∙ ap (λ t. keyNumbers (recOf t)) (line-here s at e q)
 
 pub ruleset recordkey = (needs, record-past, record-here)
 

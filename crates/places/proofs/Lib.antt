@@ -3,3 +3,4 @@ pub mod EntryLaws
 pub mod SearchLaws
 pub mod MoveLaws
 pub mod LineLaws
+pub mod ReferenceLaws

@@ -13,7 +13,7 @@ use layout::kinds::KindFound;
 use text::order::Order;
 
 // The kind of a line; an unknown one is taken for a header's.
-fn line_kind(line: &[u8]) -> Kind
+pub fn line_kind(line: &[u8]) -> Kind
     ensures { λ r. ⌜ kindMeant r ≡ known (kindOf (identifier (now (line .entry)))) ⌝ }
 {
     let end = text::fields::identifier_end(line);

@@ -6,3 +6,4 @@
 pub mod entries; // the key of an entry's record
 pub mod search; // where a key stands
 pub mod moves; // room made, and closed up
+pub mod references; // whether what a record refers to is met

@@ -6,11 +6,11 @@ ghost use Prim.Native.Nat.{_<_, _≤_, _^_};
 ghost use lib.ListN.{length, getD};
 ghost use Rattle.base.specs.Lists.{ask};
 ghost use Rattle.theory.specs.Decimal.{value};
-ghost use Rattle.meaning.specs.Lines.{identifier, fieldsOf};
+ghost use Rattle.meaning.specs.Lines.{fieldsOf};
 ghost use Rattle.meaning.specs.Table.{kindOf, fields};
 ghost use Rattle.meaning.specs.Records.{opOf};
 ghost use Rattle.meaning.specs.File.{hasRoom};
-ghost use Rattle.layout.specs.Meant.{kindMeant, kindFound, roleMeant};
+ghost use Rattle.layout.specs.Meant.{kindMeant, roleMeant};
 ghost use Rattle.layout.specs.Rows.{bare};
 ghost use Rattle.layout.specs.Check.{lowestBad, told};
 ghost use Rattle.volume.specs.Meant.{placeMeant, changeMeant};
@@ -21,7 +21,7 @@ use crate::places::next_place;
 use crate::walk::Walk;
 use layout::check::Fault;
 use layout::check::dates_agree;
-use layout::check::kind_of;
+use layout::check::kind_at;
 use layout::kinds::Kind;
 use layout::kinds::KindFound;
 use layout::kinds::Role;
@@ -29,7 +29,6 @@ use layout::limits::File;
 use layout::rules::layout;
 use text::fields::field;
 use text::fields::has_fields;
-use text::fields::identifier_end;
 use text::order::is_same;
 
 // PRO_ORDER of every body line, and RECORD_COUNT of the trailer: both are field 3.
@@ -54,14 +53,6 @@ pub struct Opened {
     pub field: usize,
     pub kind: Kind,
     pub place: Place,
-}
-
-// The kind of a line.
-pub fn kind_at(text: &[u8]) -> KindFound
-    ensures { λ r. ⌜ kindFound r ≡ kindOf (identifier (now (text .entry))) ⌝ }
-{
-    let end = identifier_end(text);
-    kind_of(&text[0..end])
 }
 
 // Whether there is room for a line after so many body lines: only a body line takes room.

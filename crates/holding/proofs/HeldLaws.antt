@@ -1,0 +1,157 @@
+-- The laws of one line of a holding: which way out of the tests is which answer, and that the answer is the meaning's.
+use mathlib.Core.Path.{_≡_, refl, sym, ap, _∙_}
+use mathlib.Core.Bool.{Bool, true, false, not, _&&_}
+use mathlib.Core.Option.{Option, none, some}
+use mathlib.Core.List.{List, [], _∷_, _++_, map}
+use Prim.Native.Nat.{ℕ, _+_, _-_, _≤_, _<_}
+use native.Mathlib.Nat.{sub-zero}
+use native.Mathlib.Omega.{arith}
+use borrow.Author.Needs.{needs}
+use borrow.Author.Tests.{not-true, not-false}
+use lib.Dec.{eqb}
+use lib.ListN.{length, getD, take, drop}
+use Rattle.base.specs.Lists.{pick, ask, same, keepIf, bytes}
+use Rattle.theory.specs.Decimal.{dec, width}
+use Rattle.theory.specs.DecimalLaws.{length-dec}
+use Rattle.theory.specs.Step.{ins}
+use Rattle.meaning.specs.Lines.{Line, endsWell, fieldsOf, identifier, hasFields}
+use Rattle.meaning.specs.Table.{Kind, role, fields, kindOf, named, placeFrom, startDate, endDate}
+use Rattle.meaning.specs.Sound as meant
+use Rattle.meaning.specs.Sound.{datesAgree, fieldFault, formFault}
+use Rattle.meaning.specs.Records.{Rec, contentOf, letter}
+use Rattle.meaning.specs.Holding.{isHeld, isSound, heldTest, heldKind, heldLine}
+use Rattle.text.specs.Front.{inFront}
+use Rattle.text.proofs.NumberLaws.{width-most}
+use Rattle.layout.specs.declared.check.Fault.{Fault}
+use Rattle.layout.specs.declared.kinds.Kind as code
+use Rattle.layout.specs.declared.kinds.KindFound.{KindFound}
+use Rattle.layout.specs.declared.kinds.KindFound.the-variants.{Known, Unknown}
+use Rattle.layout.specs.declared.kinds.Role.{Role}
+use Rattle.layout.specs.declared.records.Layout.{Layout}
+use Rattle.layout.specs.Meant.{kindMeant, kindFound, roleMeant}
+use Rattle.layout.specs.Rows.{bare, laidOut}
+use Rattle.layout.specs.Check.{lowestBad, told}
+use Rattle.layout.proofs.KindLaws.{role-is}
+use Rattle.layout.proofs.CheckLaws.{forms-is}
+use Rattle.holding.specs.Held.{heldKindAs, heldAs, recordAs}
+
+-- ---- a held kind, and the line's own number
+
+-- a kind is held by the role that the table names
+pub role-told : (k : Kind) (l : Layout) (r : Role) (b : Bool) → l ≡ laidOut k → l .role ≡ r → b ≡ isHeld (roleMeant r) → b ≡ isHeld (role k)
+role-told k l r b e q h = rw (← role-is k l e, q) h
+
+pub ruleset roles = (needs, role-told)
+
+-- what was written is the number
+pub number-told : (f d o : List ℕ) (n w : ℕ) (b : Bool) → w ≡ width n → d ≡ inFront (dec n) o → b ≡ same f (take (w - 0) d) → b ≡ same f (dec n)
+unfolding inFront
+number-told f d o n w b p q h = h ∙ rw (q, sub-zero, p, ← length-dec n) (ap (same f) (front (dec n) (drop (length (dec n)) o)))
+  where
+    front : (a r : List ℕ) → take (length a) (a ++ r) ≡ a
+    front [] r = refl
+    front (x ∷ a) r = ap (λ l. x ∷ l) (front a r)
+
+pub ruleset numbers = (needs, width-most, number-told)
+
+-- ---- the tests of a line
+
+-- a line with no code has no fault
+no-code : (k : Kind) (t : List ℕ) (f : Fault) → f ≡ told (formFault k t none) → f .code ≡ 0 → isSound (formFault k t none) ≡ true
+unfolding formFault fieldFault
+no-code k t f e z =
+    let u : told (formFault k t none) .code ≡ 0 = sym (ap (λ x. x .code) e) ∙ z in
+    let n : ℕ = lowestBad 1 (map bare (fields k)) (fieldsOf t) in
+    rw (forms-is 0 (fields k) (fieldsOf t) _)
+    (go (hasFields (length (fields k)) t) (eqb n 0) (datesAgree (named startDate (fields k) (fieldsOf t)) (named endDate (fields k) (fieldsOf t))) (placeFrom 1 endDate (fields k)) n
+    (rw (forms-is 0 (fields k) (fieldsOf t) _) at u))
+  where
+    go : (a b c : Bool) (x y : ℕ) → told (ask {A = meant.Fault} a (4, 0) (pick b (ask c (6, x) none) (some (5, y)))) .code ≡ 0 → isSound (ask a (4, 0) (pick b (ask c (6, x) none) (some (5, y)))) ≡ true
+    go true true true x y z = unfold ask isSound in refl
+    go true true false x y z = unfold ask isSound in absurd (omega (arith, z))
+    go true false c x y z = unfold ask isSound in absurd (omega (arith, z))
+    go false b c x y z = unfold ask isSound in absurd (omega (arith, z))
+
+-- one with a code has one
+some-code : (k : Kind) (t : List ℕ) (f : Fault) → f ≡ told (formFault k t none) → (f .code ≡ 0 → ⊥) → isSound (formFault k t none) ≡ false
+some-code k t f e z = go (formFault k t none) (λ q. z (ap (λ x. x .code) e ∙ q))
+  where
+    go : (o : Option meant.Fault) → (told o .code ≡ 0 → ⊥) → isSound o ≡ false
+    go none n = absurd (n refl)
+    go (some g) n = unfold isSound in refl
+
+module _ (n : ℕ) (k : Kind) (t : List ℕ) (a : Bool) (p : a ≡ isHeld (role k)) where
+  -- a kind that is not held
+  pub pass-kind : a ≡ false → false ≡ heldTest n k t
+  unfolding heldTest
+  pass-kind u = rw (sym p ∙ u)
+
+  module _ (u : a ≡ true) (f : Fault) (q : f ≡ told (formFault k t none)) where
+    -- a line that is unsound
+    pub pass-form : (f .code ≡ 0 → ⊥) → false ≡ heldTest n k t
+    unfolding heldTest
+    pass-form z = rw (sym p ∙ u, some-code k t f q z)
+
+    module _ (z : f .code ≡ 0) (g : List ℕ) (r : g ≡ getD (fieldsOf t) 1 []) (b : Bool) (s : b ≡ same g (34 ∷ 73 ∷ 34 ∷ [])) where
+      lettered : b ≡ same (getD (fieldsOf t) 1 []) (letter ins)
+      unfolding letter bytes
+      lettered = rw (← r) s
+
+      -- another CHANGE_TYPE
+      pub pass-letter : b ≡ false → false ≡ heldTest n k t
+      unfolding heldTest
+      pass-letter v = rw (sym p ∙ u, no-code k t f q z, sym lettered ∙ v)
+
+      -- else PRO_ORDER says it
+      pub pass-number : b ≡ true → (e : List ℕ) → e ≡ getD (fieldsOf t) 2 [] → (c : Bool) → c ≡ same e (dec n) → c ≡ heldTest n k t
+      unfolding heldTest
+      pass-number v e w c x = rw (sym p ∙ u, no-code k t f q z, sym lettered ∙ v, ← w) x
+
+pub ruleset passing = (needs, not-true, not-false, pass-kind, pass-form, pass-letter, pass-number)
+
+-- ---- a line
+
+module _ (n : ℕ) (t : List ℕ) (b : Bool) where
+  -- one that does not end well
+  pub held-open : b ≡ false → none ≡ heldAs n b t
+  unfolding heldAs
+  held-open e = rw e
+
+  module _ (e : b ≡ true) (o : KindFound) (p : kindFound o ≡ kindOf (identifier t)) where
+    -- one of no known kind
+    pub held-unknown : o ≡ Unknown → none ≡ heldAs n b t
+    unfolding heldAs heldKindAs
+    held-unknown q = rw (e, ← p, q)
+
+    module _ (k : code.Kind) (q : o ≡ Known k) (c : Bool) (r : c ≡ heldTest n (kindMeant k) t) where
+      -- one that fails a test
+      pub held-fails : c ≡ false → none ≡ heldAs n b t
+      unfolding heldAs heldKindAs keepIf
+      held-fails s = rw (e, ← p, q, sym r ∙ s)
+
+      -- one that is held
+      pub held-passes : c ≡ true → some (kindMeant k) ≡ heldAs n b t
+      unfolding heldAs heldKindAs keepIf
+      held-passes s = rw (e, ← p, q, sym r ∙ s)
+
+pub ruleset holds = (needs, not-true, not-false, held-open, held-unknown, held-fails, held-passes)
+
+-- the record that the meaning has of a line is that of the kind that was found
+pub held-is : (n : ℕ) (l : Line) (b : Bool) → b ≡ endsWell l → heldLine n l ≡ recordAs (l .text) (heldAs n b (l .text))
+unfolding heldLine heldAs
+held-is n l b e = rw e (ending (endsWell l))
+  where
+    t : List ℕ
+    t = l .text
+
+    kept : (k : Kind) (c : Bool) → keepIf c (record { kind = k; content = contentOf t }) ≡ recordAs t (keepIf c k)
+    kept k true = unfold keepIf recordAs in refl
+    kept k false = unfold keepIf recordAs in refl
+
+    known : (o : Option Kind) → heldKind n t o ≡ recordAs t (heldKindAs n t o)
+    known none = unfold heldKind heldKindAs recordAs in refl
+    known (some k) = unfold heldKind heldKindAs in kept k (heldTest n k t)
+
+    ending : (c : Bool) → pick c (heldKind n t (kindOf (identifier t))) none ≡ recordAs t (pick c (heldKindAs n t (kindOf (identifier t))) none)
+    ending true = known (kindOf (identifier t))
+    ending false = unfold recordAs in refl

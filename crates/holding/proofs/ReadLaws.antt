@@ -1,0 +1,193 @@
+-- The laws of the second pass, which is for references, and of both passes together.
+use mathlib.Core.Path.{_≡_, refl, sym, ap, subst, _∙_}
+use mathlib.Core.Bool.{Bool, true, false, _&&_}
+use mathlib.Core.Option.{Option, none, some}
+use mathlib.Core.List.{List, [], _∷_, _++_}
+use Prim.Native.Nat.{ℕ, zero, suc, _+_, _-_, _≤_, _<_}
+use native.Mathlib.Numerals.{add-one}
+use native.Mathlib.Omega.{arith}
+use borrow.Author.Needs.{needs}
+use borrow.Author.Tests.{not-true, not-false}
+use lib.Dec.{T, leb}
+use lib.ListN.{length, getD, take, drop, drop-of-length-le, take-append-drop}
+use Rattle.base.specs.Lists.{all, pick}
+use Rattle.base.specs.Tests.{and-l}
+use Rattle.base.specs.ListLaws.{append-all}
+use Rattle.theory.specs.Store.{Asc}
+use Rattle.theory.specs.Limits.{most}
+use Rattle.theory.specs.Refs.{meets}
+use Rattle.meaning.specs.Lines.{Line, linesOf}
+use Rattle.meaning.specs.Records.{Rec, keyOf, keyed, refsOf}
+use Rattle.meaning.specs.Holding as meaning
+use Rattle.meaning.specs.Holding.{sound, unsound, heldLine, addRec, above, onHeld, scan, referring, onScan, readHolding}
+use Rattle.meaning.specs.Load.{heldNumbers, checkHolding}
+use Rattle.laws.specs.Body.{fine}
+use Rattle.laws.specs.HoldingReadBack.{Scanned, Reads, scanned}
+use Rattle.places.specs.Places.{entry, says}
+use Rattle.places.proofs.SaysLaws.{length-says, says-at}
+use Rattle.holding.specs.declared.read.Held.{Held}
+use Rattle.holding.specs.declared.check.Verdict.{Verdict}
+use Rattle.holding.specs.Read.{faultOf, recordsOf, Listed, ReadAs, HeldIs}
+use Rattle.holding.specs.Verdict.{verdictOf}
+
+-- ---- references, i records on
+
+module _ (h a : List ℕ) (n i : ℕ) (l : n ≤ length a) (g : i < n) where
+  -- what is left begins with the record of entry i
+  left-at : drop i (says h h a n) ≡ entry h h (getD a i 0) ∷ drop (i + 1) (says h h a n)
+  left-at = rw (add-one i) (says-at h h a n l i g)
+
+  -- which is sound, as all are
+  pub fine-at : T (all fine (says h h a n)) → T (fine (entry h h (getD a i 0)))
+  fine-at t =
+      let d : T (all fine (drop i (says h h a n))) = append-all fine (take i (says h h a n)) (drop i (says h h a n)) (rw (take-append-drop i (says h h a n)) t) .1 in
+      and-l (fine (entry h h (getD a i 0))) _ (subst (λ s. T (all fine s)) left-at d)
+
+  module _ (x : ℕ) (w : faultOf (referring (says h h a n) (i + 1) (drop i (says h h a n))) ≡ x) (b : Bool) (e : b ≡ meets keyed refsOf (says h h a n) (entry h h (getD a i 0))) where
+    here : faultOf (pick b (referring (says h h a n) (suc (i + 1)) (drop (i + 1) (says h h a n))) (unsound (i + 1))) ≡ x
+    unfolding referring
+    here = rw (left-at, ← e) at w
+
+    -- one that is not met is the lowest
+    pub unmet-stop : b ≡ false → i + 1 ≡ x
+    unfolding faultOf
+    unmet-stop f = rw f at here
+
+    -- one that is met leaves those after it
+    pub unmet-turn : b ≡ true → faultOf (referring (says h h a n) (i + 1 + 1) (drop (i + 1) (says h h a n))) ≡ x
+    unmet-turn t = rw (add-one (i + 1)) (rw t at here)
+
+-- at the end all are met
+pub unmet-done : (h a : List ℕ) (n i x : ℕ) → n ≤ length a → faultOf (referring (says h h a n) (i + 1) (drop i (says h h a n))) ≡ x → n ≤ i → 0 ≡ x
+unfolding referring faultOf
+unmet-done h a n i x l w g = rw (drop-of-length-le (says h h a n) {i = i} (omega (arith, length-says h h a n l))) at w
+
+pub ruleset unmets = (needs, not-true, not-false, fine-at, unmet-stop, unmet-turn, unmet-done)
+
+-- ---- a faulty line is never 0
+
+abbrev pub Counted : meaning.Held → Type 0
+Counted (sound st) = Unit {0}
+Counted (unsound n) = n ≡ 0 → ⊥
+
+counted-add : (r : Rec) (s : meaning.Held) → Counted s → Counted (addRec r s)
+unfolding addRec
+counted-add r (sound st) c = tt
+counted-add r (unsound n) c = c
+
+scan-counted : (n : ℕ) (lo : Option (List ℕ)) (ls : List Line) → Counted (scan (suc n) lo ls)
+unfolding scan onHeld
+scan-counted n lo [] = tt
+scan-counted n lo (l ∷ ls) = go (heldLine (suc n) l) (λ r. scan-counted (suc n) (some (keyOf r)) ls)
+  where
+    when : (c : Bool) (r : Rec) → Counted (scan (suc (suc n)) (some (keyOf r)) ls) → Counted (pick c (addRec r (scan (suc (suc n)) (some (keyOf r)) ls)) (unsound (suc n)))
+    when true r i = counted-add r (scan (suc (suc n)) (some (keyOf r)) ls) i
+    when false r i = λ z. omega (arith, z)
+
+    go : (o : Option Rec) → ((r : Rec) → Counted (scan (suc (suc n)) (some (keyOf r)) ls)) → Counted (onHeld (suc n) lo o (λ r. scan (suc (suc n)) (some (keyOf r)) ls))
+    go none i = λ z. omega (arith, z)
+    go (some r) i = when (above lo r && leb (suc n) most) r (i r)
+
+-- the pass for references keeps the records
+abbrev Refers : List Rec → meaning.Held → Type 0
+Refers st (sound s) = s ≡ st
+Refers st (unsound n) = n ≡ 0 → ⊥
+
+refer-is : (st : List Rec) (n : ℕ) (rs : List Rec) → Refers st (referring st (suc n) rs)
+unfolding referring
+refer-is st n [] = refl
+refer-is st n (r ∷ rs) = go (meets keyed refsOf st r) (refer-is st (suc n) rs)
+  where
+    go : (c : Bool) → Refers st (referring st (suc (suc n)) rs) → Refers st (pick c (referring st (suc (suc n)) rs) (unsound (suc n)))
+    go true i = i
+    go false i = λ z. omega (arith, z)
+
+-- a holding's faulty line is never 0
+pub read-counted : (h : List ℕ) → Counted (readHolding h)
+unfolding readHolding
+read-counted h = go (scan 1 none (linesOf h)) (scan-counted 0 none (linesOf h))
+  where
+    met : (st : List Rec) (s : meaning.Held) → Refers st s → Counted s
+    met st (sound s) i = tt
+    met st (unsound n) i = i
+
+    go : (s : meaning.Held) → Counted s → Counted (onScan s)
+    go (sound st) c = unfold onScan in (met st (referring st 1 st) (refer-is st 0 st))
+    go (unsound n) c = unfold onScan in c
+
+-- so what has no faulty line is sound
+pub sound-told : (s : meaning.Held) → Counted s → faultOf s ≡ 0 → s ≡ sound (recordsOf s)
+unfolding faultOf recordsOf
+sound-told (sound st) c z = refl
+sound-told (unsound n) c z = absurd (c z)
+
+-- a holding is sound where its lowest faulty line is 0
+pub held-sound : (h : List ℕ) → faultOf (readHolding h) ≡ 0 → readHolding h ≡ sound (recordsOf (readHolding h))
+held-sound h z = sound-told (readHolding h) (read-counted h) z
+
+-- ---- both passes
+
+module _ (h a : List ℕ) (r : Held) (s : ReadAs h (scan 1 none (linesOf h)) r a) where
+  -- a fault of the first pass is the holding's
+  pub read-faulty : (r .line ≡ 0 → ⊥) → HeldIs h r a
+  unfolding readHolding
+  read-faulty m = go (scan 1 none (linesOf h)) (s .line)
+    where
+      go : (w : meaning.Held) → r .line ≡ faultOf w → ReadAs h (onScan w) r a
+      go (sound st) e = absurd (m (unfold faultOf in e))
+      go (unsound n) e = unfold onScan in (record { line = e; listed = λ z. absurd (m z) })
+
+  module _ (z : r .line ≡ 0) where
+    scan-sound : scan 1 none (linesOf h) ≡ sound (recordsOf (scan 1 none (linesOf h)))
+    scan-sound = sound-told (scan 1 none (linesOf h)) (scan-counted 0 none (linesOf h)) (sym (s .line) ∙ z)
+
+    says-is : says h h a (r .count) ≡ recordsOf (scan 1 none (linesOf h))
+    says-is = s .listed z .says h
+
+    reads : Reads 1 none (linesOf h) (says h h a (r .count))
+    reads = subst (Reads 1 none (linesOf h)) (sym says-is) (subst (Scanned 1 none (linesOf h)) scan-sound (scanned 1 none (linesOf h) (omega arith)))
+
+    -- the starts are no more than there is room for
+    pub read-room : 8192 ≤ length a → r .count ≤ length a
+    read-room l = omega (arith, s .listed z .few)
+
+    -- the records are in order
+    pub read-asc : Asc keyed (says h h a (r .count))
+    read-asc = reads .asc
+
+    -- and sound
+    pub read-fines : T (all fine (says h h a (r .count)))
+    read-fines = reads .fines
+
+    -- the second pass says the rest
+    pub read-told : (x : ℕ) → x ≡ faultOf (referring (says h h a (r .count)) 1 (says h h a (r .count))) → HeldIs h (record { line = x; count = r .count }) a
+    unfolding readHolding onScan
+    read-told x e = rw (scan-sound, ← says-is) (record { line = e; listed = λ y. kept (referring st 1 st) (refer-is st 0 st) (sym e ∙ y) })
+      where
+        st : List Rec
+        st = says h h a (r .count)
+
+        kept : (w : meaning.Held) → Refers st w → faultOf w ≡ 0 → Listed h a (r .count) (recordsOf w)
+        kept (sound t) i y = unfold recordsOf in (rw (i, says-is) (s .listed z))
+        kept (unsound n) i y = absurd (i (unfold faultOf in y))
+
+pub ruleset readings = (needs, read-faulty, read-room, read-asc, read-fines, read-told)
+
+-- ---- the three numbers
+
+module _ (h a : List ℕ) (r : Held) (s : HeldIs h r a) where
+  -- a sound holding
+  pub check-sound : r .line ≡ 0 → record { code = 0; line = 0; field = 0 } ≡ verdictOf (checkHolding h)
+  unfolding checkHolding heldNumbers
+  check-sound z = rw (held-sound h (sym (s .line) ∙ z))
+
+  -- an unsound one
+  pub check-unsound : (r .line ≡ 0 → ⊥) → record { code = 14; line = r .line; field = 0 } ≡ verdictOf (checkHolding h)
+  unfolding checkHolding
+  check-unsound m = go (readHolding h) (s .line)
+    where
+      go : (w : meaning.Held) → r .line ≡ faultOf w → record { code = 14; line = r .line; field = 0 } ≡ verdictOf (heldNumbers w)
+      go (sound st) e = absurd (m (unfold faultOf in e))
+      go (unsound n) e = unfold faultOf heldNumbers in (rw e)
+
+pub ruleset checks = (needs, check-sound, check-unsound)

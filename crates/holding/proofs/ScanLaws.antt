@@ -1,0 +1,277 @@
+-- The laws of the walk over the lines: the next key, and what is read so far with what is left.
+use mathlib.Core.Path.{_≡_, refl, sym, ap, ap₂, subst, _∙_}
+use mathlib.Core.Bool.{Bool, true, false, _&&_}
+use mathlib.Core.Option.{Option, none, some}
+use mathlib.Core.List.{List, [], _∷_, _++_, append-assoc, append-nil}
+use Prim.Native.Nat.{ℕ, zero, suc, _+_, _-_, _*_, _/_, _%_, _≤_, _<_}
+use native.Mathlib.Numerals.{add-one}
+use native.Mathlib.Omega.{arith}
+use borrow.Author.Needs.{needs}
+use borrow.Author.Tests.{eq-eqb, le-leb, lt-leb}
+use lib.Dec.{T, eqb, leb, leb→le}
+use lib.ListN.{length, take, drop, set, length-set}
+use lib.Seq.{take-suc-set}
+use mir.Facts.{yes-eqb}
+use Rattle.base.specs.Lists.{all, pick, keepIf, bytes}
+use Rattle.base.specs.Tests.{and-r, some≢none}
+use Rattle.base.specs.ListLaws.{all-snoc}
+use Rattle.theory.specs.Tri.{Tri, lt, eq, gt, isLt}
+use Rattle.theory.specs.Lex.{andThen, lex}
+use Rattle.theory.specs.LexLaws.{is-cmpN}
+use Rattle.theory.specs.Limits.{most}
+use Rattle.theory.specs.Decimal.{value, valueF}
+use Rattle.meaning.specs.Lines.{Line, linesOf}
+use Rattle.meaning.specs.Table.{Kind, kinds, ident}
+use Rattle.meaning.specs.Records.{Rec, contentOf, keyOf}
+use Rattle.meaning.specs.Holding as meaning
+use Rattle.meaning.specs.Holding.{sound, unsound, heldLine, addRec, above, onHeld, scan}
+use Rattle.laws.specs.Kinds.{every}
+use Rattle.laws.specs.Body.{fine}
+use Rattle.laws.specs.HoldingReadBack.{HeldIs, held-out}
+use Rattle.text.specs.declared.order.Order.{Order}
+use Rattle.text.specs.declared.order.Order.the-variants.{Before, Same, After}
+use Rattle.text.specs.Order.{triOf}
+use Rattle.text.specs.Places.{endsHere, lineLen, plainEnd, contentStart}
+use Rattle.text.proofs.LineLaws.{firstLine, lines-at, lines-end, ends-well-at, ends-there}
+use Rattle.layout.specs.declared.kinds.Kind as code
+use Rattle.layout.specs.declared.kinds.KindFound.{KindFound}
+use Rattle.layout.specs.declared.kinds.KindFound.the-variants.{Known, Unknown}
+use Rattle.layout.specs.Meant.{kindMeant, kindFound}
+use Rattle.keys.specs.declared.Key.{Key}
+use Rattle.keys.specs.Numbers.{keyList, keyNumbers}
+use Rattle.keys.specs.KeyLaws.{key-agrees}
+use Rattle.places.specs.Places.{recOf, lineAt, entry, says}
+use Rattle.places.proofs.SaysLaws.{entry-even, says-more, says-held, length-says}
+use Rattle.places.proofs.EntryLaws.{content-told}
+use Rattle.places.proofs.LineLaws.{held-there}
+use Rattle.holding.specs.declared.scan.Next.{Next}
+use Rattle.holding.specs.declared.scan.Next.the-variants.{Taken, Faulty}
+use Rattle.holding.specs.declared.read.Held.{Held}
+use Rattle.holding.specs.Held.{heldAs, recordAs, nextAs, keyTaken}
+use Rattle.holding.specs.Read.{faultOf, recordsOf, Listed, ReadAs}
+use Rattle.holding.proofs.HeldLaws.{held-is}
+
+-- ---- the next key
+
+module _ (n : ℕ) (q t : List ℕ) (b : Bool) where
+  -- line 8,193 is the fault
+  pub next-many : 8192 < n → none ≡ nextAs n q (recordAs t (heldAs n b t))
+  next-many h = go (recordAs t (heldAs n b t))
+    where
+      no : (c : Bool) (k : List ℕ) → none ≡ keepIf (c && leb n most) k
+      no true k = unfold keepIf in (rw (lt-leb n most h))
+      no false k = unfold keepIf in refl
+
+      go : (o : Option Rec) → none ≡ nextAs n q o
+      go none = unfold nextAs in refl
+      go (some r) = unfold nextAs in (no (isLt (lex q (keyNumbers r))) (keyNumbers r))
+
+  module _ (o : KindFound) (p : kindFound o ≡ heldAs n b t) where
+    -- a line that is not held
+    pub next-unheld : o ≡ Unknown → none ≡ nextAs n q (recordAs t (heldAs n b t))
+    unfolding recordAs nextAs
+    next-unheld e = rw (← p, e)
+
+    module _ (k : code.Kind) (e : o ≡ Known k) (c : ℕ) (u : c ≡ contentStart t) (j : List ℕ) (v : j ≡ keyNumbers (record { kind = kindMeant k; content = take (length t - c) (drop c t) })) (x : Order) (w : triOf x ≡ lex q j) where
+      next-by : nextAs n q (recordAs t (heldAs n b t)) ≡ keepIf (isLt (triOf x) && leb n most) j
+      unfolding recordAs nextAs
+      next-by =
+          let y : keyNumbers (record { kind = kindMeant k; content = contentOf t }) ≡ j = sym (v ∙ rw (content-told t c u)) in
+          rw (← p, e, y, ← w)
+
+      -- a key after the one before is taken
+      pub next-taken : n ≤ 8192 → x ≡ Before → some j ≡ nextAs n q (recordAs t (heldAs n b t))
+      unfolding keepIf
+      next-taken h s = sym (next-by ∙ rw (s, le-leb n most h))
+
+      -- the same key is out of order
+      pub next-same : x ≡ Same → none ≡ nextAs n q (recordAs t (heldAs n b t))
+      unfolding keepIf
+      next-same s = sym (next-by ∙ rw s)
+
+      -- and so is one before it
+      pub next-after : x ≡ After → none ≡ nextAs n q (recordAs t (heldAs n b t))
+      unfolding keepIf
+      next-after s = sym (next-by ∙ rw s)
+
+pub ruleset nexts = (needs, next-many, next-unheld, next-taken, next-same, next-after)
+
+-- ---- what was read so far, and what is left
+
+-- records in front of what comes after them
+abbrev pub joinHeld : List Rec → meaning.Held → meaning.Held
+joinHeld st (sound s) = sound (st ++ s)
+joinHeld st (unsound n) = unsound n
+
+join-nil : (s : meaning.Held) → s ≡ joinHeld [] s
+join-nil (sound s) = refl
+join-nil (unsound n) = refl
+
+join-add : (st : List Rec) (r : Rec) (s : meaning.Held) → joinHeld st (addRec r s) ≡ joinHeld (st ++ (r ∷ [])) s
+unfolding addRec
+join-add st r (sound s) = ap sound (sym (append-assoc st (r ∷ []) s))
+join-add st r (unsound n) = refl
+
+-- a key by numbers stands before the keys of sound records that the last key stands before
+abbrev pub Beside : List ℕ → Option (List ℕ) → Type 0
+Beside k lo = (r : Rec) → T (fine r) → isLt (lex k (keyNumbers r)) ≡ above lo r
+
+-- n lines were read up to `at`, the last of key k, and their starts are in a
+pub record Scanning (h a : List ℕ) (n at : ℕ) (k : List ℕ) : Type 0 where
+  pub lo : Option (List ℕ)
+  pub left : scan 1 none (linesOf h) ≡ joinHeld (says h h a n) (scan (suc n) lo (linesOf (drop at h)))
+  pub beside : Beside k lo
+  pub even : T (all (λ v. eqb (v % 2) 0) (take n a))
+  pub few : n ≤ most
+
+-- every kind's number is above 0
+kind-low : (k : Kind) → 0 < value (ident k)
+unfolding kinds ident bytes value valueF
+kind-low k = leb→le 1 (value (ident k)) (every (λ k. leb 1 (value (ident k))) tt k)
+
+-- so the key of zeros stands before every other
+zeros-beside : Beside (0 ∷ 0 ∷ 0 ∷ 0 ∷ []) none
+unfolding above lex andThen keyNumbers
+zeros-beside r f = rw (is-cmpN 0 (value (ident (r .kind))) lt (kind-low (r .kind)))
+
+-- at the start nothing was read
+pub scan-start : (h a : List ℕ) → Scanning h a 0 0 (0 ∷ 0 ∷ 0 ∷ 0 ∷ [])
+unfolding says
+scan-start h a = record { lo = none; left = join-nil (scan 1 none (linesOf h)); beside = zeros-beside; even = tt; few = omega arith }
+
+-- ---- a line in order
+
+abbrev FineIn : Option Rec → Type 0
+FineIn none = Unit {0}
+FineIn (some r) = T (fine r)
+
+held-fine : (n : ℕ) (l : Line) (o : Option Rec) → HeldIs n l o → FineIn o
+held-fine n l none w = tt
+held-fine n l (some r) w = w .1
+
+-- a line that was taken: its record, and that the lines after it are asked
+record Took (m : ℕ) (lo : Option (List ℕ)) (o : Option Rec) (go : Rec → meaning.Held) (j : List ℕ) : Type 0 where
+  pub taken : Rec
+  pub held : o ≡ some taken
+  pub sounds : T (fine taken)
+  pub key : j ≡ keyNumbers taken
+  pub goes : onHeld m lo o go ≡ addRec taken (go taken)
+  pub few : m ≤ most
+
+abbrev Nexts : ℕ → Option (List ℕ) → Option Rec → (Rec → meaning.Held) → Option (List ℕ) → Type 0
+Nexts m lo o go none = onHeld m lo o go ≡ unsound m
+Nexts m lo o go (some j) = Took m lo o go j
+
+next-in : (m : ℕ) (k : List ℕ) (lo : Option (List ℕ)) → Beside k lo → (o : Option Rec) → FineIn o → (go : Rec → meaning.Held) → Nexts m lo o go (nextAs m k o)
+unfolding nextAs onHeld
+next-in m k lo b none f go = refl
+next-in m k lo b (some r) f go = rw (b r f) (when (above lo r && leb m most) refl)
+  where
+    when : (c : Bool) → (above lo r && leb m most) ≡ c → Nexts m lo (some r) go (keepIf c (keyNumbers r))
+    when true q = unfold keepIf in (record { taken = r; held = refl; sounds = f; key = refl; goes = rw q; few = leb→le m most (and-r (above lo r) (leb m most) (rw q tt)) })
+    when false q = unfold keepIf in (rw q)
+
+module _ (h : List ℕ) (at e : ℕ) (b : Bool) (g : at < length h) (q : e ≡ plainEnd h at) (u : b ≡ endsHere (drop e h)) where
+  -- the text that the code judges
+  abbrev judged : List ℕ
+  judged = take (e - at) (drop at h)
+
+  -- the line there, as the meaning has it
+  line-held : (n : ℕ) → heldLine n (firstLine (drop at h)) ≡ recordAs judged (heldAs n b judged)
+  unfolding heldAs recordAs
+  line-held n = held-is n (firstLine (drop at h)) b (u ∙ sym (ends-well-at h at e q)) ∙ go b refl
+    where
+      go : (c : Bool) → b ≡ c → recordAs (firstLine (drop at h) .text) (heldAs n c (firstLine (drop at h) .text)) ≡ recordAs judged (heldAs n c judged)
+      go true p = rw (ends-there h at e q (sym u ∙ p))
+      go false p = refl
+
+  -- the lines after it
+  abbrev rest : List Line
+  rest = linesOf (drop (at + (lineLen (drop at h) + 2)) h)
+
+  line-next : (n : ℕ) (lo : Option (List ℕ)) → scan (suc n) lo (linesOf (drop at h)) ≡ onHeld (suc n) lo (recordAs judged (heldAs (suc n) b judged)) (λ r. scan (suc (suc n)) (some (keyOf r)) rest)
+  unfolding scan
+  line-next n lo = rw (lines-at h at g, line-held (suc n))
+
+  -- where a record was found the line ends well
+  ended : (n : ℕ) (r : Rec) → recordAs judged (heldAs n b judged) ≡ some r → b ≡ true
+  unfolding heldAs recordAs
+  ended n r p = go b p
+    where
+      go : (c : Bool) → recordAs judged (heldAs n c judged) ≡ some r → c ≡ true
+      go true p = refl
+      go false p = absurd (some≢none (sym p))
+
+  -- so the next begins two bytes on
+  next-there : (n : ℕ) (r : Rec) → recordAs judged (heldAs n b judged) ≡ some r → at + (lineLen (drop at h) + 2) ≡ e + 2
+  next-there n r p = let z = ends-there h at e q (sym u ∙ ended n r p) in omega (arith, z)
+
+  line-on : (n : ℕ) (lo : Option (List ℕ)) (r : Rec) (st st′ : List Rec)
+      → onHeld (suc n) lo (recordAs judged (heldAs (suc n) b judged)) (λ r. scan (suc (suc n)) (some (keyOf r)) rest) ≡ addRec r (scan (suc (suc n)) (some (keyOf r)) rest)
+      → at + (lineLen (drop at h) + 2) ≡ e + 2 → st′ ≡ st ++ (r ∷ [])
+      → joinHeld st (scan (suc n) lo (linesOf (drop at h))) ≡ joinHeld st′ (scan (suc (n + 1)) (some (keyOf r)) (linesOf (drop (e + 2) h)))
+  line-on n lo r st st′ f w c = rw (line-next n lo, f, join-add st r _, c, w, add-one n)
+
+  module _ (a : List ℕ) (n : ℕ) (k : List ℕ) (s : Scanning h a n at k) (x : Next) (v : keyTaken x ≡ nextAs (n + 1) k (recordAs judged (heldAs (n + 1) b judged))) where
+    found : Nexts (suc n) (s .lo) (recordAs judged (heldAs (suc n) b judged)) (λ r. scan (suc (suc n)) (some (keyOf r)) rest) (keyTaken x)
+    found =
+        rw (v, add-one n)
+        (next-in (suc n) k (s .lo) (s .beside) (recordAs judged (heldAs (suc n) b judged)) (held-fine (suc n) (firstLine (drop at h)) (recordAs judged (heldAs (suc n) b judged)) (subst (HeldIs (suc n) (firstLine (drop at h))) (line-held (suc n)) (held-out (suc n) (firstLine (drop at h))))) (λ r. scan (suc (suc n)) (some (keyOf r)) rest))
+
+    -- a line that is faulty or out of order is the lowest
+    pub scan-stop : x ≡ Faulty → ReadAs h (scan 1 none (linesOf h)) (record { line = n + 1; count = 0 }) a
+    unfolding faultOf
+    scan-stop y =
+        let f : onHeld (suc n) (s .lo) (recordAs judged (heldAs (suc n) b judged)) (λ r. scan (suc (suc n)) (some (keyOf r)) rest) ≡ unsound (suc n) = rw y at found in
+        let w : scan 1 none (linesOf h) ≡ unsound (suc n) = s .left ∙ rw (line-next n (s .lo), f) in
+        record { line = rw w (add-one n); listed = λ z. absurd (omega (arith, z)) }
+
+    -- there is room for the start of one that is taken
+    pub scan-room : (j : Key) → x ≡ Taken j → 8192 ≤ length a → n < length a
+    scan-room j y l =
+        let t : Took (suc n) (s .lo) (recordAs judged (heldAs (suc n) b judged)) (λ r. scan (suc (suc n)) (some (keyOf r)) rest) (keyList j) = rw y at found in
+        omega (arith, t .few)
+
+    -- and it leaves those after it
+    pub scan-turn : (j : Key) → x ≡ Taken j → 8192 ≤ length a → Scanning h (set a n (2 * at)) (n + 1) (e + 2) (keyList j)
+    scan-turn j y l =
+        let t : Took (suc n) (s .lo) (recordAs judged (heldAs (suc n) b judged)) (λ r. scan (suc (suc n)) (some (keyOf r)) rest) (keyList j) = rw y at found in
+        let r : Rec = t .taken in
+        let m : n < length a = omega (arith, t .few) in
+        let i : entry h h (2 * at) ≡ r = entry-even h h at (2 * at) (omega arith) ∙ held-there h at (suc n) (firstLine (drop at h)) rest r (lines-at h at g) (line-held (suc n) ∙ t .held) in
+        let c : says h h (set a n (2 * at)) (n + 1) ≡ says h h a n ++ (r ∷ []) = says-more h h a n (2 * at) m ∙ rw i in
+        record {
+          lo = some (keyOf r);
+          left = s .left ∙ line-on n (s .lo) r (says h h a n) (says h h (set a n (2 * at)) (n + 1)) (t .goes) (next-there (suc n) r (t .held)) c;
+          beside = λ z f. rw (t .key) (beside-key r (t .sounds) z f);
+          even = rw (add-one n, take-suc-set a n (2 * at) m) (all-snoc (λ v. eqb (v % 2) 0) (take n a) (2 * at) (s .even) (yes-eqb {a = 2 * at % 2} {b = 0} (omega arith)));
+          few = omega (arith, t .few);
+        }
+      where
+        beside-key : (r : Rec) → T (fine r) → Beside (keyNumbers r) (some (keyOf r))
+        beside-key r f z g = unfold above in (ap isLt (key-agrees r z f g))
+
+-- at the end all lines are sound and in order
+pub scan-done : (h a k : List ℕ) (n at : ℕ) → Scanning h a n at k → length h ≤ at → 8192 ≤ length a → ReadAs h (scan 1 none (linesOf h)) (record { line = 0; count = n }) a
+unfolding scan faultOf recordsOf
+scan-done h a k n at s g l =
+    let w : meaning.scan 1 none (linesOf h) ≡ sound (says h h a n) = s .left ∙ rw (lines-end h at g, append-nil) in
+    record {
+      line = rw w;
+      listed = λ z. rw w (record {
+        count = sym (length-says h h a n (omega (arith, s .few)));
+        says = λ f. says-held h f h a n (s .even);
+        even = s .even;
+        few = s .few;
+      });
+    }
+
+-- another start in the array leaves its length
+pub starts-same : (o a : List ℕ) (i v : ℕ) → length a ≡ length o → length (set a i v) ≡ length o
+starts-same o a i v e = rw length-set e
+
+-- so there is still room
+pub starts-room : (a : List ℕ) (i v : ℕ) → 8192 ≤ length a → 8192 ≤ length (set a i v)
+starts-room a i v l = rw length-set l
+
+pub ruleset scanning = (needs, scan-start, scan-stop, scan-room, scan-turn, scan-done, starts-same, starts-room)

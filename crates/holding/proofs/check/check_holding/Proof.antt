@@ -1,0 +1,13 @@
+-- `holding::check::check_holding` meets its contract.
+use Rattle.holding.proofs.ReadLaws.{checks}
+use Rattle.holding.proofs.check.check_holding.Statement.{statement}
+use Rattle.holding.proofs.check.check_holding.Tie as tie
+
+pub check-holding-spec : {M : Type 1} → statement M
+check-holding-spec =
+    tie.close
+    (tie.spec
+    (λ c. search checks)  -- slice-aggregate-read-holding
+    (λ c κs. search checks)  -- read-holding-requires
+    (λ c. search checks)  -- returns
+    (λ c. search checks))  -- returns-2

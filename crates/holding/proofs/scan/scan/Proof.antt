@@ -1,0 +1,36 @@
+-- `holding::scan::scan` meets its contract.
+use Rattle.holding.proofs.ScanLaws.{scanning}
+use Rattle.holding.proofs.ScanLaws.{Scanning, scan-turn}
+use Rattle.keys.specs.Numbers.{keyList}
+use Prim.Native.Nat.{_-_, _≤_}
+use mathlib.Core.Path.{_≡_}
+use lib.ListN.{length}
+use Rattle.holding.proofs.scan.scan.Statement.{statement}
+use Rattle.holding.proofs.scan.scan.Tie as tie
+
+pub scan-spec : {M : Type 1} → statement M
+scan-spec =
+    tie.close
+    (tie.spec
+    (λ holding starts₀ before₀ count₀ at₀ starts before count at. Scanning holding starts count at (keyList before) × (8192 ≤ length starts) × (length starts ≡ length starts₀))
+    (λ holding starts₀ before₀ count₀ at₀ starts before count at. length holding - at)
+    (λ c. search scanning)  -- loop-holds
+    (λ c κs. search scanning)  -- plain-end-requires
+    (λ c. search scanning)  -- add-line
+    (λ c. search scanning)  -- sub-next-key
+    (λ c. search scanning)  -- part-next-key-start
+    (λ c. search scanning)  -- part-next-key-end
+    (λ c κs. search scanning)  -- ends-at-requires
+    (λ c κs. search scanning)  -- next-key-requires
+    (λ c. search scanning)  -- enum-known-next
+    (λ c. search scanning)  -- enum-told
+    (λ c. search scanning)  -- same-length
+    (λ c. search scanning)  -- returns
+    (λ c. search scanning)  -- mul-starts
+    (λ c. search scanning)  -- mul-starts-2
+    (λ c. search scanning)  -- slice-write-starts
+    (λ c. search scanning)  -- add-at
+    (λ c. search scanning)  -- loop-less
+    (λ c. (scan-turn _ _ _ _ (c .before .before .before .before .before .before .before .loop-test .taken) (c .before .before .before .before .before .before .plain-end .ensures .0) (c .before .before .before .before .ends-at .ensures) _ _ _ (c .before .before .before .before .before .before .before .before .loop .inv .0) _ (c .before .before .before .next-key .ensures) _ (c .before .next .given .1) (c .before .before .before .before .before .before .before .before .loop .inv .1), search scanning, search scanning))  -- loop-again
+    (λ c. search scanning)  -- same-length-2
+    (λ c. search scanning))  -- returns-2

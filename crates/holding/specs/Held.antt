@@ -1,0 +1,41 @@
+-- One line of a holding, and the next one in order, as code answers them.
+use mathlib.Core.Bool.{Bool, true, false, _&&_}
+use mathlib.Core.Option.{Option, none, some}
+use mathlib.Core.List.{List, [], _∷_}
+use Prim.Native.Nat.{ℕ}
+use lib.Dec.{leb}
+use Rattle.base.specs.Lists.{pick, keepIf}
+use Rattle.theory.specs.Tri.{isLt}
+use Rattle.theory.specs.Lex.{lex}
+use Rattle.theory.specs.Limits.{most}
+use Rattle.meaning.specs.Lines.{identifier}
+use Rattle.meaning.specs.Table.{Kind, kindOf}
+use Rattle.meaning.specs.Records.{Rec, contentOf}
+use Rattle.meaning.specs.Holding.{heldTest}
+use Rattle.keys.specs.Numbers.{keyList, keyNumbers}
+use Rattle.holding.specs.declared.scan.Next.{Next}
+use Rattle.holding.specs.declared.scan.Next.the-variants.{Taken, Faulty}
+
+-- a known kind, where the line is sound as line n of a holding
+unfoldable pub heldKindAs : ℕ → List ℕ → Option Kind → Option Kind
+heldKindAs n t none = none
+heldKindAs n t (some k) = keepIf (heldTest n k t) k
+
+-- the kind of line n, where it ends well and is sound as such
+unfoldable pub heldAs : ℕ → Bool → List ℕ → Option Kind
+heldAs n ended t = pick ended (heldKindAs n t (kindOf (identifier t))) none
+
+-- the record of a line of that kind
+unfoldable pub recordAs : List ℕ → Option Kind → Option Rec
+recordAs t none = none
+recordAs t (some k) = some (record { kind = k; content = contentOf t })
+
+-- the key of line n as numbers, where that is a record whose key stands after q; line 8,193 is the fault
+unfoldable pub nextAs : ℕ → List ℕ → Option Rec → Option (List ℕ)
+nextAs n q none = none
+nextAs n q (some r) = keepIf (isLt (lex q (keyNumbers r)) && leb n most) (keyNumbers r)
+
+-- the key that was taken, if any
+abbrev pub keyTaken : Next → Option (List ℕ)
+keyTaken (Taken k) = some (keyList k)
+keyTaken Faulty = none

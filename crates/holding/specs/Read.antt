@@ -1,0 +1,40 @@
+-- What is read of a holding: its lowest faulty line, or its records and where they stand.
+use mathlib.Core.Path.{_≡_}
+use mathlib.Core.Bool.{Bool}
+use mathlib.Core.List.{List, [], _∷_}
+use Prim.Native.Nat.{ℕ, _%_, _≤_}
+use lib.Dec.{T, eqb}
+use lib.ListN.{length, take}
+use Rattle.base.specs.Lists.{all}
+use Rattle.theory.specs.Limits.{most}
+use Rattle.meaning.specs.Records.{Rec}
+use Rattle.meaning.specs.Holding as meaning
+use Rattle.meaning.specs.Holding.{sound, unsound, readHolding}
+use Rattle.places.specs.Places.{says}
+use Rattle.holding.specs.declared.read.Held.{Held}
+
+-- the lowest faulty line; a sound holding has none, which is 0
+unfoldable pub faultOf : meaning.Held → ℕ
+faultOf (sound st) = 0
+faultOf (unsound n) = n
+
+-- the records of a sound holding
+unfoldable pub recordsOf : meaning.Held → List Rec
+recordsOf (sound st) = st
+recordsOf (unsound n) = []
+
+-- the first n entries say these records, each by where its line starts in the holding, whatever the file is
+pub record Listed (h a : List ℕ) (n : ℕ) (st : List Rec) : Type 0 where
+  pub count : n ≡ length st
+  pub says : (f : List ℕ) → says h f a n ≡ st
+  pub even : T (all (λ v. eqb (v % 2) 0) (take n a))
+  pub few : n ≤ most
+
+-- the answer tells the lowest faulty line of what was read, or its records and where they stand
+pub record ReadAs (h : List ℕ) (s : meaning.Held) (r : Held) (a : List ℕ) : Type 0 where
+  pub line : r .line ≡ faultOf s
+  pub listed : r .line ≡ 0 → Listed h a (r .count) (recordsOf s)
+
+-- the same of a holding
+abbrev pub HeldIs : List ℕ → Held → List ℕ → Type 0
+HeldIs h r a = ReadAs h (readHolding h) r a

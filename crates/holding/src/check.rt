@@ -1,0 +1,32 @@
+// The check of a holding: 14 at its lowest faulty line.
+ghost use mathlib.Core.Path.{_≡_};
+ghost use Rattle.meaning.specs.Load.{checkHolding};
+ghost use Rattle.holding.specs.Verdict.{verdictOf};
+use crate::read::read_holding;
+
+// Code, line, field.
+pub struct Verdict {
+    pub code: u64,
+    pub line: usize,
+    pub field: usize,
+}
+
+// The check of a holding.
+pub fn check_holding(holding: &[u8]) -> Verdict
+    ensures { λ r. ⌜ r ≡ verdictOf (checkHolding (now (holding .entry))) ⌝ }
+{
+    let mut starts = [0u64; 8192];
+    let held = read_holding(holding, &mut starts);
+    if held.line == 0 {
+        return Verdict {
+            code: 0,
+            line: 0,
+            field: 0,
+        };
+    }
+    Verdict {
+        code: 14,
+        line: held.line,
+        field: 0,
+    }
+}

@@ -1,0 +1,13 @@
+-- `places::references::meets` meets its contract.
+use Rattle.places.proofs.ReferenceLaws.{entrymet}
+use Rattle.places.proofs.references.meets.Statement.{statement}
+use Rattle.places.proofs.references.meets.Tie as tie
+
+pub meets-spec : {M : Type 1} → statement M
+meets-spec =
+    tie.close
+    (tie.spec
+    (λ c κs. search entrymet)  -- meets-at-requires
+    (λ c. search entrymet)  -- returns
+    (λ c κs. search entrymet)  -- meets-at-requires-2
+    (λ c. search entrymet))  -- returns-2
