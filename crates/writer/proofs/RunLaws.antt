@@ -1,0 +1,179 @@
+-- The laws of lines that are written one after another.
+use mathlib.Core.Path.{_≡_, refl, sym, ap, _∙_}
+use mathlib.Core.List.{List, [], _∷_, _++_, append-assoc}
+use Prim.Native.Nat.{ℕ, zero, suc, _+_, _-_, _^_, _≤_, _<_}
+use native.Mathlib.Nat.{add-zero}
+use native.Mathlib.Omega.{arith}
+use borrow.Author.Needs.{needs}
+use borrow.Rule.Slice.PartMut.{putMid}
+use mir.Syntax.{w64}
+use mir.Val.{Fits}
+use lib.ListN.{length, getD, take, drop, set, length-append, length-drop, take-append-drop}
+use lib.Seq.{length-take-le, take-add, take-all, getD-set-same, getD-set-other}
+use Rattle.theory.specs.Step.{Op, ins, inv, Change, after, back}
+use Rattle.theory.specs.Run.{inserts}
+use Rattle.theory.specs.Trail.{final, undo}
+use Rattle.theory.specs.TrailLaws.{undo-snoc}
+use Rattle.meaning.specs.Records.{Rec, keyed, changeText, changeTexts, joined}
+use Rattle.meaning.specs.Holding.{written}
+use Rattle.text.specs.Front.{inFront}
+use Rattle.text.proofs.PutLaws.{front-none, front-then}
+use Rattle.places.specs.Places.{entry, says}
+use Rattle.places.proofs.SaysLaws.{length-says, says-at}
+use Rattle.writer.specs.Lines.{lineBytes}
+use Rattle.writer.specs.Runs.{opAt, stepsBack, backTexts}
+use Rattle.writer.proofs.LineLaws.{front-same, front-room}
+
+-- ---- changes, the first i of them written
+
+-- the lines of changes, numbered from 1
+abbrev pub texts : List (Change Rec) → List ℕ
+texts cs = joined (changeTexts 1 cs)
+
+-- lines after lines
+pub texts-append : (k : ℕ) (a b : List (Change Rec)) → joined (changeTexts k (a ++ b)) ≡ joined (changeTexts k a) ++ joined (changeTexts (k + length a) b)
+unfolding joined changeTexts
+texts-append k [] b = rw (add-zero k)
+texts-append k (c ∷ a) b =
+    let s : suc k + length a ≡ k + suc (length a) = omega arith in
+    ap (λ x. changeText k c ++ (13 ∷ (10 ∷ x))) (texts-append (suc k) a b ∙ rw s)
+    ∙ sym (append-assoc (changeText k c) (13 ∷ (10 ∷ joined (changeTexts (suc k) a))) (joined (changeTexts (k + suc (length a)) b)))
+
+-- the first i changes stand in the front of the output, and the rest of it is as it was
+pub record Writing (cs : List (Change Rec)) (old out : List ℕ) (pos i : ℕ) : Type 0 where
+  pub place : pos ≡ length (texts (take i cs))
+  pub front : out ≡ inFront (texts (take i cs)) old
+  pub same : length out ≡ length old
+  pub within : pos ≤ length old
+
+-- at first none does
+pub writing-start : (cs : List (Change Rec)) (old : List ℕ) → Writing cs old old 0 0
+unfolding joined changeTexts
+writing-start cs old = record { place = refl; front = front-none old; same = refl; within = omega arith }
+
+module _ (cs : List (Change Rec)) (old out : List ℕ) (pos i : ℕ) (c : Change Rec) (g : Writing cs old out pos i) (h : length (texts cs) ≤ length old) (e : drop i cs ≡ c ∷ drop (suc i) cs) where
+  inside : i < length cs
+  inside = omega (arith, length-drop i cs, ap length e)
+
+  more : texts (take (i + 1) cs) ≡ texts (take i cs) ++ lineBytes (i + 1) c
+  unfolding joined changeTexts lineBytes
+  more =
+      let t : take (i + 1) cs ≡ take i cs ++ (c ∷ []) = take-add i 1 cs ∙ rw e in
+      let n : 1 + length (take i cs) ≡ i + 1 = omega (arith, length-take-le i cs (omega (arith, inside))) in
+      rw t (texts-append 1 (take i cs) (c ∷ []) ∙ rw n)
+
+  long : pos + length (lineBytes (i + 1) c) ≤ length old
+  long =
+      let w : length (texts cs) ≡ length (texts (take (i + 1) cs)) + length (joined (changeTexts (1 + length (take (i + 1) cs)) (drop (i + 1) cs))) =
+      ap (λ l. length (texts l)) (sym (take-append-drop (i + 1) cs))
+      ∙ ap length (texts-append 1 (take (i + 1) cs) (drop (i + 1) cs))
+      ∙ length-append (texts (take (i + 1) cs)) (joined (changeTexts (1 + length (take (i + 1) cs)) (drop (i + 1) cs)))
+      in
+      omega (arith, w, ap length more, length-append (texts (take i cs)) (lineBytes (i + 1) c), g .place)
+
+  -- the next line has room
+  pub writing-room : length (lineBytes (i + 1) c) ≤ length (take (length out - pos) (drop pos out))
+  writing-room = front-room (texts (take i cs)) old out pos (length (lineBytes (i + 1) c)) (g .place) (g .front) long
+
+  module _ (r : ℕ) (q : r ≡ length (lineBytes (i + 1) c)) where
+    writing-in : pos + r ≤ length old
+    writing-in = omega (arith, long)
+
+    -- it ends within the output
+    pub writing-fits : length old < 2 ^ 64 → Fits w64 (pos + r)
+    writing-fits b = record { fits = omega (arith, writing-in) }
+
+    -- and stands after those before it
+    pub writing-turn : (last : List ℕ) → last ≡ inFront (lineBytes (i + 1) c) (take (length out - pos) (drop pos out)) → Writing cs old (putMid pos (length out - pos) out last) (pos + r) (i + 1)
+    writing-turn last u =
+        let d : putMid pos (length out - pos) out last ≡ inFront (texts (take (i + 1) cs)) old = rw more (front-then (texts (take i cs)) (lineBytes (i + 1) c) old out last pos (g .place) (g .front) u) in
+        let p : pos + r ≡ length (texts (take (i + 1) cs)) = omega (arith, ap length more, length-append (texts (take i cs)) (lineBytes (i + 1) c), g .place) in
+        record {
+          place = p;
+          front = d;
+          same = front-same (texts (take (i + 1) cs)) old (putMid pos (length out - pos) out last) (omega (arith, long)) d;
+          within = writing-in;
+        }
+
+module _ (cs : List (Change Rec)) (old out : List ℕ) (pos i : ℕ) (g : Writing cs old out pos i) (h : length cs ≤ i) where
+  -- at the end all are counted
+  pub writing-count : pos ≡ length (texts cs)
+  writing-count = rw (take-all i cs h) at (g .place)
+
+  -- and written
+  pub writing-done : out ≡ inFront (texts cs) old
+  writing-done = rw (take-all i cs h) at (g .front)
+
+-- ---- a holding
+
+drop-inserts : (i : ℕ) (st : List Rec) → drop i (inserts st) ≡ inserts (drop i st)
+drop-inserts zero st = refl
+drop-inserts (suc i) [] = refl
+drop-inserts (suc i) (r ∷ st) = drop-inserts i st
+
+length-inserts : (st : List Rec) → length (inserts st) ≡ length st
+length-inserts [] = refl
+length-inserts (r ∷ st) = ap suc (length-inserts st)
+
+module _ (h f a : List ℕ) (n i : ℕ) (l : n ≤ length a) where
+  -- the next line is the record of entry i
+  pub insert-next : i < n → drop i (inserts (says h f a n)) ≡ record { op = ins; rec = entry h f (getD a i 0) } ∷ drop (suc i) (inserts (says h f a n))
+  insert-next g = drop-inserts i (says h f a n) ∙ rw (says-at h f a n l i g, drop-inserts (suc i) (says h f a n))
+
+  -- there are as many as entries
+  pub inserts-end : n ≤ i → length (inserts (says h f a n)) ≤ i
+  inserts-end g = omega (arith, length-inserts (says h f a n), length-says h f a n l)
+
+pub ruleset holding = (needs, writing-start, writing-room, writing-fits, writing-turn, writing-count, writing-done, insert-next, inserts-end)
+
+-- ---- steps back
+
+module _ (h f steps before : List ℕ) where
+  drop-back : (i k : ℕ) → drop i (stepsBack h f steps before (i + k)) ≡ stepsBack h f steps before k
+  unfolding stepsBack
+  drop-back zero k = let z : 0 + k ≡ k = omega arith in rw z
+  drop-back (suc i) k = let z : suc i + k ≡ suc (i + k) = omega arith in rw z (drop-back i k)
+
+  length-back : (n : ℕ) → length (stepsBack h f steps before n) ≡ n
+  unfolding stepsBack
+  length-back zero = refl
+  length-back (suc n) = ap suc (length-back n)
+
+  -- the next line takes back the last step that is left
+  pub back-next : (n i k : ℕ) (o : Op) → i < n → k ≡ n - i - 1 → o ≡ inv (opAt f (getD steps k 0))
+      → drop i (stepsBack h f steps before n) ≡ record { op = o; rec = entry h f (getD before k 0) } ∷ drop (suc i) (stepsBack h f steps before n)
+  unfolding stepsBack
+  back-next n i k o g q u =
+      let x : n ≡ i + suc k = omega arith in
+      let y : n ≡ suc i + k = omega arith in
+      let d : drop i (stepsBack h f steps before n) ≡ stepsBack h f steps before (suc k) = rw x (drop-back i (suc k)) in
+      let r : drop (suc i) (stepsBack h f steps before n) ≡ stepsBack h f steps before k = rw y (drop-back (suc i) k) in
+      d ∙ rw (r, u)
+
+  -- there are as many as steps
+  pub back-end : (n i : ℕ) → n ≤ i → length (stepsBack h f steps before n) ≤ i
+  back-end n i g = omega (arith, length-back n)
+
+pub ruleset backwards = (needs, writing-start, writing-room, writing-fits, writing-turn, writing-count, writing-done, back-next, back-end)
+
+-- entries that stand after the first n do not matter to them
+pub back-set : (h f steps before : List ℕ) (n m v w : ℕ) → n ≤ m → stepsBack h f (set steps m v) (set before m w) n ≡ stepsBack h f steps before n
+unfolding stepsBack
+back-set h f steps before zero m v w g = refl
+back-set h f steps before (suc n) m v w g =
+    rw (getD-set-other steps m n v 0 (λ e. absurd (omega arith)), getD-set-other before m n w 0 (λ e. absurd (omega arith)), back-set h f steps before n m v w (omega arith))
+
+-- one step more is taken back first
+pub back-more : (h f steps before : List ℕ) (n v w : ℕ) → n < length steps → n < length before
+    → stepsBack h f (set steps n v) (set before n w) (n + 1) ≡ record { op = inv (opAt f v); rec = entry h f w } ∷ stepsBack h f steps before n
+unfolding stepsBack
+back-more h f steps before n v w g k =
+    let z : n + 1 ≡ suc n = omega arith in
+    rw (z, getD-set-same steps n v 0 g, getD-set-same before n w 0 k, back-set h f steps before n n v w (omega arith))
+
+-- so the steps back of a run are its undo: each has the record that stood at its key before it, or its own where none did
+pub back-undo : (h f steps before : List ℕ) (n v w : ℕ) (st : List Rec) (cs : List (Change Rec)) (c : Change Rec) → n < length steps → n < length before
+    → stepsBack h f steps before n ≡ undo (after keyed) (back keyed) st cs → opAt f v ≡ c .op → entry h f w ≡ back keyed (final (after keyed) st cs) c .rec
+    → stepsBack h f (set steps n v) (set before n w) (n + 1) ≡ undo (after keyed) (back keyed) st (cs ++ (c ∷ []))
+unfolding back
+back-undo h f steps before n v w st cs c g k e o r = back-more h f steps before n v w g k ∙ rw (e, o, r) (sym (undo-snoc (after keyed) (back keyed) st cs c))

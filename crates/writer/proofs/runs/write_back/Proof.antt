@@ -1,0 +1,35 @@
+-- `writer::runs::write_back` meets its contract.
+use Rattle.writer.proofs.RunLaws.{Writing, backwards, writing-turn, back-next}
+use Rattle.writer.specs.Runs.{stepsBack, backTexts}
+use Prim.Native.Nat.{_-_, _≤_}
+use borrow.Author.Needs.{needs}
+use mathlib.Core.Path.{refl}
+use Rattle.writer.proofs.runs.write_back.Statement.{statement}
+use Rattle.writer.proofs.runs.write_back.Tie as tie
+
+pub write-back-spec : {M : Type 1} → statement M
+unfolding backTexts
+write-back-spec =
+    tie.close
+    (tie.spec
+    (λ out₀ h f steps before n pos₀ done₀ out pos done. Writing (stepsBack h f steps before n) out₀ out pos done × (done ≤ n))
+    (λ out₀ h f steps before n pos₀ done₀ out pos done. n - done)
+    (λ c. search backwards)  -- loop-holds
+    (λ c. search backwards)  -- sub-last
+    (λ c. search backwards)  -- sub-last-2
+    (λ c. search backwards)  -- mul-step-back
+    (λ c. search backwards)  -- shared-slice-read-step-back
+    (λ c κs. search backwards)  -- step-back-requires
+    (λ c. search backwards)  -- sub-put-entry
+    (λ c. search backwards)  -- part-put-entry-start
+    (λ c. search backwards)  -- part-put-entry-end
+    (λ c. search backwards)  -- mul-put-entry
+    (λ c. search backwards)  -- shared-slice-read-put-entry
+    (λ c. search backwards)  -- add-put-entry
+    (λ c κs. search backwards)  -- put-entry-requires
+    (λ c. search backwards)  -- add-pos
+    (λ c. search backwards)  -- add-done
+    (λ c. search backwards)  -- loop-less
+    (λ c. (writing-turn _ _ _ _ _ _ (c .before .before .before .before .before .before .before .before .loop .inv .0) (c .before .before .before .before .before .before .before .before .before .before .before .before .before .before .pre .2) (back-next _ _ _ _ _ _ _ _ (c .before .before .before .before .before .before .before .loop-test .taken) refl (c .before .before .before .before .before .step-back .ensures)) _ (c .before .before .put-entry .ensures .0) _ (c .before .before .put-entry .ensures .1), search needs))  -- loop-again
+    (λ c. search backwards)  -- same-length
+    (λ c. search backwards))  -- returns
