@@ -1,2 +1,3 @@
 pub mod LineSeekLaws
 pub mod FieldPartLaws
+pub mod FindLaws

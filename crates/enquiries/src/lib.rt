@@ -3,3 +3,4 @@
 // The contracts say the part's bytes and where it stands, by the definitions of the meaning's Enquiries.
 pub mod lines; // one line of some bytes, by its number
 pub mod field; // one field of a line
+pub mod find; // a street or a BLPU, by its number
