@@ -8,13 +8,13 @@ ghost use Rattle.places.specs.Places.{recOf, lineAt, entry};
 ghost use Rattle.volume.specs.Meant.{changeMeant};
 ghost use Rattle.writer.specs.Lines.{lineBytes};
 ghost use Rattle.writer.specs.Runs.{opAt};
-use volume::lines::Change;
-use volume::lines::change_of;
 use crate::changes::inverse;
 use crate::lines::put_line;
 use places::entries::line_kind;
 use text::fields::content_start;
 use text::lines::line_end;
+use volume::lines::Change;
+use volume::lines::change_of;
 
 // The text of the line that starts at `at`; past the end stands an empty line.
 fn line_at(s: &[u8], at: usize) -> &[u8]

@@ -8,11 +8,11 @@ ghost use Rattle.text.specs.Front.{inFront};
 ghost use Rattle.layout.specs.Meant.{kindMeant};
 ghost use Rattle.volume.specs.Meant.{changeMeant};
 ghost use Rattle.writer.specs.Lines.{lineFront, lineBack, lineBytes};
-use volume::lines::Change;
 use crate::changes::letter;
 use layout::kinds::Kind;
 use layout::rules::layout;
 use text::put;
+use volume::lines::Change;
 
 // The identifier, which is the number of the kind.
 fn put_identifier(out: &mut [u8], kind: Kind) -> usize

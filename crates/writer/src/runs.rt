@@ -6,9 +6,9 @@ ghost use Rattle.meaning.specs.Holding.{written};
 ghost use Rattle.text.specs.Front.{inFront};
 ghost use Rattle.places.specs.Places.{says};
 ghost use Rattle.writer.specs.Runs.{backTexts};
-use volume::lines::Change;
 use crate::entries::put_entry;
 use crate::entries::step_back;
+use volume::lines::Change;
 
 // The records of the first n entries, as inserts.
 pub fn write_holding(out: &mut [u8], h: &[u8], f: &[u8], a: &[u64], n: usize) -> usize

@@ -1,0 +1,20 @@
+-- `edges::title_end` meets its contract.
+use borrow.Author.Needs.{needs}
+use Prim.Native.Nat.{_-_, _≤_}
+use lib.ListN.{length}
+use Rattle.edges.proofs.title_end.Statement.{statement}
+use Rattle.edges.proofs.title_end.Tie as tie
+
+pub title-end-spec : {M : Type 1} → statement M
+title-end-spec =
+    tie.close
+    (tie.spec
+    (λ s at i₀ i. (at ≤ i) × (i ≤ length s))
+    (λ s at i₀ i. length s - i)
+    (λ c. search needs)  -- loop-holds
+    (λ c. search needs)  -- shared-slice-read-if1
+    (λ c. search needs)  -- returns
+    (λ c. search needs)  -- add-i
+    (λ c. search needs)  -- loop-less
+    (λ c. search needs)  -- loop-again
+    (λ c. search needs))  -- returns-2

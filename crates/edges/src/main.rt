@@ -1,0 +1,215 @@
+// Both sides of each edge of a file and of a holding. Standard input has titled blocks of raw bytes, a line of equals signs between
+// them; a title that begins with `holding` has a holding below it, any other a file. What is too long to store is built here.
+ghost use Prim.Native.Nat.{_≤_};
+ghost use lib.ListN.{length};
+use holding::check::check_holding;
+use libc::STDIN_FILENO;
+use libc::STDOUT_FILENO;
+use volume::check::check_file;
+
+fn say(words: &[u8]) {
+    io::write_all(STDOUT_FILENO, words);
+}
+
+fn say_number(n: u64) {
+    io::print_decimal(STDOUT_FILENO, n);
+}
+
+// The six numbers of the check of a file.
+fn answer_file(file: &[u8]) {
+    let a = check_file(file);
+    say_number(a.code);
+    say(b",");
+    say_number(a.line as u64);
+    say(b",");
+    say_number(a.field as u64);
+    say(b",");
+    say_number(a.inserts as u64);
+    say(b",");
+    say_number(a.updates as u64);
+    say(b",");
+    say_number(a.deletes as u64);
+}
+
+// The three numbers of the check of a holding.
+fn answer_holding(held: &[u8]) {
+    let v = check_holding(held);
+    say_number(v.code);
+    say(b",");
+    say_number(v.line as u64);
+    say(b",");
+    say_number(v.field as u64);
+}
+
+// Bytes into the free part of a buffer, if they fit; the place after them.
+fn put_text(out: &mut [u8], pos: usize, s: &[u8]) -> usize
+    requires { ⌜ pos ≤ length (now out) ⌝ }
+    ensures { λ r. ⌜ r ≤ length (now (out .exit)) ⌝ }
+{
+    if out.len() - pos < s.len() {
+        return pos;
+    }
+    pos + text::put::bytes(&mut out[pos..], s)
+}
+
+// A number into the free part of a buffer, if it fits; the place after it.
+fn put_value(out: &mut [u8], pos: usize, n: u64) -> usize
+    requires { ⌜ pos ≤ length (now out) ⌝ }
+    ensures { λ r. ⌜ r ≤ length (now (out .exit)) ⌝ }
+{
+    if out.len() - pos < text::numbers::width(n) {
+        return pos;
+    }
+    pos + text::put::number(&mut out[pos..], n)
+}
+
+// The cross reference n of street 500, as line n of a body.
+fn put_line(out: &mut [u8], pos: usize, n: u64) -> usize
+    requires { ⌜ pos ≤ length (now out) ⌝ }
+    ensures { λ r. ⌜ r ≤ length (now (out .exit)) ⌝ }
+{
+    let a = put_text(&mut *out, pos, b"12,\"I\",");
+    let b = put_value(&mut *out, a, n);
+    let c = put_text(&mut *out, b, b",500,1,");
+    let d = put_value(&mut *out, c, n);
+    put_text(&mut *out, d, b",2001-01-01,2001-01-01,,2001-01-01\r\n")
+}
+
+// Those after `first`, up to `last`.
+fn put_lines(out: &mut [u8], pos: usize, first: u64, last: u64) -> usize
+    requires { ⌜ pos ≤ length (now out) ⌝ }
+    ensures { λ r. ⌜ r ≤ length (now (out .exit)) ⌝ }
+{
+    let mut at = pos;
+    let mut n = first;
+    while n < last {
+        n += 1;
+        at = put_line(&mut *out, at, n);
+    }
+    at
+}
+
+// A file of so many body lines, judged.
+fn long_file(count: u64) {
+    let mut out = [0u8; 262144];
+    let a = put_text(
+        &mut out,
+        0,
+        b"10,\"a\",1,2001-01-01,1,2001-01-01,000000,1.0,\"A\"\r\n",
+    );
+    let b = put_lines(&mut out, a, 0, count);
+    let c = put_text(
+        &mut out,
+        b,
+        b"29,\"a\",\"a\",\"a\",\"a\",\"a\",1,\"a\",\"a\",2001-01-01,\"a\",\"a\",2001-01-01,\"a\",\"a\"\r\n99,0,",
+    );
+    let d = put_value(&mut out, c, count);
+    let e = put_text(&mut out, d, b",2001-01-01,000000\r\n");
+    say_number(count);
+    say(b" body lines: ");
+    answer_file(&out[0..e]);
+    say(b"\n");
+}
+
+// A holding of so many lines, a street and its cross references, judged.
+fn long_holding(count: u64) {
+    let mut out = [0u8; 480000];
+    let a = put_text(
+        &mut out,
+        0,
+        b"11,\"I\",1,500,1,1,,,,2001-01-01,2001-01-01,2001-01-01,,0.00,0.00,0.00,0.00\r\n",
+    );
+    let n = put_lines(&mut out, a, 1, count);
+    say(b"holding of ");
+    say_number(count);
+    say(b" lines: ");
+    answer_holding(&out[0..n]);
+    say(b"\n");
+}
+
+// Whether a line of equals signs stands at i.
+fn is_rule(s: &[u8], i: usize) -> bool
+    requires { ⌜ i ≤ length (now s) ⌝ }
+{
+    if s.len() - i < 5 {
+        return false;
+    }
+    let e = i + 5;
+    text::order::is_same(&s[i..e], b"====\n")
+}
+
+// Where the block that starts at `at` ends: at the next rule, or where the input does.
+fn block_end(s: &[u8], at: usize) -> usize
+    requires { ⌜ at ≤ length (now s) ⌝ }
+    ensures { λ r. ⌜ (at ≤ r) × (r ≤ length (now (s .entry))) ⌝ }
+{
+    let mut i = at;
+    while i < s.len() {
+        if is_rule(s, i) {
+            return i;
+        }
+        i += 1;
+    }
+    i
+}
+
+// Where the title that starts at `at` ends.
+fn title_end(s: &[u8], at: usize) -> usize
+    requires { ⌜ at ≤ length (now s) ⌝ }
+    ensures { λ r. ⌜ (at ≤ r) × (r ≤ length (now (s .entry))) ⌝ }
+{
+    let mut i = at;
+    while i < s.len() {
+        if s[i] == b'\n' {
+            return i;
+        }
+        i += 1;
+    }
+    i
+}
+
+// Whether a title names a holding.
+fn is_held(title: &[u8]) -> bool {
+    if title.len() < 7 {
+        return false;
+    }
+    text::order::is_same(&title[0..7], b"holding")
+}
+
+// One block: its title and its answer.
+fn block(b: &[u8]) {
+    let end = title_end(b, 0);
+    let title = &b[0..end];
+    say(title);
+    say(b": ");
+    if end == b.len() {
+        answer_file(&b[end..]);
+    } else {
+        let from = end + 1;
+        if is_held(title) {
+            answer_holding(&b[from..]);
+        } else {
+            answer_file(&b[from..]);
+        }
+    }
+    say(b"\n");
+}
+
+fn blocks(s: &[u8]) {
+    let mut at = 0;
+    while at < s.len() {
+        let end = block_end(s, at);
+        block(&s[at..end]);
+        at = end + 5;
+    }
+}
+
+fn main() {
+    let mut buf = io::large_buffer();
+    let n = io::read_full(STDIN_FILENO, &mut buf);
+    blocks(&buf[..n]);
+    long_file(4096);
+    long_file(4097);
+    long_holding(8192);
+    long_holding(8193);
+}

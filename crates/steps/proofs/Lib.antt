@@ -1,0 +1,6 @@
+pub mod LengthLaws
+pub mod ClearLaws
+pub mod FindLaws
+pub mod JudgeLaws
+pub mod StepLaws
+pub mod RunLaws

@@ -1,0 +1,198 @@
+-- The laws of a run: a sound file's body is read line by line, and each way out ends as the run of its changes does.
+use mathlib.Core.Path.{_≡_, refl, sym, ap, _∙_, subst}
+use mathlib.Core.Bool.{Bool, true, false, not}
+use mathlib.Core.Option.{Option, none, some}
+use mathlib.Core.List.{List, [], _∷_, _++_, nil≢cons}
+use Prim.Native.Nat.{ℕ, suc, _+_, _-_, _≤_, _<_}
+use native.Mathlib.Decide.{decLe}
+use native.Mathlib.Nat.{lt-of-not-le}
+use native.Mathlib.Numerals.{add-one}
+use native.Mathlib.Omega.{arith}
+use borrow.Author.Needs.{needs}
+use borrow.Author.Tests.{not-true, not-false, ne-eqb}
+use mir.Syntax.{w64}
+use mir.Val.{Fits}
+use lib.Dec.{T}
+use lib.ListN.{length, getD, take, drop}
+use Rattle.base.specs.Lists.{pick, all}
+use Rattle.base.specs.Tests.{and-l, and-r}
+use Rattle.theory.specs.Step.{Op, Change, judge, after}
+use Rattle.theory.specs.Answer.{Read, fault, file}
+use Rattle.theory.specs.Run as Theory
+use Rattle.theory.specs.Run.{Out, done, stop, on}
+use Rattle.meaning.specs.Lines.{Line, linesOf, fieldsOf, identifier}
+use Rattle.meaning.specs.Table.{Kind, kindOf, Role, bodyLine, metadataLine, role}
+use Rattle.meaning.specs.Records.{Rec, keyed, opOf, contentOf, changeOf}
+use Rattle.meaning.specs.Holding.{isHeld}
+use Rattle.meaning.specs.File.{Sheet, readFile}
+use Rattle.meaning.specs.Load.{stepTests}
+use Rattle.laws.specs.Body.{kind-in}
+use Rattle.laws.specs.LinesAndFields.{endsAll}
+use Rattle.laws.specs.FileReadBack.{fineC, file-says}
+use Rattle.laws.specs.SoundFile.{RoleLine, SaysChange, SaysChanges, read-sound}
+use Rattle.text.specs.Places.{lineLen, lineEnd}
+use Rattle.text.proofs.LineLaws.{lines-at, lines-end}
+use Rattle.layout.specs.declared.kinds.Kind as code
+use Rattle.layout.specs.Meant.{kindMeant}
+use Rattle.places.specs.Places.{known, recOf, lineAt, says}
+use Rattle.places.proofs.EntryLaws.{line-here}
+use Rattle.places.proofs.LineLaws.{rec-known}
+use Rattle.volume.specs.declared.lines.Line as read
+use Rattle.steps.specs.declared.judge.State.{State}
+use Rattle.steps.specs.declared.step.Stepped.{Stepped}
+use Rattle.volume.specs.Meant.{changeMeant}
+use Rattle.steps.specs.Ready.{change, changeAt, codeNumber, Ready, Carries, Steps}
+use Rattle.steps.specs.Run.{isFile, changesOf, bodyFrom, Runs}
+use Rattle.steps.proofs.StepLaws.{unheld, held-is, code-none}
+
+-- ---- leaves
+
+-- a kind is held as code knows it
+pub held-told : (l k : code.Kind) (b : Bool) → l ≡ k → b ≡ not (unheld k) → b ≡ isHeld (role (kindMeant l))
+held-told l k b e u = u ∙ sym (ap (λ z. isHeld (role (kindMeant z))) e ∙ held-is k)
+
+pub ruleset heldkind = (needs, held-told)
+
+-- the kind of the line at an offset
+pub line-kind-at : (f : List ℕ) (at e : ℕ) (l k : code.Kind) → e ≡ lineEnd f at → l ≡ k → kindMeant k ≡ known (kindOf (identifier (take (e - at) (drop at f)))) → kindMeant l ≡ recOf (lineAt f at) .kind
+unfolding recOf
+line-kind-at f at e l k q i u = ap kindMeant i ∙ u ∙ ap (λ t. known (kindOf (identifier t))) (line-here f at e q)
+
+-- and its change
+pub line-change-at : (f : List ℕ) (at e : ℕ) (o : Op) → e ≡ lineEnd f at → o ≡ opOf (getD (fieldsOf (take (e - at) (drop at f))) 1 []) → o ≡ opOf (getD (fieldsOf (lineAt f at)) 1 [])
+line-change-at f at e o q u = u ∙ ap (λ t. opOf (getD (fieldsOf t) 1 [])) (line-here f at e q)
+
+pub ruleset lineat = (needs, line-kind-at, line-change-at)
+
+-- ---- the body of a sound file
+
+role-known : (o : Role) (t : List ℕ) (r : RoleLine o t) → recOf t ≡ record { kind = r .kind; content = contentOf t }
+role-known o t r = rec-known t (r .kind) (ap kindOf (r .sounds .identified) ∙ kind-in (r .kind))
+
+role-is : (o : Role) (t : List ℕ) → RoleLine o t → role (recOf t .kind) ≡ o
+role-is o t r = ap (λ x. role (x .kind)) (role-known o t r) ∙ r .roles
+
+said : (n : ℕ) (t : List ℕ) (c : Change Rec) → SaysChange n t c → change (opOf (getD (fieldsOf t) 1 [])) (recOf t) ≡ c
+unfolding changeOf
+said n t c s = ap (change (opOf (getD (fieldsOf t) 1 []))) (role-known bodyLine t (s .line)) ∙ s .says
+
+body-from : (n : ℕ) (ts : List (List ℕ)) (cs : List (Change Rec)) (m t : List ℕ) → SaysChanges n ts cs → RoleLine metadataLine m → bodyFrom (endsAll (ts ++ (m ∷ t ∷ []))) ≡ cs
+unfolding bodyFrom isHeld
+body-from n [] [] m t s r = rw (role-is metadataLine m r)
+body-from n [] (c ∷ cs) m t s r = absurd s
+body-from n (x ∷ ts) [] m t s r = absurd s
+body-from n (x ∷ ts) (c ∷ cs) m t s r = rw (role-is bodyLine x (s .0 .line), said n x c (s .0), body-from (suc n) ts cs m t (s .1) r)
+
+abbrev tailOf : List Line → List Line
+tailOf [] = []
+tailOf (l ∷ ls) = ls
+
+-- the changes of a sound file are those of the lines after its first
+body-of : (f : List ℕ) → T (isFile (readFile f)) → (x : Read Sheet) → readFile f ≡ x → (bodyFrom (tailOf (linesOf f)) ≡ changesOf x) × T (all fineC (changesOf x)) × (linesOf f ≡ [] → ⊥)
+body-of f t (fault c l k) e = absurd (subst (λ x. T (isFile x)) e t)
+body-of f t (file s) e =
+    let w = read-sound f (s .0) (s .1) e in
+    (ap (λ ls. bodyFrom (tailOf ls)) (w .lines) ∙ body-from 1 (w .texts) (s .1) (s .0 .metadataText) (s .0 .trailerText) (w .body) (w .describing), file-says f (s .0) (s .1) e .1, λ z. nil≢cons (sym z ∙ w .lines))
+
+-- ---- the walk
+
+-- what is left to run from `at` on, at that line, ends as the whole run does
+pub record Going (h f a₀ : List ℕ) (room : ℕ) (s₀ : State) (a : List ℕ) (s : State) (at line : ℕ) : Type 0 where
+  pub left : Theory.run keyed (stepTests room) line (says h f a (s .count)) (bodyFrom (linesOf (drop at f))) ≡ Theory.run keyed (stepTests room) 2 (says h f a₀ (s₀ .count)) (changesOf (readFile f))
+  pub ready : Ready h f a room s
+  pub fines : T (all fineC (bodyFrom (linesOf (drop at f))))
+  pub within : at ≤ length f + 2
+  pub lined : line ≤ at + 2
+
+-- the walk starts after the header
+pub go-start : (h f a : List ℕ) (room : ℕ) (s : State) (e : ℕ) → Ready h f a room s → T (isFile (readFile f)) → e ≡ lineEnd f 0 → e ≤ length f → Going h f a room s a s (e + 2) 2
+go-start h f a room s e y t q m =
+    let b = body-of f t (readFile f) refl in
+    record { left = ap (Theory.run keyed (stepTests room) 2 (says h f a (s .count))) (rest ∙ b .0); ready = y; fines = subst (λ cs. T (all fineC cs)) (sym (rest ∙ b .0)) (b .1); within = omega arith; lined = omega arith }
+  where
+    full : 0 < length f
+    full = elim (decLe (length f) 0) [ yes z ↦ absurd (body-of f t (readFile f) refl .2 (lines-end f 0 z)) | no z ↦ lt-of-not-le z ]
+
+    rest : bodyFrom (linesOf (drop (e + 2) f)) ≡ bodyFrom (tailOf (linesOf f))
+    rest =
+        let i : 0 + (lineLen (drop 0 f) + 2) ≡ e + 2 = omega arith in
+        sym (ap (λ ls. bodyFrom (tailOf ls)) (lines-at f 0 full) ∙ ap (λ z. bodyFrom (linesOf (drop z f))) i)
+
+module _ (h f a₀ : List ℕ) (room : ℕ) (s₀ : State) (a : List ℕ) (s : State) (at line : ℕ) (g : Going h f a₀ room s₀ a s at line) where
+  ended : bodyFrom (linesOf (drop at f)) ≡ [] → Runs h f a₀ a room s₀ (record { code = 0; line = 0; state = s })
+  ended e = record { ended = run-nil ∙ ap (Theory.run keyed (stepTests room) line (says h f a (s .count))) (sym e) ∙ g .left; ready = λ z. g .ready }
+    where
+      run-nil : done (says h f a (s .count)) ≡ Theory.run keyed (stepTests room) line (says h f a (s .count)) []
+      run-nil = unfold Theory.run in refl
+
+  -- where no line is left the run is done
+  pub go-done : length f ≤ at → Runs h f a₀ a room s₀ (record { code = 0; line = 0; state = s })
+  unfolding bodyFrom
+  go-done m = ended (ap bodyFrom (lines-end f at m))
+
+  module _ (m : at < length f) (l : read.Line) (k : kindMeant (l .kind) ≡ changeAt f at .rec .kind) (b : Bool) (q : b ≡ isHeld (role (kindMeant (l .kind)))) where
+    held-here : isHeld (role (recOf (lineAt f at) .kind)) ≡ b
+    held-here = ap (λ z. isHeld (role z)) (sym k) ∙ sym q
+
+    body-at : bodyFrom (linesOf (drop at f)) ≡ pick b (changeAt f at ∷ bodyFrom (linesOf (drop (at + (lineLen (drop at f) + 2)) f))) []
+    unfolding bodyFrom lineAt
+    body-at = ap bodyFrom (lines-at f at m) ∙ ap (λ z. pick z (changeAt f at ∷ bodyFrom (linesOf (drop (at + (lineLen (drop at f) + 2)) f))) []) held-here
+
+    -- where the metadata stands it is done too
+    pub go-last : b ≡ false → Runs h f a₀ a room s₀ (record { code = 0; line = 0; state = s })
+    go-last u = ended (body-at ∙ rw u)
+
+    module _ (u : b ≡ true) where
+      body-here : bodyFrom (linesOf (drop at f)) ≡ changeAt f at ∷ bodyFrom (linesOf (drop (at + (lineLen (drop at f) + 2)) f))
+      body-here = body-at ∙ rw u
+
+      fines-here : T (all fineC (changeAt f at ∷ bodyFrom (linesOf (drop (at + (lineLen (drop at f) + 2)) f))))
+      fines-here = subst (λ cs. T (all fineC cs)) body-here (g .fines)
+
+      -- a body line carries a sound record
+      pub go-carries : changeMeant (l .change) ≡ changeAt f at .op → Carries f at l
+      go-carries c = record { inside = omega arith; sound = and-l (fineC (changeAt f at)) _ fines-here; kinded = k; changed = c }
+
+      module _ (b′ : List ℕ) (r : Stepped) (w : Steps h f a b′ room (changeAt f at) s r) where
+        run-here : on (judge keyed (stepTests room) (says h f a (s .count)) (changeAt f at)) line
+            (Theory.run keyed (stepTests room) (suc line) (after keyed (says h f a (s .count)) (changeAt f at)) (bodyFrom (linesOf (drop (at + (lineLen (drop at f) + 2)) f))))
+            ≡ Theory.run keyed (stepTests room) 2 (says h f a₀ (s₀ .count)) (changesOf (readFile f))
+        unfolding Theory.run
+        run-here = sym (ap (Theory.run keyed (stepTests room) line (says h f a (s .count))) body-here) ∙ g .left
+
+        -- a step that is refused ends the run at its line
+        pub go-stop : (r .code ≡ 0 → ⊥) → Runs h f a₀ b′ room s₀ (record { code = r .code; line = line; state = s })
+        go-stop n = record { ended = rw (ne-eqb (r .code) 0 n) (sym (halt (judge keyed (stepTests room) (says h f a (s .count)) (changeAt f at)) (w .coded) _) ∙ run-here); ready = λ z. absurd (n z) }
+          where
+            halt : (o : Option ℕ) → r .code ≡ codeNumber o → (x : Out (List Rec)) → on o line x ≡ stop line (r .code)
+            halt none e x = absurd (n e)
+            halt (some c) e x = unfold on in ap (stop line) (sym e)
+
+        -- one that is made leaves the lines after it
+        pub go-turn : (e : ℕ) → r .code ≡ 0 → e ≡ lineEnd f at → e ≤ length f → Going h f a₀ room s₀ b′ (r .state) (e + 2) (line + 1)
+        unfolding on
+        go-turn e z q m′ =
+            let x = w .left z in
+            let i : at + (lineLen (drop at f) + 2) ≡ e + 2 = omega arith in
+            let j = code-none room (r .code) (says h f a (s .count)) (changeAt f at) (w .coded) z in
+            record {
+              left = rw (add-one line, x .said, ← i) (rw j at run-here);
+              ready = x .ready;
+              fines = rw (← i) (and-r (fineC (changeAt f at)) _ fines-here);
+              within = omega arith;
+              lined = omega (arith, g .lined);
+            }
+
+  -- lines can be counted
+  pub line-fits : at < length f → Fits w64 (line + 1)
+  line-fits m = record { fits = omega (arith, g .lined, g .ready .fileShort) }
+
+  -- the next line's start can be
+  pub next-fits : (e : ℕ) → e ≤ length f → Fits w64 (e + 2)
+  next-fits e m = record { fits = omega (arith, g .ready .fileShort) }
+
+-- the start of the second line can be counted
+pub first-fits : (h f a : List ℕ) (room : ℕ) (s : State) (e : ℕ) → Ready h f a room s → e ≤ length f → Fits w64 (e + 2)
+first-fits h f a room s e y m = record { fits = omega (arith, y .fileShort) }
+
+pub ruleset running = (needs, not-true, not-false, first-fits, go-start, go-done, go-last, go-carries, go-stop, go-turn, line-fits, next-fits)

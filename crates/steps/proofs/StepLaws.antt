@@ -1,0 +1,315 @@
+-- The laws of what a step leaves: the array says the state after it, ready for the next.
+use mathlib.Core.Path.{_≡_, refl, sym, ap, ap₂, _∙_, subst}
+use mathlib.Core.Bool.{Bool, true, false, not}
+use mathlib.Core.Option.{Option, none, some, Option·getD}
+use mathlib.Core.List.{List, _∷_, _++_}
+use Prim.Native.Nat.{ℕ, _+_, _-_, _*_, _≤_, _<_}
+use native.Mathlib.Omega.{arith}
+use borrow.Author.Needs.{needs}
+use mir.Syntax.{w64}
+use mir.Val.{Fits}
+use lib.Dec.{T, leb, leb→le}
+use lib.ListN.{length, getD, take, drop, set, length-append, length-drop, length-set}
+use lib.Seq.{length-take-le}
+use Rattle.base.specs.Lists.{all, some?}
+use Rattle.base.specs.Tests.{and-in, and-l, and-r, T-true, T-false}
+use Rattle.theory.specs.Fold.{all?}
+use Rattle.theory.specs.FoldLaws.{length-put, all-put}
+use Rattle.theory.specs.Store.{get, put, Asc}
+use Rattle.theory.specs.Refs.{met}
+use Rattle.theory.specs.Limits.{most, few}
+use Rattle.theory.specs.Step.{Op, ins, upd, del, Change, need, fails, passes, new, codeOf, allowed, judge, after}
+use Rattle.theory.specs.StepLaws.{ok-judge, asc-after}
+use Rattle.meaning.specs.Records.{Rec, keyed, keyOf, refsOf}
+use Rattle.meaning.specs.Table.{role}
+use Rattle.meaning.specs.Holding.{isHeld, written}
+use Rattle.meaning.specs.Load.{fits, stepTests}
+use Rattle.laws.specs.Body.{fine}
+use Rattle.laws.specs.HoldingReadBack.{always}
+use Rattle.keys.specs.Numbers.{keyNumbers, numbered}
+use Rattle.keys.specs.KeyLaws.{put-alike, own-agrees}
+use Rattle.layout.specs.declared.kinds.Kind as code
+use Rattle.layout.specs.declared.kinds.Kind.the-variants.{Header, Street, StreetXref, Blpu, AppXref, Lpi, Metadata, Trailer}
+use Rattle.layout.specs.Meant.{kindMeant}
+use Rattle.places.specs.Places.{recOf, lineAt, entry, says, opened, closed}
+use Rattle.places.proofs.SaysLaws.{entry-odd, put-says, set-says, close-says}
+use Rattle.places.proofs.SearchLaws.{stands-in}
+use Rattle.volume.specs.declared.lines.Change as code-change
+use Rattle.volume.specs.declared.lines.Line.{Line}
+use Rattle.volume.specs.Meant.{changeMeant}
+use Rattle.steps.specs.declared.judge.State.{State}
+use Rattle.steps.specs.declared.judge.Judged.{Judged}
+use Rattle.steps.specs.declared.step.Stepped.{Stepped}
+use Rattle.steps.specs.Ready.{change, changeAt, codeNumber, Ready, Carries, Judges, Steps}
+use Rattle.steps.proofs.FindLaws.{get-both, found-at}
+use Rattle.steps.proofs.JudgeLaws.{ready-in, ready-few, none-of}
+
+-- ---- a code is never 0
+
+abbrev Coded : Option ℕ → Type 0
+Coded none = Unit {0}
+Coded (some w) = w ≡ 0 → ⊥
+
+need-coded : (b : Bool) (w : ℕ) (o : Option ℕ) → (w ≡ 0 → ⊥) → Coded o → Coded (need b w o)
+unfolding need
+need-coded true w o n c = c
+need-coded false w o n c = n
+
+op-coded : (p : Op) → codeOf p ≡ 0 → ⊥
+op-coded ins e = omega arith
+op-coded upd e = omega arith
+op-coded del e = omega arith
+
+tests-coded : (room : ℕ) (st : List Rec) → Coded (fails (stepTests room) st)
+unfolding fails stepTests
+tests-coded room st =
+    need-coded (few st) 16 (need (met keyed refsOf st) 12 (need (fits room st) 13 none)) (λ e. omega arith)
+    (need-coded (met keyed refsOf st) 12 (need (fits room st) 13 none) (λ e. omega arith) (need-coded (fits room st) 13 none (λ e. omega arith) tt))
+
+judge-coded : (room : ℕ) (st : List Rec) (c : Change Rec) → Coded (judge keyed (stepTests room) st c)
+unfolding judge
+judge-coded room st c = need-coded (allowed (c .op) (get keyed (keyOf (c .rec)) st)) (codeOf (c .op)) (fails (stepTests room) (after keyed st c)) (op-coded (c .op)) (tests-coded room (after keyed st c))
+
+zero-none : (o : Option ℕ) → Coded o → codeNumber o ≡ 0 → o ≡ none
+zero-none none c e = refl
+zero-none (some w) c e = absurd (c e)
+
+-- code 0 is no refusal
+pub code-none : (room w : ℕ) (st : List Rec) (c : Change Rec) → w ≡ codeNumber (judge keyed (stepTests room) st c) → w ≡ 0 → judge keyed (stepTests room) st c ≡ none
+code-none room w st c e z = zero-none (judge keyed (stepTests room) st c) (judge-coded room st c) (sym e ∙ z)
+
+new-fine : (p : Op) (x : Rec) → T (fine x) → T (all? fine (new p x))
+new-fine ins x g = g
+new-fine upd x g = g
+new-fine del x g = tt
+
+-- ---- arrays keep their lengths
+
+-- room is made within the array
+pub length-opened : (a : List ℕ) (n i v : ℕ) → i ≤ n → n < length a → length (opened a n i v) ≡ length a
+unfolding opened
+length-opened a n i v l m =
+    omega (arith, length-append (take i a) (v ∷ (take (n - i) (drop i a) ++ drop (n + 1) a)), length-append (take (n - i) (drop i a)) (drop (n + 1) a), length-take-le i a (omega arith), length-take-le (n - i) (drop i a) (omega (arith, length-drop i a)), length-drop (n + 1) a)
+
+-- and closed up within it
+pub length-closed : (a : List ℕ) (n i : ℕ) → i < n → n ≤ length a → length (closed a n i) ≡ length a
+unfolding closed
+length-closed a n i l m =
+    omega (arith, length-append (take i a) (take (n - (i + 1)) (drop (i + 1) a) ++ drop (n - 1) a), length-append (take (n - (i + 1)) (drop (i + 1) a)) (drop (n - 1) a), length-take-le i a (omega arith), length-take-le (n - (i + 1)) (drop (i + 1) a) (omega (arith, length-drop (i + 1) a)), length-drop (n - 1) a)
+
+-- ---- a step that is not refused
+
+module _ (h f a : List ℕ) (room v : ℕ) (s : State) (y : Ready h f a room s) (g : T (fine (entry h f v))) (j : Judged) where
+  -- a step that is refused leaves everything as it was
+  pub step-refused : (p : Op) → Judges h f a room (change p (entry h f v)) s j → (j .code ≡ 0 → ⊥) → Steps h f a a room (change p (entry h f v)) s (record { code = j .code; state = s; before = v })
+  step-refused p q n = record { coded = q .coded; left = λ z. absurd (n z) }
+
+  module _ (p : Op) (q : Judges h f a room (change p (entry h f v)) s j) (z : j .code ≡ 0) where
+    passed : T (allowed p (get keyed (keyOf (entry h f v)) (says h f a (s .count)))) × T (passes (stepTests room) (after keyed (says h f a (s .count)) (change p (entry h f v))))
+    passed = ok-judge keyed (stepTests room) (says h f a (s .count)) (change p (entry h f v)) (code-none room (j .code) (says h f a (s .count)) (change p (entry h f v)) (q .coded) z)
+
+    few-after : T (few (after keyed (says h f a (s .count)) (change p (entry h f v))))
+    unfolding stepTests
+    few-after = and-l (few (after keyed (says h f a (s .count)) (change p (entry h f v)))) _ (passed .1)
+
+    met-after : T (met keyed refsOf (after keyed (says h f a (s .count)) (change p (entry h f v))))
+    unfolding stepTests
+    met-after = and-l (met keyed refsOf (after keyed (says h f a (s .count)) (change p (entry h f v)))) _ (and-r (few (after keyed (says h f a (s .count)) (change p (entry h f v)))) _ (passed .1))
+
+    fits-after : length (written (after keyed (says h f a (s .count)) (change p (entry h f v)))) ≤ room
+    unfolding stepTests fits
+    fits-after =
+        leb→le (length (written (after keyed (says h f a (s .count)) (change p (entry h f v))))) room
+        (and-l (leb (length (written (after keyed (says h f a (s .count)) (change p (entry h f v))))) room) _
+        (and-r (met keyed refsOf (after keyed (says h f a (s .count)) (change p (entry h f v)))) _ (and-r (few (after keyed (says h f a (s .count)) (change p (entry h f v)))) _ (passed .1))))
+
+    fines-after : T (all fine (after keyed (says h f a (s .count)) (change p (entry h f v))))
+    unfolding after
+    fines-after = all-put keyed fine (keyOf (entry h f v)) (new p (entry h f v)) (says h f a (s .count)) (new-fine p (entry h f v) g) (y .fines)
+
+    ready-next : (b : List ℕ) (m : ℕ) → says h f b m ≡ after keyed (says h f a (s .count)) (change p (entry h f v)) → m ≡ length (after keyed (says h f a (s .count)) (change p (entry h f v))) → length b ≡ length a
+        → Ready h f b room (record { count = m; size = j .size })
+    ready-next b m e n l = record {
+      asc = subst (Asc keyed) (sym e) (asc-after keyed (says h f a (s .count)) (change p (entry h f v)) (y .asc));
+      fines = subst (λ x. T (all fine x)) (sym e) fines-after;
+      pass = subst (λ x. T (passes always x)) (sym e) (and-in (few (after keyed (says h f a (s .count)) (change p (entry h f v)))) _ few-after (and-in (met keyed refsOf (after keyed (says h f a (s .count)) (change p (entry h f v)))) true met-after tt));
+      counted = n ∙ ap length (sym e);
+      sized = q .sized z ∙ ap (λ x. length (written x)) (sym e);
+      fits = omega (arith, q .sized z, fits-after);
+      space = omega (arith, l, y .space);
+      roomShort = y .roomShort;
+      heldShort = y .heldShort;
+      fileShort = y .fileShort;
+    }
+
+    stepped : (b : List ℕ) (m u : ℕ) → says h f b m ≡ after keyed (says h f a (s .count)) (change p (entry h f v)) → m ≡ length (after keyed (says h f a (s .count)) (change p (entry h f v))) → length b ≡ length a
+        → entry h f u ≡ Option·getD (get keyed (keyOf (entry h f v)) (says h f a (s .count))) (entry h f v)
+        → Steps h f a b room (change p (entry h f v)) s (record { code = 0; state = record { count = m; size = j .size }; before = u })
+    stepped b m u e n l w = record { coded = sym z ∙ q .coded; left = λ x. record { said = e; ready = ready-next b m e n l; stood = w } }
+
+    put-both : (o : Option Rec) → put numbered (keyNumbers (entry h f v)) o (says h f a (s .count)) ≡ put keyed (keyOf (entry h f v)) o (says h f a (s .count))
+    put-both o = put-alike (says h f a (s .count)) (y .fines) (keyNumbers (entry h f v)) (keyOf (entry h f v)) (own-agrees (entry h f v) g) o
+
+    stood-at : T (some? (get keyed (keyOf (entry h f v)) (says h f a (s .count)))) → T (some? (get numbered (keyNumbers (entry h f v)) (says h f a (s .count))))
+    stood-at t = subst (λ o. T (some? o)) (sym (get-both (says h f a (s .count)) (entry h f v) (y .fines) g)) t
+
+    found : T (some? (get keyed (keyOf (entry h f v)) (says h f a (s .count)))) → get numbered (keyNumbers (entry h f v)) (says h f a (s .count)) ≡ some (entry h f (getD a (j .place) 0))
+    found t = found-at h f a (keyNumbers (entry h f v)) (s .count) (j .place) (ready-in h f a room s y) (q .placed) (stood-at t)
+
+    found-key : T (some? (get keyed (keyOf (entry h f v)) (says h f a (s .count)))) → get keyed (keyOf (entry h f v)) (says h f a (s .count)) ≡ some (entry h f (getD a (j .place) 0))
+    found-key t = sym (get-both (says h f a (s .count)) (entry h f v) (y .fines) g) ∙ found t
+
+    found-in : T (some? (get keyed (keyOf (entry h f v)) (says h f a (s .count)))) → j .place < s .count
+    found-in t = stands-in h f a (s .count) (j .place) (keyNumbers (entry h f v)) (ready-in h f a room s y) (q .placed) (some? (get numbered (keyNumbers (entry h f v)) (says h f a (s .count)))) refl (T-true _ (stood-at t))
+
+  -- ---- insert
+
+  module _ (q : Judges h f a room (change ins (entry h f v)) s j) (z : j .code ≡ 0) where
+    ins-none : get keyed (keyOf (entry h f v)) (says h f a (s .count)) ≡ none
+    ins-none = none-of (get keyed (keyOf (entry h f v)) (says h f a (s .count))) (T-false _ (passed ins q z .0))
+
+    ins-count : length (after keyed (says h f a (s .count)) (change ins (entry h f v))) ≡ s .count + 1
+    unfolding after
+    ins-count = omega (arith, rw ins-none at (length-put keyed (keyOf (entry h f v)) (some (entry h f v)) (says h f a (s .count))), y .counted)
+
+    -- there is room for one entry more
+    pub ins-in : s .count < length a
+    unfolding few
+    ins-in = omega (arith, ins-count, y .space, leb→le (length (after keyed (says h f a (s .count)) (change ins (entry h f v)))) most (few-after ins q z))
+
+    -- its place is among the entries, or after them
+    pub ins-place : j .place ≤ s .count
+    ins-place = q .within
+
+    -- one record more can be counted
+    pub ins-fits : Fits w64 (s .count + 1)
+    ins-fits = record { fits = omega (arith, ready-few h f a room s y) }
+
+    ins-says : says h f (opened a (s .count) (j .place) v) (s .count + 1) ≡ after keyed (says h f a (s .count)) (change ins (entry h f v))
+    unfolding after
+    ins-says =
+        put-says h f a (keyNumbers (entry h f v)) (s .count) (j .place) (q .placed) v ins-in (q .within) (get-both (says h f a (s .count)) (entry h f v) (y .fines) g ∙ ins-none)
+        ∙ put-both ins q z (some (entry h f v))
+
+    -- an entry more at its place
+    pub ins-step : (b : List ℕ) → b ≡ opened a (s .count) (j .place) v → Steps h f a b room (change ins (entry h f v)) s (record { code = 0; state = record { count = s .count + 1; size = j .size }; before = v })
+    ins-step b e =
+        stepped ins q z b (s .count + 1) v (ap (λ x. says h f x (s .count + 1)) e ∙ ins-says) (sym ins-count) (ap length e ∙ length-opened a (s .count) (j .place) v (q .within) ins-in) (rw ins-none)
+
+  -- ---- update
+
+  module _ (q : Judges h f a room (change upd (entry h f v)) s j) (z : j .code ≡ 0) where
+    upd-count : length (after keyed (says h f a (s .count)) (change upd (entry h f v))) ≡ s .count
+    unfolding after
+    upd-count = omega (arith, rw (found-key upd q z (passed upd q z .0)) at (length-put keyed (keyOf (entry h f v)) (some (entry h f v)) (says h f a (s .count))), y .counted)
+
+    -- the entry is in the array
+    pub upd-in : j .place < length a
+    upd-in = omega (arith, found-in upd q z (passed upd q z .0), ready-in h f a room s y)
+
+    upd-says : says h f (set a (j .place) v) (s .count) ≡ after keyed (says h f a (s .count)) (change upd (entry h f v))
+    unfolding after
+    upd-says =
+        set-says h f a (keyNumbers (entry h f v)) (s .count) (j .place) (q .placed) (entry h f (getD a (j .place) 0)) (ready-in h f a room s y) (found-in upd q z (passed upd q z .0)) (found upd q z (passed upd q z .0)) v
+        ∙ put-both upd q z (some (entry h f v))
+
+    -- another entry at its place
+    pub upd-step : Steps h f a (set a (j .place) v) room (change upd (entry h f v)) s (record { code = 0; state = record { count = s .count; size = j .size }; before = getD a (j .place) 0 })
+    upd-step =
+        stepped upd q z (set a (j .place) v) (s .count) (getD a (j .place) 0) upd-says (sym upd-count) (length-set a (j .place) v) (rw (found-key upd q z (passed upd q z .0)))
+
+  -- ---- delete
+
+  module _ (q : Judges h f a room (change del (entry h f v)) s j) (z : j .code ≡ 0) where
+    -- the entry is one of those that count
+    pub del-place : j .place < s .count
+    del-place = found-in del q z (passed del q z .0)
+
+    -- it is in the array
+    pub del-in : j .place < length a
+    del-in = omega (arith, del-place, ready-in h f a room s y)
+
+    -- and so are all
+    pub del-all : s .count ≤ length a
+    del-all = ready-in h f a room s y
+
+    -- there is a record less
+    pub del-one : 1 ≤ s .count
+    del-one = omega (arith, del-place)
+
+    del-count : length (after keyed (says h f a (s .count)) (change del (entry h f v))) + 1 ≡ s .count
+    unfolding after
+    del-count = omega (arith, rw (found-key del q z (passed del q z .0)) at (length-put keyed (keyOf (entry h f v)) none (says h f a (s .count))), y .counted)
+
+    del-says : says h f (closed a (s .count) (j .place)) (s .count - 1) ≡ after keyed (says h f a (s .count)) (change del (entry h f v))
+    unfolding after
+    del-says =
+        close-says h f a (keyNumbers (entry h f v)) (s .count) (j .place) (q .placed) (entry h f (getD a (j .place) 0)) (ready-in h f a room s y) del-place (found del q z (passed del q z .0))
+        ∙ put-both del q z none
+
+    -- closed up over its place
+    pub del-step : (b : List ℕ) → b ≡ closed a (s .count) (j .place) → Steps h f a b room (change del (entry h f v)) s (record { code = 0; state = record { count = s .count - 1; size = j .size }; before = getD a (j .place) 0 })
+    del-step b e =
+        stepped del q z b (s .count - 1) (getD a (j .place) 0) (ap (λ x. says h f x (s .count - 1)) e ∙ del-says) (omega (arith, del-count)) (ap length e ∙ length-closed a (s .count) (j .place) del-place (ready-in h f a room s y)) (rw (found-key del q z (passed del q z .0)))
+
+pub ruleset inserted = (needs, step-refused, ins-in, ins-place, ins-fits, ins-step)
+
+pub ruleset updated = (needs, step-refused, upd-in, upd-step)
+
+pub ruleset deleted = (needs, step-refused, del-place, del-in, del-all, del-one, del-step)
+
+-- ---- by change, and by kind
+
+-- the kinds of header, metadata and trailer
+abbrev pub unheld : code.Kind → Bool
+unheld Header = true
+unheld Street = false
+unheld StreetXref = false
+unheld Blpu = false
+unheld AppXref = false
+unheld Lpi = false
+unheld Metadata = true
+unheld Trailer = true
+
+-- the others are held
+pub held-is : (k : code.Kind) → isHeld (role (kindMeant k)) ≡ not (unheld k)
+unfolding isHeld role
+held-is Header = refl
+held-is Street = refl
+held-is StreetXref = refl
+held-is Blpu = refl
+held-is AppXref = refl
+held-is Lpi = refl
+held-is Metadata = refl
+held-is Trailer = refl
+
+fine-held : (x : Rec) → T (fine x) → T (isHeld (role (x .kind)))
+unfolding fine
+fine-held x g = and-l (isHeld (role (x .kind))) _ g
+
+module _ (h f : List ℕ) (at : ℕ) (l : Line) (q : Carries f at l) where
+  filed : entry h f (2 * at + 1) ≡ recOf (lineAt f at)
+  filed = entry-odd h f at (2 * at + 1) (omega arith)
+
+  -- the entry of a line is of a sound record
+  pub line-fine : T (fine (entry h f (2 * at + 1)))
+  line-fine = subst (λ x. T (fine x)) (sym filed) (q .sound)
+
+  -- it can be written down
+  pub twice-fits : (a : List ℕ) (room : ℕ) (s : State) → Ready h f a room s → Fits w64 (2 * at)
+  twice-fits a room s y = record { fits = omega (arith, q .inside, y .fileShort) }
+
+  -- with the mark of the file
+  pub odd-fits : (a : List ℕ) (room : ℕ) (s : State) → Ready h f a room s → Fits w64 (2 * at + 1)
+  odd-fits a room s y = record { fits = omega (arith, q .inside, y .fileShort) }
+
+  module _ (a b : List ℕ) (room : ℕ) (s : State) (r : Stepped) where
+    -- a kind that is not held carries no sound record
+    pub step-unheld : (k : code.Kind) → l .kind ≡ k → unheld k ≡ true → Steps h f a b room (changeAt f at) s r
+    step-unheld k e t = absurd (subst T (ap (λ z. isHeld (role z)) (sym (q .kinded)) ∙ ap (λ z. isHeld (role (kindMeant z))) e ∙ held-is k ∙ ap not t) (fine-held (recOf (lineAt f at)) (q .sound)))
+
+    -- the line's change is made
+    pub step-made : (k : code-change.Change) → l .change ≡ k → Steps h f a b room (change (changeMeant k) (entry h f (2 * at + 1))) s r → Steps h f a b room (changeAt f at) s r
+    step-made k e u = subst (λ c. Steps h f a b room c s r) (ap₂ change (ap changeMeant (sym e) ∙ q .changed) filed) u
+
+pub ruleset stepping = (needs, line-fine, twice-fits, odd-fits, step-unheld, step-made)

@@ -1,0 +1,24 @@
+-- `steps::judge::judge_delete` meets its contract.
+use Rattle.steps.proofs.JudgeLaws.{deleting}
+use Rattle.steps.proofs.judge.judge_delete.Statement.{statement}
+use Rattle.steps.proofs.judge.judge_delete.Tie as tie
+
+pub judge-delete-spec : {M : Type 1} → statement M
+judge-delete-spec =
+    tie.close
+    (tie.spec
+    (λ c κs. search deleting)  -- find-requires
+    (λ c κs. search deleting)  -- verdict-requires
+    (λ c. search deleting)  -- returns
+    (λ c κs. search deleting)  -- unreferred-requires
+    (λ c κs. search deleting)  -- verdict-requires-2
+    (λ c. search deleting)  -- returns-2
+    (λ c. search deleting)  -- mul-entry-length
+    (λ c. search deleting)  -- shared-slice-read-entry-length
+    (λ c κs. search deleting)  -- entry-length-requires
+    (λ c. search deleting)  -- add-gone
+    (λ c κs. search deleting)  -- width-requires
+    (λ c. search deleting)  -- add-gone-2
+    (λ c. search deleting)  -- sub-verdict
+    (λ c κs. search deleting)  -- verdict-requires-3
+    (λ c. search deleting))  -- returns-3

@@ -1,0 +1,150 @@
+// One step of a file over the records in force.
+ghost use mathlib.Core.Path.{_≡_};
+ghost use lib.Dec.{T};
+ghost use Rattle.theory.specs.Step.{ins, upd, del};
+ghost use Rattle.laws.specs.Body.{fine};
+ghost use Rattle.places.specs.Places.{entry};
+ghost use Rattle.steps.specs.Ready.{Ready, change, changeAt, Carries, Steps};
+use crate::judge::State;
+use crate::judge::judge_delete;
+use crate::judge::judge_insert;
+use crate::judge::judge_update;
+use layout::kinds::Kind;
+use places::moves::close;
+use places::moves::open;
+use volume::lines::Change;
+use volume::lines::Line;
+
+// The code, or 0, the state after the step, and the entry that stood at the key, or the step's own where none did.
+pub struct Stepped {
+    pub code: u64,
+    pub state: State,
+    pub before: u64,
+}
+
+// An insert of an entry's record.
+fn insert(h: &[u8], f: &[u8], a: &mut [u64], v: u64, s: State, room: usize) -> Stepped
+    requires { ⌜ Ready (now h) (now f) (now a) room s × T (fine (entry (now h) (now f) v)) ⌝ }
+    ensures { λ r. ⌜ Steps (now (h .entry)) (now (f .entry)) (now (a .entry)) (now (a .exit)) room (change ins (entry (now (h .entry)) (now (f .entry)) v)) s r ⌝ }
+{
+    let judged = judge_insert(h, f, a, v, s, room);
+    let code = judged.code;
+    let i = judged.place;
+    let size = judged.size;
+    if code != 0 {
+        return Stepped {
+            code,
+            state: s,
+            before: v,
+        };
+    }
+    let count = s.count;
+    open(&mut *a, count, i, v);
+    Stepped {
+        code: 0,
+        state: State {
+            count: count + 1,
+            size,
+        },
+        before: v,
+    }
+}
+
+// An update to an entry's record.
+fn update(h: &[u8], f: &[u8], a: &mut [u64], v: u64, s: State, room: usize) -> Stepped
+    requires { ⌜ Ready (now h) (now f) (now a) room s × T (fine (entry (now h) (now f) v)) ⌝ }
+    ensures { λ r. ⌜ Steps (now (h .entry)) (now (f .entry)) (now (a .entry)) (now (a .exit)) room (change upd (entry (now (h .entry)) (now (f .entry)) v)) s r ⌝ }
+{
+    let judged = judge_update(h, f, a, v, s, room);
+    let code = judged.code;
+    let i = judged.place;
+    let size = judged.size;
+    if code != 0 {
+        return Stepped {
+            code,
+            state: s,
+            before: v,
+        };
+    }
+    let count = s.count;
+    let before = a[i];
+    a[i] = v;
+    Stepped {
+        code: 0,
+        state: State { count, size },
+        before,
+    }
+}
+
+// A delete at the key of an entry's record.
+fn delete(h: &[u8], f: &[u8], a: &mut [u64], v: u64, s: State, room: usize) -> Stepped
+    requires { ⌜ Ready (now h) (now f) (now a) room s × T (fine (entry (now h) (now f) v)) ⌝ }
+    ensures { λ r. ⌜ Steps (now (h .entry)) (now (f .entry)) (now (a .entry)) (now (a .exit)) room (change del (entry (now (h .entry)) (now (f .entry)) v)) s r ⌝ }
+{
+    let judged = judge_delete(h, f, a, v, s, room);
+    let code = judged.code;
+    let i = judged.place;
+    let size = judged.size;
+    if code != 0 {
+        return Stepped {
+            code,
+            state: s,
+            before: v,
+        };
+    }
+    let count = s.count;
+    let before = a[i];
+    close(&mut *a, count, i);
+    Stepped {
+        code: 0,
+        state: State {
+            count: count - 1,
+            size,
+        },
+        before,
+    }
+}
+
+// A step that changes nothing.
+fn unchanged(s: State, v: u64) -> Stepped
+    ensures { λ r. ⌜ r ≡ record { code = 0; state = s; before = v } ⌝ }
+{
+    Stepped {
+        code: 0,
+        state: s,
+        before: v,
+    }
+}
+
+// The step of the line that starts at `at` of the file; a line of a kind that is not held changes nothing.
+pub fn step(
+    h: &[u8],
+    f: &[u8],
+    at: usize,
+    line: Line,
+    a: &mut [u64],
+    s: State,
+    room: usize,
+) -> Stepped
+    requires { ⌜ Ready (now h) (now f) (now a) room s × Carries (now f) at line ⌝ }
+    ensures { λ r. ⌜ Steps (now (h .entry)) (now (f .entry)) (now (a .entry)) (now (a .exit)) room (changeAt (now (f .entry)) at) s r ⌝ }
+{
+    let kind = line.kind;
+    let change = line.change;
+    let v = 2 * (at as u64) + 1;
+    match kind {
+        Kind::Header => return unchanged(s, v),
+        Kind::Street => {}
+        Kind::StreetXref => {}
+        Kind::Blpu => {}
+        Kind::AppXref => {}
+        Kind::Lpi => {}
+        Kind::Metadata => return unchanged(s, v),
+        Kind::Trailer => return unchanged(s, v),
+    }
+    match change {
+        Change::Insert => insert(h, f, a, v, s, room),
+        Change::Update => update(h, f, a, v, s, room),
+        Change::Delete => delete(h, f, a, v, s, room),
+    }
+}
