@@ -3,7 +3,7 @@ use mathlib.Core.Path.{_≡_, refl, sym, ap, _∙_, subst}
 use mathlib.Core.Bool.{Bool, true, false, not}
 use mathlib.Core.Option.{Option, none, some}
 use mathlib.Core.List.{List, [], _∷_, _++_}
-use Prim.Native.Nat.{ℕ, suc, _+_, _-_, _≤_, _<_}
+use Prim.Native.Nat.{ℕ, suc, _+_, _-_, _≤_, _<_, max}
 use native.Mathlib.Omega.{arith}
 use borrow.Author.Needs.{needs}
 use borrow.Author.Tests.{not-true, not-false, le-leb, lt-leb}
@@ -71,11 +71,11 @@ module _ (h f a : List ℕ) (room : ℕ) (s : State) (y : Ready h f a room s) wh
   ready-fits = y .fits
 
   -- lengths of records can be added
-  pub long-fits : (m : ℕ) → m ≤ length h + length f → Fits w64 (m + 10)
+  pub long-fits : (m : ℕ) → m ≤ max (length h) (length f) → Fits w64 (m + 10)
   long-fits m l = record { fits = omega (arith, y .heldShort, y .fileShort) }
 
   -- and so can the digits of a number
-  pub wide-fits : (m w : ℕ) → m ≤ length h + length f → w ≤ 20 → Fits w64 (m + 10 + w)
+  pub wide-fits : (m w : ℕ) → m ≤ max (length h) (length f) → w ≤ 20 → Fits w64 (m + 10 + w)
   wide-fits m w l k = record { fits = omega (arith, y .heldShort, y .fileShort) }
 
   -- and so can what there is room for

@@ -47,9 +47,9 @@ pub record Ready (h f a : List ℕ) (room : ℕ) (s : State) : Type 0 where
   pub sized : s .size ≡ length (written (says h f a (s .count)))
   pub fits : s .size ≤ room
   pub space : 8192 ≤ length a
-  pub roomShort : room < 4611686018427387904
-  pub heldShort : length h < 4611686018427387904
-  pub fileShort : length f < 4611686018427387904
+  pub roomShort : room < 9223372036854775808
+  pub heldShort : length h < 9223372036854775808
+  pub fileShort : length f < 9223372036854775808
 
 -- the key of an entry's record, its place among the first n, and whether a record stands there
 pub record Finds (h f a : List ℕ) (n v : ℕ) (r : Found) : Type 0 where

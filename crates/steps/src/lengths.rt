@@ -1,6 +1,6 @@
 // How many bytes the records of lines and entries have.
 ghost use mathlib.Core.Path.{_≡_};
-ghost use Prim.Native.Nat.{_+_, _≤_};
+ghost use Prim.Native.Nat.{_≤_, max};
 ghost use lib.ListN.{length};
 ghost use Rattle.places.specs.Places.{recOf, lineAt, entry};
 
@@ -24,7 +24,7 @@ fn record_length(s: &[u8], at: usize) -> usize
 
 // The length of the content of an entry's record.
 pub fn entry_length(h: &[u8], f: &[u8], v: u64) -> usize
-    ensures { λ r. ⌜ (r ≡ length (entry (now (h .entry)) (now (f .entry)) v .content)) × (r ≤ length (now (h .entry)) + length (now (f .entry))) ⌝ }
+    ensures { λ r. ⌜ (r ≡ length (entry (now (h .entry)) (now (f .entry)) v .content)) × (r ≤ max (length (now (h .entry))) (length (now (f .entry)))) ⌝ }
 {
     let at = (v / 2) as usize;
     if v % 2 == 0 {
