@@ -4,9 +4,10 @@ ghost use Prim.Native.Nat.{_≤_};
 ghost use lib.ListN.{length};
 ghost use Rattle.base.specs.Lists.{zeros};
 ghost use Rattle.meaning.specs.Holding.{written};
-ghost use Rattle.meaning.specs.Load.{six, filled, apply};
+ghost use Rattle.meaning.specs.Load.{six, filled};
 ghost use Rattle.places.specs.Places.{says};
 ghost use Rattle.volume.specs.Answer.{answerOf};
+ghost use Rattle.loader.specs.Outcome.{Outcome};
 use holding::read::read_holding;
 use steps::judge::State;
 use steps::run::run;
@@ -40,7 +41,7 @@ pub fn fill(out: &mut [u8], holding: &[u8], file: &[u8], places: &[u64], count: 
 
 // Takes a file into a holding: the six numbers, and the new holding or zeros in the output.
 pub fn apply(holding: &[u8], file: &[u8], out: &mut [u8]) -> Answer
-    ensures { λ r. ⌜ (r ≡ answerOf (apply (now (holding .entry)) (now (file .entry)) (length (now (out .entry))) .answer)) × (now (out .exit) ≡ apply (now (holding .entry)) (now (file .entry)) (length (now (out .entry))) .output) ⌝ }
+    ensures { λ r. ⌜ Outcome (now (holding .entry)) (now (file .entry)) (length (now (out .entry))) r (now (out .exit)) ⌝ }
 {
     let mut places = [0u64; 8192];
     let held = read_holding(holding, &mut places);
