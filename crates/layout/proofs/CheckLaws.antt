@@ -1,6 +1,6 @@
 -- The laws of the check of a line: the walk of its fields beside the table's rows, its dates, and its faults in order.
 use mathlib.Core.Path.{_≡_, refl, sym, ap, _∙_}
-use mathlib.Core.Bool.{Bool, true, false, not}
+use mathlib.Core.Bool.{Bool, true, false, not, _&&_}
 use mathlib.Core.Option.{Option, none, some}
 use mathlib.Core.List.{List, [], _∷_, map}
 use Prim.Native.Nat.{ℕ, zero, suc, _+_, _-_, _≤_, _<_}
@@ -9,25 +9,27 @@ use native.Mathlib.Numerals.{add-one}
 use native.Mathlib.Omega.{arith}
 use borrow.Author.Needs.{needs}
 use borrow.Author.Tests.{not-true, not-false, eq-eqb, ne-eqb, lt-ltb, le-ltb}
-use lib.Dec.{eqb, ltb}
+use lib.Dec.{T, eqb, ltb, leb, leb→le}
 use lib.Text.{eqt}
 use lib.ListN.{length, getD, take, drop, length-map, drop-of-length-le}
 use lib.Seq.{drop-cons}
 use Rattle.base.specs.Lists.{pick, ask}
+use Rattle.base.specs.Tests.{and-l, and-r}
 use Rattle.meaning.specs.Forms.{Form, soundAs}
 use Rattle.meaning.specs.Lines.{fieldsFrom, fieldsOf, hasFields}
-use Rattle.meaning.specs.Table.{Kind, Field, fields, named, placeFrom, startDate, endDate}
+use Rattle.meaning.specs.Table.{Kind, kinds, Field, fields, named, placeFrom, startDate, endDate}
 use Rattle.meaning.specs.Sound as meant
 use Rattle.meaning.specs.Sound.{soundField, forms, datesAgree, fieldFault, formFault}
 use Rattle.theory.specs.Tri.{isLt}
 use Rattle.theory.specs.Lex.{lex}
 use Rattle.text.specs.declared.order.Order.{Order}
 use Rattle.text.specs.Order.{triOf}
-use Rattle.text.specs.Places.{fieldLen, fieldEnd}
-use Rattle.text.proofs.FieldLaws.{fields-at}
+use Rattle.laws.specs.Kinds.{every}
+use Rattle.text.specs.Places.{fieldCount, fieldLen, fieldEnd}
+use Rattle.text.proofs.FieldLaws.{fields-at, fields-wrong, fields-right, fields-many}
 use Rattle.layout.specs.Rows.{Row, bare, noRow, rowOf, decoded, formDecoded, filledDecoded, laidOut}
 use Rattle.layout.specs.declared.records.Layout.{Layout}
-use Rattle.layout.specs.Check.{lowestBad, kindDates, told}
+use Rattle.layout.specs.Check.{lowestBad, kindDates, Parted, told}
 
 -- ---- the walk of the fields, k of them on
 
@@ -112,8 +114,6 @@ pub bad-done : (kd : Kind) (t : List ℕ) (k n at x : ℕ) → badAt kd t k at �
 unfolding lowestBad
 bad-done kd t k n at x w h c = rw (drop-of-length-le (map bare (fields kd)) {i = k} (rw c at h)) at w
 
-pub ruleset bad = (needs, not-true, not-false, bad-start, count-rows, row-there, bad-stop, bad-turn, bad-last, bad-done)
-
 -- ---- what the meaning asks is what is answered
 
 -- 5 at the lowest field that is malformed, else the rest
@@ -164,6 +164,27 @@ place-from n s (d ∷ ds) h = go (eqt s (d .name)) h (place-from (suc n) s ds)
     go true h ih = omega arith
     go false h ih = omega (arith, ih h)
 
+-- and none is past the last
+place-to : (n : ℕ) (s : String) (ds : List Field) → placeFrom (suc n) s ds ≤ n + length ds
+unfolding placeFrom
+place-to n s [] = omega arith
+place-to n s (d ∷ ds) = go (eqt s (d .name)) (place-to (suc n) s ds)
+  where
+    go : (b : Bool) → placeFrom (suc (suc n)) s ds ≤ suc n + length ds → pick b (suc n) (placeFrom (suc (suc n)) s ds) ≤ n + suc (length ds)
+    go true h = omega arith
+    go false h = omega arith
+
+-- every kind has fields, and no more than are noted
+fields-few : (kd : Kind) → T (leb 1 (length (fields kd)) && leb (length (fields kd)) 32)
+unfolding kinds fields
+fields-few kd = every (λ k. leb 1 (length (fields k)) && leb (length (fields k)) 32) tt kd
+
+pub fields-low : (kd : Kind) → 1 ≤ length (fields kd)
+fields-low kd = leb→le 1 (length (fields kd)) (and-l (leb 1 (length (fields kd))) (leb (length (fields kd)) 32) (fields-few kd))
+
+pub fields-high : (kd : Kind) → length (fields kd) ≤ 32
+fields-high kd = leb→le (length (fields kd)) 32 (and-r (leb 1 (length (fields kd))) (leb (length (fields kd)) 32) (fields-few kd))
+
 -- the field of a name is the one at its place
 pub named-at : (n : ℕ) (s : String) (ds : List Field) (fs : List (List ℕ)) → (placeFrom (suc n) s ds ≡ 0 → ⊥) → named s ds fs ≡ getD fs (placeFrom (suc n) s ds - suc n) []
 unfolding named placeFrom
@@ -190,6 +211,20 @@ named-none n s (d ∷ ds) (f ∷ fs) h = go (eqt s (d .name)) h (named-none (suc
     go : (b : Bool) → pick b (suc n) (placeFrom (suc (suc n)) s ds) ≡ 0 → (placeFrom (suc (suc n)) s ds ≡ 0 → named s ds fs ≡ []) → pick b f (named s ds fs) ≡ []
     go true h ih = absurd (omega arith)
     go false h ih = ih h
+
+module _ (kd : Kind) (t a : List ℕ) (l : Layout) (e : l ≡ laidOut kd) (p : Parted kd t a) where
+  -- a place in the table is one of the line's fields
+  pub start-there : (l .start ≡ 0 → ⊥) → l .start - 1 < length (fieldsOf t)
+  unfolding laidOut
+  start-there n = let v : l .start ≡ placeFrom 1 startDate (fields kd) = ap (λ x. x .start) e in omega (arith, v, place-to 0 startDate (fields kd), fields-many t (length (fields kd)) (p .many))
+
+  pub end-there : (l .end ≡ 0 → ⊥) → l .end - 1 < length (fieldsOf t)
+  unfolding laidOut
+  end-there n = let v : l .end ≡ placeFrom 1 endDate (fields kd) = ap (λ x. x .end) e in omega (arith, v, place-to 0 endDate (fields kd), fields-many t (length (fields kd)) (p .many))
+
+  -- and its end is noted
+  pub noted-there : (k : ℕ) → k < length (fieldsOf t) → k < length a
+  noted-there k h = omega (arith, fields-many t (length (fields kd)) (p .many), fields-high kd, p .room)
 
 module _ (kd : Kind) (t : List ℕ) (l : Layout) (e : l ≡ laidOut kd) where
   -- a kind with no START_DATE has nothing to be before
@@ -222,7 +257,7 @@ module _ (kd : Kind) (t : List ℕ) (l : Layout) (e : l ≡ laidOut kd) where
       let v : l .end ≡ placeFrom 1 endDate (fields kd) = ap (λ x. x .end) e in
       rw (named-at 0 startDate (fields kd) (fieldsOf t) (λ z. m (u ∙ z)), named-at 0 endDate (fields kd) (fieldsOf t) (λ z. n (v ∙ z)), ← u, ← v, ← p, ← q) h
 
-pub ruleset kinddates = (needs, kind-no-start, kind-no-end, kind-end-empty, kind-dates)
+pub ruleset kinddates = (needs, start-there, end-there, noted-there, kind-no-start, kind-no-end, kind-end-empty, kind-dates)
 
 -- ---- a line's faults in order
 
@@ -240,26 +275,34 @@ module _ (kd : Kind) (t : List ℕ) (l : Layout) (e : l ≡ laidOut kd) where
   unfolding laidOut
   counted = ap (λ x. x .count) e
 
-  -- 4 for their number
-  pub fault-count : (a : Bool) → a ≡ hasFields (l .count) t → a ≡ false → record { code = 4; field = 0 } ≡ told (formFault kd t none)
-  unfolding ask
-  fault-count a p f = rw (fault-is kd t none, ← counted, sym p ∙ f)
+  -- every kind has fields
+  some-fields : 0 < l .count
+  some-fields = omega (arith, counted, fields-low kd)
 
-  module _ (a : Bool) (p : a ≡ hasFields (l .count) t) (f : a ≡ true) (n : ℕ) (q : n ≡ lowestBad 1 (map bare (fields kd)) (fieldsOf t)) where
+  -- as many as were counted
+  pub right-count : (c : ℕ) → c ≡ fieldCount t → c ≡ l .count → true ≡ hasFields (length (fields kd)) t
+  right-count c p f = rw (← counted) (fields-right t (l .count) c p f some-fields)
+
+  -- 4 for their number
+  pub fault-count : (c : ℕ) → c ≡ fieldCount t → (c ≡ l .count → ⊥) → record { code = 4; field = 0 } ≡ told (formFault kd t none)
+  unfolding ask
+  fault-count c p f = rw (fault-is kd t none, ← counted, ← fields-wrong t (l .count) c p f)
+
+  module _ (c : ℕ) (p : c ≡ fieldCount t) (f : c ≡ l .count) (n : ℕ) (q : n ≡ lowestBad 1 (map bare (fields kd)) (fieldsOf t)) where
     -- 5 for the lowest that is malformed
     pub fault-form : (n ≡ 0 → ⊥) → record { code = 5; field = n } ≡ told (formFault kd t none)
     unfolding ask
-    fault-form m = rw (fault-is kd t none, ← counted, sym p ∙ f, ← q, ne-eqb n 0 m)
+    fault-form m = rw (fault-is kd t none, ← right-count c p f, ← q, ne-eqb n 0 m)
 
     module _ (z : n ≡ 0) (b : Bool) (r : b ≡ kindDates kd (fieldsOf t)) where
       -- 6 for END_DATE before START_DATE
       pub fault-dates : b ≡ false → record { code = 6; field = l .end } ≡ told (formFault kd t none)
       unfolding ask laidOut
-      fault-dates g = let v : l .end ≡ placeFrom 1 endDate (fields kd) = ap (λ x. x .end) e in rw (fault-is kd t none, ← counted, sym p ∙ f, ← q, eq-eqb n 0 z, sym r ∙ g, v)
+      fault-dates g = let v : l .end ≡ placeFrom 1 endDate (fields kd) = ap (λ x. x .end) e in rw (fault-is kd t none, ← right-count c p f, ← q, eq-eqb n 0 z, sym r ∙ g, v)
 
       -- else none
       pub fault-none : b ≡ true → record { code = 0; field = 0 } ≡ told (formFault kd t none)
       unfolding ask
-      fault-none g = rw (fault-is kd t none, ← counted, sym p ∙ f, ← q, eq-eqb n 0 z, sym r ∙ g)
+      fault-none g = rw (fault-is kd t none, ← right-count c p f, ← q, eq-eqb n 0 z, sym r ∙ g)
 
 pub ruleset faults = (needs, not-true, not-false, fault-count, fault-form, fault-dates, fault-none)

@@ -1,3 +1,4 @@
 pub mod TableLaws
 pub mod KindLaws
 pub mod CheckLaws
+pub mod PassLaws

@@ -1,13 +1,17 @@
 -- The check of a line, as code answers it.
+use mathlib.Core.Path.{_≡_}
 use mathlib.Core.Bool.{Bool, true, false}
 use mathlib.Core.Option.{Option, none, some}
 use mathlib.Core.List.{List, [], _∷_}
-use Prim.Native.Nat.{ℕ, suc}
+use Prim.Native.Nat.{ℕ, suc, _≤_}
+use lib.ListN.{length}
 use Rattle.base.specs.Lists.{pick}
 use Rattle.meaning.specs.Forms.{soundAs}
+use Rattle.meaning.specs.Lines.{hasFields}
 use Rattle.meaning.specs.Table.{Kind, fields, named, startDate, endDate}
 use Rattle.meaning.specs.Sound as meant
 use Rattle.meaning.specs.Sound.{datesAgree}
+use Rattle.text.specs.Places.{Notes}
 use Rattle.layout.specs.declared.check.Fault.{Fault}
 use Rattle.layout.specs.Rows.{Row}
 
@@ -20,6 +24,12 @@ lowestBad n (d ∷ ds) (f ∷ fs) = pick (soundAs (d .0) (d .1) f) (lowestBad (s
 -- START_DATE and END_DATE among the fields of a kind are in order
 unfoldable pub kindDates : Kind → List (List ℕ) → Bool
 kindDates k fs = datesAgree (named startDate (fields k) fs) (named endDate (fields k) fs)
+
+-- a line has as many fields as its kind, and their ends are noted in an array that has room for those of every kind
+pub record Parted (k : Kind) (t a : List ℕ) : Type 0 where
+  pub many : true ≡ hasFields (length (fields k)) t
+  pub noted : Notes t a
+  pub room : 32 ≤ length a
 
 -- a fault, as two numbers; none is two zeros
 abbrev pub told : Option meant.Fault → Fault

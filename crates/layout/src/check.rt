@@ -10,7 +10,7 @@ ghost use Rattle.meaning.specs.Table.{fields, kindOf};
 ghost use Rattle.meaning.specs.Sound.{datesAgree, formFault};
 ghost use Rattle.layout.specs.Meant.{kindMeant, kindFound};
 ghost use Rattle.layout.specs.Rows.{bare, rowOf};
-ghost use Rattle.layout.specs.Check.{lowestBad, kindDates, told};
+ghost use Rattle.layout.specs.Check.{lowestBad, kindDates, Parted, told};
 use crate::kinds::Kind;
 use crate::kinds::KindFound;
 use crate::rules::form_of;
@@ -18,10 +18,9 @@ use crate::rules::is_mandatory;
 use crate::rules::kind_numbered;
 use crate::rules::layout;
 use crate::rules::row;
-use text::fields::field;
-use text::fields::field_end;
-use text::fields::has_fields;
 use text::fields::identifier_end;
+use text::fields::noted_field;
+use text::fields::split;
 use text::order::Order;
 
 // A line's first fault: its code and field, or two zeros.
@@ -61,7 +60,8 @@ pub fn sound_at(kind: Kind, k: usize, f: &[u8]) -> bool
 }
 
 // The lowest field that is malformed, counted from 1, or 0.
-pub fn lowest_malformed(kind: Kind, line: &[u8]) -> usize
+fn lowest_malformed(kind: Kind, line: &[u8], ends: &[usize]) -> usize
+    requires { ⌜ Parted (kindMeant kind) (now line) (now ends) ⌝ }
     ensures { λ r. ⌜ r ≡ lowestBad 1 (map bare (fields (kindMeant kind))) (fieldsOf (now (line .entry))) ⌝ }
 {
     let l = layout(kind);
@@ -69,12 +69,9 @@ pub fn lowest_malformed(kind: Kind, line: &[u8]) -> usize
     let mut k = 0;
     let mut at = 0;
     while k < count {
-        let end = field_end(line, at);
+        let end = ends[k];
         if !sound_at(kind, k, &line[at..end]) {
             return k + 1;
-        }
-        if end == line.len() {
-            return 0;
         }
         at = end + 1;
         k += 1;
@@ -100,7 +97,8 @@ pub fn in_order(start: &[u8], end: &[u8]) -> bool
 }
 
 // Whether the dates of a line, where its kind has them, are in order.
-pub fn dates_agree(kind: Kind, line: &[u8]) -> bool
+pub fn dates_agree(kind: Kind, line: &[u8], ends: &[usize]) -> bool
+    requires { ⌜ Parted (kindMeant kind) (now line) (now ends) ⌝ }
     ensures { λ r. ⌜ r ≡ kindDates (kindMeant kind) (fieldsOf (now (line .entry))) ⌝ }
 {
     let l = layout(kind);
@@ -112,11 +110,11 @@ pub fn dates_agree(kind: Kind, line: &[u8]) -> bool
     if end == 0 {
         return true;
     }
-    let ends = field(line, end - 1);
-    if ends.len() == 0 {
+    let ended = noted_field(line, ends, end - 1);
+    if ended.len() == 0 {
         return true;
     }
-    in_order(field(line, start - 1), ends)
+    in_order(noted_field(line, ends, start - 1), ended)
 }
 
 // A line's first fault in count, form and dates.
@@ -126,17 +124,18 @@ pub fn check_line(kind: Kind, line: &[u8]) -> Fault
     let l = layout(kind);
     let count = l.count;
     let end = l.end;
-    if !has_fields(line, count) {
+    let mut ends = [0usize; 32];
+    if split(line, &mut ends) != count {
         return Fault { code: 4, field: 0 };
     }
-    let bad = lowest_malformed(kind, line);
+    let bad = lowest_malformed(kind, line, &ends);
     if bad != 0 {
         return Fault {
             code: 5,
             field: bad,
         };
     }
-    if !dates_agree(kind, line) {
+    if !dates_agree(kind, line, &ends) {
         return Fault {
             code: 6,
             field: end,

@@ -8,10 +8,11 @@ use native.Mathlib.Omega.{arith}
 use native.Mathlib.Decide.{decLe}
 use borrow.Author.Tests.{eq-eqb, ne-eqb, eqb-true, lt-ltb}
 use borrow.Author.Needs.{needs}
-use lib.Dec.{eqb, ltb, leb·suc-suc}
+use lib.Dec.{eqb, ltb, eqb→eq, leb·suc-suc}
 use lib.ListN.{length, getD, drop, take, length-drop}
 use lib.Seq.{drop-drop}
 use Rattle.base.specs.Lists.{pick, upTo}
+use Rattle.base.specs.Tests.{and-r}
 use Rattle.base.proofs.Walk.{at-cons, at-end}
 use Rattle.meaning.specs.Lines.{identifier, isSep, turned, addByte, fieldsFrom, fieldsOf, quoteAfter, oddQuotes, hasFields, afterField}
 use Rattle.meaning.specs.Records.{contentOf}
@@ -78,14 +79,22 @@ turn-other q b n = rw (ne-eqb b 34 n)
 
 pub ruleset byte = (needs, sep-comma, sep-other, turn-quote, turn-other)
 
+-- a byte above the comma separates nothing
+pub high-sep : (q : Bool) (b : ℕ) → 44 < b → isSep q b ≡ false
+high-sep q b h = sym (sep-other q b (λ e. omega arith))
+
+-- and turns nothing
+pub high-stays : (q : Bool) (b : ℕ) → 44 < b → turned q b ≡ q
+high-stays q b h = sym (turn-other q b (λ e. omega arith))
+
 -- a separator stands outside quotes
-sep-outside : (q : Bool) (b : ℕ) → isSep q b ≡ true → q ≡ false
+pub sep-outside : (q : Bool) (b : ℕ) → isSep q b ≡ true → q ≡ false
 unfolding isSep
 sep-outside true b e = sym e
 sep-outside false b e = refl
 
 -- and is no quote
-sep-stays : (q : Bool) (b : ℕ) → isSep q b ≡ true → turned q b ≡ q
+pub sep-stays : (q : Bool) (b : ℕ) → isSep q b ≡ true → turned q b ≡ q
 unfolding isSep turned
 sep-stays true b e = let z : _≡_ {A = Bool} false true = e in cc
 sep-stays false b e = rw (eqb-true b 44 e)
@@ -93,7 +102,7 @@ sep-stays false b e = rw (eqb-true b 44 e)
 -- ---- the walk that counts, where quoting is q and m separators are passed
 
 -- there is a first field
-fields-some : (q : Bool) (l : List ℕ) → 0 < length (fieldsFrom q l)
+pub fields-some : (q : Bool) (l : List ℕ) → 0 < length (fieldsFrom q l)
 unfolding fieldsFrom addByte
 fields-some q [] = omega arith
 fields-some q (x ∷ r) = go (isSep q x) (fieldsFrom (turned q x) r)
@@ -141,6 +150,11 @@ count-other l q m i x b q′ e h p t k =
     go [] h e = absurd (omega arith)
     go (f ∷ fs) h e = e
 
+-- a byte above the comma is passed
+pub count-high : (l : List ℕ) (q : Bool) (m i x : ℕ) → countAt l q m i ≡ x → i < length l → 44 < getD l i 0 → countAt l q m (i + 1) ≡ x
+count-high l q m i x e h g =
+    count-other l q m i x false q e h (sym (high-sep q (getD l i 0) g)) refl (sym (high-stays q (getD l i 0) g))
+
 -- an open quote counts nothing
 pub count-open : (l : List ℕ) (q : Bool) (m i x : ℕ) → countAt l q m i ≡ x → length l ≤ i → q ≡ true → 0 ≡ x
 unfolding quoteAfter
@@ -151,27 +165,28 @@ pub count-shut : (l : List ℕ) (q : Bool) (m i x : ℕ) → countAt l q m i ≡
 unfolding quoteAfter fieldsFrom
 count-shut l q m i x e h t = rw (at-end l i h, t) at e
 
-pub ruleset count = (needs, count-start, count-sep, count-other, count-open, count-shut)
-
--- a line whose quotes are odd has no right count, and only such a line counts 0
-pub fields-odd : (l : List ℕ) (n c : ℕ) → c ≡ fieldCount l → c ≡ 0 → false ≡ hasFields n l
-unfolding hasFields fieldCount fieldsOf
-fields-odd l n c e z = go (oddQuotes l) (sym e ∙ z)
-  where
-    go : (b : Bool) → pick b 0 (length (fieldsFrom false l)) ≡ 0 → false ≡ (not b && eqb (length (fieldsFrom false l)) n)
-    go true h = refl
-    go false h = absurd (omega (arith, fields-some false l))
-
--- any other has as many fields as are counted
-pub fields-even : (l : List ℕ) (n c : ℕ) → c ≡ fieldCount l → (c ≡ 0 → ⊥) → eqb c n ≡ hasFields n l
+-- another count than is counted is wrong; so is every count where the quotes are odd
+pub fields-wrong : (t : List ℕ) (n c : ℕ) → c ≡ fieldCount t → (c ≡ n → ⊥) → false ≡ hasFields n t
 unfolding hasFields fieldCount
-fields-even l n c e z = rw e (go (oddQuotes l) (λ h. z (e ∙ h)))
+fields-wrong t n c e z = go (oddQuotes t) (λ h. z (e ∙ h))
   where
-    go : (b : Bool) → (pick b 0 (length (fieldsOf l)) ≡ 0 → ⊥) → eqb (pick b 0 (length (fieldsOf l))) n ≡ (not b && eqb (length (fieldsOf l)) n)
-    go true h = absurd (h refl)
-    go false h = refl
+    go : (b : Bool) → (pick b 0 (length (fieldsOf t)) ≡ n → ⊥) → false ≡ (not b && eqb (length (fieldsOf t)) n)
+    go true h = refl
+    go false h = sym (ne-eqb (length (fieldsOf t)) n h)
 
-pub ruleset counted = (needs, fields-odd, fields-even)
+-- what is counted is right, unless it is 0
+pub fields-right : (t : List ℕ) (n c : ℕ) → c ≡ fieldCount t → c ≡ n → 0 < n → true ≡ hasFields n t
+unfolding hasFields fieldCount
+fields-right t n c e z p = go (oddQuotes t) (sym e ∙ z)
+  where
+    go : (b : Bool) → pick b 0 (length (fieldsOf t)) ≡ n → true ≡ (not b && eqb (length (fieldsOf t)) n)
+    go true h = absurd (omega arith)
+    go false h = sym (eq-eqb (length (fieldsOf t)) n h)
+
+-- such a line has so many
+pub fields-many : (t : List ℕ) (n : ℕ) → true ≡ hasFields n t → length (fieldsOf t) ≡ n
+unfolding hasFields
+fields-many t n h = eqb→eq (length (fieldsOf t)) n (and-r (not (oddQuotes t)) (eqb (length (fieldsOf t)) n) (rw (← h) tt))
 
 -- ---- the walk of a field, where quoting is q
 
@@ -191,12 +206,16 @@ pub end-turn :
 unfolding fieldLen
 end-turn l q i x b q′ e h p t k = rw k (omega (arith, rw (at-cons l i h, sym p ∙ t) at e))
 
+-- so is a byte above the comma
+pub end-high : (l : List ℕ) (q : Bool) (i x : ℕ) → endAt l q i ≡ x → i < length l → 44 < getD l i 0 → endAt l q (i + 1) ≡ x
+end-high l q i x e h g = end-turn l q i x false q e h (sym (high-sep q (getD l i 0) g)) refl (sym (high-stays q (getD l i 0) g))
+
 -- so does the line's end
 pub end-done : (l : List ℕ) (q : Bool) (i x : ℕ) → endAt l q i ≡ x → length l ≤ i → i ≡ x
 unfolding fieldLen
 end-done l q i x e h = sym (add-zero i) ∙ (rw (at-end l i h) at e)
 
-pub ruleset ending = (needs, end-stop, end-turn, end-done)
+pub ruleset ending = (needs, end-stop, end-turn, end-high, end-done)
 
 -- ---- the fields of the meaning
 

@@ -1,5 +1,6 @@
 pub mod LineLaws
 pub mod FieldLaws
+pub mod SplitLaws
 pub mod SeekLaws
 pub mod NumberLaws
 pub mod OrderLaws

@@ -15,6 +15,25 @@ use Rattle.base.proofs.Walk.{at-cons, at-end}
 use Rattle.meaning.specs.Lines.{Line, grow, linesOf, plain, endsWell}
 use Rattle.text.specs.Places.{endsHere, lineLen, lineEnd, plainLen, plainEnd}
 
+-- ---- one byte
+
+-- a byte above CR is plain
+pub plain-high : (b : ℕ) → 13 < b → true ≡ plain b
+unfolding plain
+plain-high b h = rw (ne-eqb b 13 (λ e. omega arith), ne-eqb b 10 (λ e. omega arith))
+
+-- CR is not
+pub plain-cr : (b : ℕ) → b ≡ 13 → false ≡ plain b
+unfolding plain
+plain-cr b e = rw (eq-eqb b 13 e)
+
+-- of the others LF alone is not
+pub plain-low : (b : ℕ) → (b ≡ 13 → ⊥) → not (eqb b 10) ≡ plain b
+unfolding plain
+plain-low b n = rw (ne-eqb b 13 n)
+
+pub ruleset plainly = (needs, plain-high, plain-cr, plain-low)
+
 -- ---- a CR LF at an index
 
 -- past the end there is none
@@ -26,8 +45,12 @@ pub ends-last : (s : List ℕ) (i : ℕ) → i < length s → length s ≤ i + 1
 ends-last s i h h′ = rw (at-cons s i h, at-end s (i + 1) h′)
 
 -- another byte than CR starts none
-pub ends-other : (s : List ℕ) (i : ℕ) → i < length s → (getD s i 0 ≡ 13 → ⊥) → i + 1 < length s → false ≡ endsHere (drop i s)
-ends-other s i h n h′ = rw (at-cons s i h, at-cons s (i + 1) h′, ne-eqb (getD s i 0) 13 n)
+pub ends-other : (s : List ℕ) (i : ℕ) → i < length s → (getD s i 0 ≡ 13 → ⊥) → false ≡ endsHere (drop i s)
+ends-other s i h n = rw (at-cons s i h) (sym (go (drop (i + 1) s)))
+  where
+    go : (r : List ℕ) → endsHere (getD s i 0 ∷ r) ≡ false
+    go [] = refl
+    go (y ∷ r) = rw (ne-eqb (getD s i 0) 13 n)
 
 -- after a CR the next byte decides
 pub ends-cr : (s : List ℕ) (i : ℕ) → i < length s → getD s i 0 ≡ 13 → i + 1 < length s → eqb (getD s (i + 1) 0) 10 ≡ endsHere (drop i s)

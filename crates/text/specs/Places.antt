@@ -1,7 +1,7 @@
 -- Where lines, fields and contents stand in the bytes that were lent: the offsets that a walk goes by. Laws of proofs/ tie each to the meaning.
 use mathlib.Core.Bool.{Bool, true, false, _&&_}
 use mathlib.Core.List.{List, [], _∷_}
-use Prim.Native.Nat.{ℕ, suc, _+_, _-_, _≤_}
+use Prim.Native.Nat.{ℕ, suc, _+_, _-_, _≤_, _<_}
 use mathlib.Core.Path.{_≡_}
 use lib.Dec.{eqb, ltb}
 use lib.ListN.{length, getD, take, drop}
@@ -46,6 +46,19 @@ fieldLen q (x ∷ r) = pick (isSep q x) 0 (suc (fieldLen (turned q x) r))
 -- where the field that starts at `at` ends
 abbrev pub fieldEnd : List ℕ → ℕ → ℕ
 fieldEnd t at = at + fieldLen false (drop at t)
+
+-- where the fields of what is left of a line end, where quoting is q and it starts at i
+unfoldable pub endsFrom : Bool → ℕ → List ℕ → List ℕ
+endsFrom q i [] = i ∷ []
+endsFrom q i (x ∷ r) = pick (isSep q x) (i ∷ endsFrom (turned q x) (suc i) r) (endsFrom (turned q x) (suc i) r)
+
+-- where the fields of a line end, from the first
+unfoldable pub fieldEnds : List ℕ → List ℕ
+fieldEnds t = endsFrom false 0 t
+
+-- an array notes where the fields of a line end, as far as it reaches
+pub record Notes (t a : List ℕ) : Type 0 where
+  pub ends : (k : ℕ) → k < length (fieldsOf t) → k < length a → getD a k 0 ≡ getD (fieldEnds t) k 0
 
 -- where field k starts, or the line's end where it has no such field
 unfoldable pub fieldStart : List ℕ → ℕ → ℕ

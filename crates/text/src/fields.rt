@@ -1,10 +1,10 @@
 // A double quote opens or closes quoting; fields are separated by commas outside quotes.
 ghost use mathlib.Core.Path.{_≡_};
-ghost use Prim.Native.Nat.{_≤_};
+ghost use Prim.Native.Nat.{_≤_, _<_};
 ghost use mathlib.Core.List.{[]};
-ghost use lib.ListN.{length, getD};
-ghost use Rattle.meaning.specs.Lines.{identifier, isSep, turned, fieldsOf, hasFields};
-ghost use Rattle.text.specs.Places.{fieldCount, fieldEnd, FieldAt, nextStart, contentStart};
+ghost use lib.ListN.{length, getD, set};
+ghost use Rattle.meaning.specs.Lines.{identifier, isSep, turned, fieldsOf};
+ghost use Rattle.text.specs.Places.{fieldCount, Notes, fieldEnd, FieldAt, nextStart, contentStart};
 
 // Where the identifier ends: at the first comma, or where the line does.
 pub fn identifier_end(line: &[u8]) -> usize
@@ -34,16 +34,30 @@ pub fn turn(quoted: bool, b: u8) -> bool
     if b == 34 { !quoted } else { quoted }
 }
 
-// How many fields a line has; 0 where its quotes are odd.
-pub fn field_count(line: &[u8]) -> usize
-    ensures { λ r. ⌜ r ≡ fieldCount (now (line .entry)) ⌝ }
+// Notes where field k of a line ends, if there is room for it.
+fn note(ends: &mut [usize], k: usize, at: usize)
+    ensures { λ r. ⌜ now (ends .exit) ≡ set (now (ends .entry)) k at ⌝ }
+{
+    if k < ends.len() {
+        ends[k] = at;
+    }
+}
+
+// Notes where the fields of a line end, in one walk, and gives their number; 0 where the quotes are odd.
+pub fn split(line: &[u8], ends: &mut [usize]) -> usize
+    ensures { λ r. ⌜ (r ≡ fieldCount (now (line .entry))) × Notes (now (line .entry)) (now (ends .exit)) × (length (now (ends .exit)) ≡ length (now (ends .entry))) ⌝ }
 {
     let mut quoted = false;
     let mut commas = 0;
     let mut i = 0;
     while i < line.len() {
         let b = line[i];
+        if 44 < b {
+            i += 1; // neither a comma nor a quote
+            continue;
+        }
         if is_sep(quoted, b) {
+            note(&mut *ends, commas, i);
             commas += 1;
             i += 1;
             continue;
@@ -51,21 +65,32 @@ pub fn field_count(line: &[u8]) -> usize
         quoted = turn(quoted, b);
         i += 1;
     }
+    note(&mut *ends, commas, i);
     if quoted {
         return 0;
     }
     commas + 1
 }
 
-// Whether a line has n fields; one with an odd number of quotes has not.
-pub fn has_fields(line: &[u8], n: usize) -> bool
-    ensures { λ r. ⌜ r ≡ hasFields n (now (line .entry)) ⌝ }
+// How many fields a line has; 0 where its quotes are odd.
+pub fn field_count(line: &[u8]) -> usize
+    ensures { λ r. ⌜ r ≡ fieldCount (now (line .entry)) ⌝ }
 {
-    let count = field_count(line);
-    if count == 0 {
-        return false;
+    let mut ends = [0usize; 1];
+    split(line, &mut ends)
+}
+
+// Field k of a line whose fields' ends are noted.
+pub fn noted_field<'a>(line: &'a [u8], ends: &[usize], k: usize) -> &'a [u8]
+    requires { ⌜ Notes (now line) (now ends) × (k < length (fieldsOf (now line))) × (k < length (now ends)) ⌝ }
+    ensures { λ r. ⌜ now r ≡ getD (fieldsOf (now (line .entry))) k [] ⌝ }
+{
+    let end = ends[k];
+    if k == 0 {
+        return &line[0..end];
     }
-    count == n
+    let start = ends[k - 1] + 1;
+    &line[start..end]
 }
 
 // Where the field that starts at `at` ends: at the next separator, or where the line does.
@@ -77,6 +102,10 @@ pub fn field_end(line: &[u8], at: usize) -> usize
     let mut i = at;
     while i < line.len() {
         let b = line[i];
+        if 44 < b {
+            i += 1; // neither a comma nor a quote
+            continue;
+        }
         if is_sep(quoted, b) {
             return i;
         }

@@ -13,11 +13,14 @@ pub fn ends_at(s: &[u8], i: usize) -> bool
     if s.len() <= i {
         return false;
     }
+    if s[i] != 13 {
+        return false;
+    }
     let next = i + 1;
     if s.len() <= next {
         return false;
     }
-    if s[i] == 13 { s[next] == 10 } else { false }
+    s[next] == 10
 }
 
 // Where the line that starts at `at` ends: at the next CR LF, or where the bytes do.
@@ -39,6 +42,9 @@ pub fn line_end(s: &[u8], at: usize) -> usize
 pub fn is_plain_byte(b: u8) -> bool
     ensures { λ r. ⌜ r ≡ plain b ⌝ }
 {
+    if 13 < b {
+        return true;
+    }
     if b == 13 {
         return false;
     }

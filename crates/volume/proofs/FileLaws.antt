@@ -8,7 +8,7 @@ use native.Mathlib.Nat.{zero-add, add-zero, add-assoc}
 use native.Mathlib.Omega.{arith}
 use borrow.Author.Tests.{eq-eqb, ne-eqb}
 use lib.Dec.{eqb}
-use lib.ListN.{length, getD, take, drop}
+use lib.ListN.{length, getD, take, drop, length-take, length-drop}
 use Rattle.base.specs.Lists.{pick, ask}
 use Rattle.theory.specs.Decimal.{value}
 use Rattle.theory.specs.Step.{Op, ins, upd, del}
@@ -34,7 +34,7 @@ use Rattle.volume.specs.Meant.{placeMeant, changeMeant}
 use Rattle.volume.specs.Judged.{opensAt, opensAs, opens, closes, judgedAs}
 use Rattle.volume.specs.Walk.{unwalked, tally, walkedOn, checkedFrom, leftOf, Within}
 use Rattle.volume.specs.Answer.{answerOf}
-use Rattle.volume.proofs.FieldLaws.{lowest}
+use Rattle.layout.proofs.PassLaws.{lowest}
 use Rattle.volume.proofs.WalkLaws.{within-on}
 
 -- ---- a line is judged before its fields, in its fields, and after them
@@ -92,6 +92,10 @@ opened-fields p n true t k q e = kinded (kindOf (identifier t)) e
     kinded : (o : Option Kind) → good k q ≡ opensAs p n t o → hasFields (length (fields k)) t ≡ true
     kinded none e = let z : good k q ≡ bad (2, 1) = e in cc
     kinded (some k′) e = placed k′ (next p (role k′)) e
+
+-- a line is no longer than its file
+pub line-short : (s : List ℕ) (at e : ℕ) → length (take (e - at) (drop at s)) ≤ length s
+line-short s at e = simp (length-take, length-drop) (omega arith)
 
 -- ---- what is told of a line after its fields
 
@@ -212,9 +216,9 @@ module _ (s : List ℕ) (w : Walk) (at e : ℕ) (h : at < length s) (q : e ≡ p
       line-good = line-opened ∙ rw (eq-eqb (o .code) 0 z)
 
       -- it has as many fields as its kind
-      pub read-fields : hasFields (length (fields (kindMeant (o .kind)))) (take (e - at) (drop at s)) ≡ true
+      pub read-fields : true ≡ hasFields (length (fields (kindMeant (o .kind)))) (take (e - at) (drop at s))
       read-fields =
-          opened-fields (placeMeant (w .place)) (w .body) b (take (e - at) (drop at s)) (kindMeant (o .kind)) (placeMeant (o .place)) (rw (eq-eqb (o .code) 0 z) at j)
+          sym (opened-fields (placeMeant (w .place)) (w .body) b (take (e - at) (drop at s)) (kindMeant (o .kind)) (placeMeant (o .place)) (rw (eq-eqb (o .code) 0 z) at j))
 
       -- 5 is the file's fault
       pub read-malformed : (r : Answer) (k n : ℕ) → k + 1 ≡ lowest (kindMeant (o .kind)) (take (e - at) (drop at s)) → n ≡ k + 1 → r ≡ answerOf (six 5 (w .line) n 0 0 0) → r ≡ answerOf (checkFile s)

@@ -1,4 +1,3 @@
 pub mod LineLaws
 pub mod WalkLaws
-pub mod FieldLaws
 pub mod FileLaws

@@ -16,12 +16,13 @@ use Rattle.base.specs.Tests.{and-l, and-r}
 use Rattle.theory.specs.Step.{ins, upd, del}
 use Rattle.theory.specs.Decimal.{value}
 use Rattle.meaning.specs.Forms.{Form, number, atLeast1, decimal, date, time, text, changeType, xrefType, fileType, keyText, isNumber, hasForm, isTextual, isEmpty, isDigit, soundAs}
-use Rattle.meaning.specs.Lines.{identifier, fieldsOf, hasFields}
+use Rattle.meaning.specs.Lines.{identifier, fieldsOf}
 use Rattle.meaning.specs.Table.{Kind, kinds, kindOf, Role, headerLine, bodyLine, metadataLine, trailerLine, role, fields, named, placeFrom, proOrder, recordCount}
 use Rattle.meaning.specs.Records.{letter, opOf}
 use Rattle.meaning.specs.File.{Place, afterTrailer, next, hasRoom, countFault, Judged, bad, good, verdict}
 use Rattle.laws.specs.Kinds.{every}
-use Rattle.text.proofs.FieldLaws.{identifier-part}
+use Rattle.text.specs.Places.{fieldCount}
+use Rattle.text.proofs.FieldLaws.{identifier-part, fields-wrong}
 use Rattle.layout.specs.declared.kinds.Kind.{Kind as Named}
 use Rattle.layout.specs.declared.kinds.KindFound.{KindFound}
 use Rattle.layout.specs.declared.kinds.KindFound.the-variants.{Known, Unknown}
@@ -32,7 +33,7 @@ use Rattle.layout.specs.declared.check.Fault.{Fault as FaultTold}
 use Rattle.layout.specs.Meant.{kindMeant, kindFound, roleMeant, roleNamed}
 use Rattle.layout.specs.Rows.{Row, bare, noRow, rowOf, laidOut}
 use Rattle.layout.specs.Check.{lowestBad, kindDates, told}
-use Rattle.layout.proofs.CheckLaws.{named-at}
+use Rattle.layout.proofs.CheckLaws.{named-at, right-count}
 use Rattle.volume.specs.declared.places.Place.{Place as PlaceNamed}
 use Rattle.volume.specs.declared.places.Place.the-variants.{AfterTrailer}
 use Rattle.volume.specs.declared.places.PlaceFound.{PlaceFound}
@@ -209,16 +210,16 @@ module _ (p : Place) (n : ℕ) (t : List ℕ) (b : Bool) where
         unfolding opensAt ask verdict
         open-full o c f u = refused-is o 8 0 (opens p n b t) c f (rw (known, z, ← role-is (kindMeant kind) l d, sym m ∙ u))
 
-        module _ (w : r ≡ true) (a : Bool) (i : a ≡ hasFields (l .count) t) where
+        module _ (w : r ≡ true) (a : ℕ) (i : a ≡ fieldCount t) where
           -- 4
-          pub open-count : (o : Opened) → o .code ≡ 4 → o .field ≡ 0 → a ≡ false → judgedAs o ≡ opens p n b t
+          pub open-count : (o : Opened) → o .code ≡ 4 → o .field ≡ 0 → (a ≡ l .count → ⊥) → judgedAs o ≡ opens p n b t
           unfolding opensAt ask verdict
-          open-count o c f u = refused-is o 3 0 (opens p n b t) c f (rw (known, z, ← role-is (kindMeant kind) l d, sym m ∙ w, ← count-is (kindMeant kind) l d, sym i ∙ u))
+          open-count o c f u = refused-is o 3 0 (opens p n b t) c f (rw (known, z, ← role-is (kindMeant kind) l d, sym m ∙ w, ← count-is (kindMeant kind) l d, ← fields-wrong t (l .count) a i u))
 
           -- else its fields are to be judged
-          pub open-good : a ≡ true → good (kindMeant kind) (placeMeant q) ≡ opens p n b t
+          pub open-good : a ≡ l .count → good (kindMeant kind) (placeMeant q) ≡ opens p n b t
           unfolding opensAt ask verdict
-          open-good u = rw (known, z, ← role-is (kindMeant kind) l d, sym m ∙ w, ← count-is (kindMeant kind) l d, sym i ∙ u)
+          open-good u = rw (known, z, ← role-is (kindMeant kind) l d, sym m ∙ w, ← right-count (kindMeant kind) t l d a i u)
 
 pub ruleset opening = (needs, not-true, not-false, open-unended, open-unknown, open-nowhere, open-full, open-count, open-good)
 

@@ -12,7 +12,7 @@ use crate::walk::Walk;
 use crate::walk::after_line;
 use layout::check::sound_at;
 use layout::rules::layout;
-use text::fields::field_end;
+use text::fields::split;
 use text::lines::ends_at;
 use text::lines::plain_end;
 
@@ -64,13 +64,15 @@ fn ended(walk: Walk) -> Answer
 pub fn check_file(file: &[u8]) -> Answer
     ensures { λ r. ⌜ r ≡ answerOf (checkFile (now (file .entry))) ⌝ }
 {
+    let mut ends = [0usize; 32];
     let mut walk = Walk::at_start();
     let mut at = 0;
     let mut bad = 0;
     'lines: while at < file.len() {
         let end = plain_end(file, at);
         let text = &file[at..end];
-        let opened = open_line(walk, text, ends_at(file, end));
+        let fields = split(text, &mut ends);
+        let opened = open_line(walk, text, fields, ends_at(file, end));
         if opened.code != 0 {
             return refused(opened.code, walk.line, opened.field);
         }
@@ -79,7 +81,7 @@ pub fn check_file(file: &[u8]) -> Answer
         let mut k = 0;
         let mut start = 0;
         while k < count {
-            let stop = field_end(text, start);
+            let stop = ends[k];
             if !sound_at(kind, k, &text[start..stop]) {
                 bad = k + 1;
                 break 'lines;
@@ -87,7 +89,7 @@ pub fn check_file(file: &[u8]) -> Answer
             start = stop + 1;
             k += 1;
         }
-        let closed = close_line(kind, walk.body, text);
+        let closed = close_line(kind, walk.body, text, &ends);
         if closed.code != 0 {
             return refused(closed.code, walk.line, closed.field);
         }

@@ -12,7 +12,8 @@ ghost use Rattle.meaning.specs.Records.{opOf};
 ghost use Rattle.meaning.specs.File.{hasRoom};
 ghost use Rattle.layout.specs.Meant.{kindMeant, roleMeant};
 ghost use Rattle.layout.specs.Rows.{bare};
-ghost use Rattle.layout.specs.Check.{lowestBad, told};
+ghost use Rattle.text.specs.Places.{fieldCount};
+ghost use Rattle.layout.specs.Check.{lowestBad, Parted, told};
 ghost use Rattle.volume.specs.Meant.{placeMeant, changeMeant};
 ghost use Rattle.volume.specs.Judged.{opens, closes, judgedAs};
 use crate::places::Place;
@@ -28,7 +29,6 @@ use layout::kinds::Role;
 use layout::limits::File;
 use layout::rules::layout;
 use text::fields::field;
-use text::fields::has_fields;
 use text::order::is_same;
 
 // PRO_ORDER of every body line, and RECORD_COUNT of the trailer: both are field 3.
@@ -79,8 +79,9 @@ fn refusal(code: u64, field: usize, place: Place) -> Opened
     }
 }
 
-// A line before its fields: 1, 2, 3, 9, 4, or its kind and the place after it.
-pub fn open_line(walk: Walk, text: &[u8], ended: bool) -> Opened
+// A line before its fields, which are counted: 1, 2, 3, 9, 4, or its kind and the place after it.
+pub fn open_line(walk: Walk, text: &[u8], fields: usize, ended: bool) -> Opened
+    requires { ⌜ fields ≡ fieldCount (now text) ⌝ }
     ensures { λ r. ⌜ judgedAs r ≡ opens (placeMeant (walk .place)) (walk .body) ended (now (text .entry)) ⌝ }
 {
     let place = walk.place;
@@ -99,7 +100,7 @@ pub fn open_line(walk: Walk, text: &[u8], ended: bool) -> Opened
     if !has_room(role, walk.body) {
         return refusal(9, 0, place);
     }
-    if !has_fields(text, count) {
+    if fields != count {
         return refusal(4, 0, place);
     }
     Opened {
@@ -132,14 +133,14 @@ fn number_fault(right: bool, code: u64) -> Fault
 }
 
 // A line after its fields, which are sound: 6, then 7 or 8.
-pub fn close_line(kind: Kind, body: usize, text: &[u8]) -> Fault
-    requires { ⌜ (0 ≡ lowestBad 1 (map bare (fields (kindMeant kind))) (fieldsOf (now text))) × (body < 2 ^ 63) ⌝ }
+pub fn close_line(kind: Kind, body: usize, text: &[u8], ends: &[usize]) -> Fault
+    requires { ⌜ Parted (kindMeant kind) (now text) (now ends) × (0 ≡ lowestBad 1 (map bare (fields (kindMeant kind))) (fieldsOf (now text))) × (body < 2 ^ 63) ⌝ }
     ensures { λ r. ⌜ r ≡ told (closes body (kindMeant kind) (now (text .entry))) ⌝ }
 {
     let l = layout(kind);
     let role = l.role;
     let end = l.end;
-    if !dates_agree(kind, text) {
+    if !dates_agree(kind, text, ends) {
         return Fault {
             code: 6,
             field: end,

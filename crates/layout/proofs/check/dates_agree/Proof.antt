@@ -10,10 +10,10 @@ dates-agree-spec =
     (λ c κs. search kinddates)  -- layout-requires
     (λ c. search kinddates)  -- returns
     (λ c. search kinddates)  -- returns-2
-    (λ c. search kinddates)  -- sub-field
-    (λ c κs. search kinddates)  -- field-requires
+    (λ c. search kinddates)  -- sub-noted-field
+    (λ c κs. search kinddates)  -- noted-field-requires
     (λ c. search kinddates)  -- returns-3
-    (λ c. search kinddates)  -- sub-field-2
-    (λ c κs. search kinddates)  -- field-requires-2
+    (λ c. search kinddates)  -- sub-noted-field-2
+    (λ c κs. search kinddates)  -- noted-field-requires-2
     (λ c κs. search kinddates)  -- in-order-requires
     (λ c. search kinddates))  -- returns-4

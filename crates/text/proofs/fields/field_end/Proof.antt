@@ -1,5 +1,6 @@
 -- `text::fields::field_end` meets its contract.
-use Rattle.text.proofs.FieldLaws.{ending, endAt}
+use Rattle.text.proofs.FieldLaws.{ending}
+use Rattle.text.proofs.FieldLaws.{endAt}
 use mathlib.Core.Path.{_≡_}
 use Prim.Native.Nat.{_-_, _≤_}
 use lib.ListN.{length}
@@ -15,10 +16,13 @@ field-end-spec =
     (λ line at quoted₀ i₀ quoted i. length line - i)
     (λ c. search ending)  -- loop-holds
     (λ c. search ending)  -- shared-slice-read-b
-    (λ c κs. search ending)  -- is-sep-requires
-    (λ c. search ending)  -- returns
-    (λ c κs. search ending)  -- turn-requires
     (λ c. search ending)  -- add-i
     (λ c. search ending)  -- loop-less
     (λ c. search ending)  -- loop-again
+    (λ c κs. search ending)  -- is-sep-requires
+    (λ c. search ending)  -- returns
+    (λ c κs. search ending)  -- turn-requires
+    (λ c. search ending)  -- add-i-2
+    (λ c. search ending)  -- loop-less-2
+    (λ c. search ending)  -- loop-again-2
     (λ c. search ending))  -- returns-2

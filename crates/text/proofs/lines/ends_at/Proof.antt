@@ -8,9 +8,9 @@ ends-at-spec =
     tie.close
     (tie.spec
     (λ c. search ends)  -- returns
-    (λ c. search ends)  -- add-next
+    (λ c. search ends)  -- shared-slice-read-if2
     (λ c. search ends)  -- returns-2
-    (λ c. search ends)  -- shared-slice-read-if3
-    (λ c. search ends)  -- shared-slice-read-result
+    (λ c. search ends)  -- add-next
     (λ c. search ends)  -- returns-3
+    (λ c. search ends)  -- shared-slice-read-result
     (λ c. search ends))  -- returns-4

@@ -23,7 +23,6 @@ open-line-spec =
     (λ c κs. search opening)  -- has-room-requires
     (λ c κs. search opening)  -- refusal-requires-4
     (λ c. search opening)  -- returns-4
-    (λ c κs. search opening)  -- has-fields-requires
     (λ c κs. search opening)  -- refusal-requires-5
     (λ c. search opening)  -- returns-5
     (λ c. search opening))  -- returns-6
