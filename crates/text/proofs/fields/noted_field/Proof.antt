@@ -19,7 +19,7 @@ noted-field-spec =
     (λ c. search needs)  -- mul-start
     (λ c. search needs)  -- shared-slice-read-start
     (λ c. let q = c .before .before .before in let p = q .pre in let s = noted-later _ _ (p .0) _ (c .before .if1 .left) (p .1) (p .2) in let w = s .within in let f = s .forward in search needs)  -- add-start
-    (λ c. let q = c .before .before .before in let p = q .pre in let s = noted-later _ _ (p .0) _ (c .before .if1 .left) (p .1) (p .2) in s .forward)  -- sub-result-2
+    (λ c. let q = c .before .before .before in let p = q .pre in let s = noted-later _ _ (p .0) _ (c .before .if1 .left) (p .1) (p .2) in let f = s .forward in search needs)  -- sub-result-2
     (λ c. let q = c .before .before .before in let p = q .pre in let s = noted-later _ _ (p .0) _ (c .before .if1 .left) (p .1) (p .2) in let w = s .within in let f = s .forward in search needs)  -- part-result-start-2
     (λ c. let q = c .before .before .before in let p = q .pre in let s = noted-later _ _ (p .0) _ (c .before .if1 .left) (p .1) (p .2) in let w = s .within in let f = s .forward in search needs)  -- part-result-end-2
     (λ c. let q = c .before .before .before .before in let p = q .pre in let s = noted-later _ _ (p .0) _ (c .before .before .if1 .left) (p .1) (p .2) in s .bytes))  -- returns-2
