@@ -213,9 +213,9 @@ module _ (s : RefT (List ℕ)) (a : List ℕ) (r : Held) (kind n : ℕ) (w : Enq
   pub held-asc : Asc numbered (says (s .now) (s .now) a (r .count))
   held-asc = rw (w .read .listed (w .sound) .says (s .now)) (asc-numbered st (state .fines) (state .asc))
 
-  module _ (l : ℕ) (g : l ≡ lineFound (kind ∷ n ∷ 0 ∷ 0 ∷ []) (says (s .now) (s .now) a (r .count))) where
+  module _ (k : List ℕ) (y : k ≡ kind ∷ n ∷ 0 ∷ 0 ∷ []) (l : ℕ) (g : l ≡ lineFound k (says (s .now) (s .now) a (r .count))) where
     here : l ≡ lineFound (kind ∷ n ∷ 0 ∷ 0 ∷ []) st
-    here = g ∙ ap (lineFound (kind ∷ n ∷ 0 ∷ 0 ∷ [])) (w .read .listed (w .sound) .says (s .now))
+    here = g ∙ ap (lineFound k) (w .read .listed (w .sound) .says (s .now)) ∙ ap (λ j. lineFound j st) y
 
     -- the key's place among them
     place : heldAt (kind ∷ n ∷ []) 0 st ≡ pick (eqb l 0) none (some (l - 1))

@@ -226,7 +226,7 @@ module _ (s t p : RefT (List ℕ)) (kind n : ℕ) (x : List ℕ) where
           go (fault m l y) q = unfold checked inForceFile in rw q
           go (file y) q = absurd (unfold checked in z (ap (λ y. y .code) q))
 
-      module _ (z : c .code ≡ 0) (o : Naming) (g : o ≡ lastNamed (kind ∷ n ∷ 0 ∷ 0 ∷ []) 1 (linesOf (t .now)) Unnamed) where
+      module _ (z : c .code ≡ 0) (k : List ℕ) (y : k ≡ kind ∷ n ∷ 0 ∷ 0 ∷ []) (o : Naming) (g : o ≡ lastNamed k 1 (linesOf (t .now)) Unnamed) where
         -- the answer is what the file's lines say
         on-lines : inForce (s .now) (t .now) kind n ≡ handedBy (s .now) (t .now) (kind ∷ n ∷ []) (recordsOf (readHolding (s .now))) o
         unfolding inForceFile
@@ -234,7 +234,7 @@ module _ (s t p : RefT (List ℕ)) (kind n : ℕ) (x : List ℕ) where
             let f = checked-file (t .now) (sym (ap (λ y. y .code) d) ∙ z) in
             on-file ∙ rw (sound-read (t .now) (f .frame) (f .changes) (f .sounds))
             (handed-by (s .now) (t .now) (kind ∷ n ∷ []) (recordsOf (readHolding (s .now))) (lastNaming (kind ∷ n ∷ []) 1 (f .changes) none)
-            ∙ ap (handedBy (s .now) (t .now) (kind ∷ n ∷ []) (recordsOf (readHolding (s .now)))) (sym (g ∙ file-names kind n known (t .now) (f .frame) (f .changes) (f .sounds))))
+            ∙ ap (handedBy (s .now) (t .now) (kind ∷ n ∷ []) (recordsOf (readHolding (s .now)))) (sym (g ∙ ap (λ j. lastNamed j 1 (linesOf (t .now)) Unnamed) y ∙ file-names kind n known (t .now) (f .frame) (f .changes) (f .sounds))))
 
         -- where none names the key, the held line
         pub force-held : o ≡ Unnamed → Handed (heldPart (s .now) (heldAt (kind ∷ n ∷ []) 0 (recordsOf (readHolding (s .now))))) s p x → HandedOf (inForce (s .now) (t .now) kind n) s t p x

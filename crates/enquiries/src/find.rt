@@ -33,6 +33,18 @@ pub fn is_enquired(kind: u64) -> bool
     kind == Blpu::LAYOUT.number
 }
 
+// The key of the record of that kind and number, where the key is one number.
+pub fn asked_key(kind: u64, number: u64) -> Key
+    ensures { λ r. ⌜ keyList r ≡ kind ∷ number ∷ 0 ∷ 0 ∷ [] ⌝ }
+{
+    Key {
+        kind,
+        first: number,
+        second: 0,
+        third: 0,
+    }
+}
+
 // The line of the record with that key, counted from 1, or 0.
 pub fn line_of(holding: &[u8], starts: &[u64], count: usize, key: Key) -> usize
     requires { ⌜ (count ≤ length (now starts)) × (count ≤ 8192) × Asc numbered (says (now holding) (now holding) (now starts) count) ⌝ }
@@ -57,13 +69,7 @@ pub fn held_line<'a>(
     requires { ⌜ Enquired (now holding) (now starts) held kind ⌝ }
     ensures { λ r. ⌜ Handed (heldPart (now (holding .entry)) (heldAt (kind ∷ number ∷ []) 0 (recordsOf (readHolding (now (holding .entry)))))) (holding .entry) r (now (answer .exit)) ⌝ }
 {
-    let key = Key {
-        kind,
-        first: number,
-        second: 0,
-        third: 0,
-    };
-    let n = line_of(holding, starts, held.count, key);
+    let n = line_of(holding, starts, held.count, asked_key(kind, number));
     if n == 0 {
         return refuse(holding, 11, 0, 0, &mut *answer);
     }

@@ -1,6 +1,7 @@
 // The record in force if a file were taken: a part of the file or of the holding. Steps are not judged.
 ghost use Rattle.meaning.specs.Enquiries.{inForce};
 ghost use Rattle.enquiries.specs.Handed.{HandedOf};
+use crate::find::asked_key;
 use crate::find::held_line;
 use crate::find::is_enquired;
 use crate::hand::hand_line;
@@ -8,7 +9,6 @@ use crate::hand::refuse;
 use crate::naming::Naming;
 use crate::naming::last_naming;
 use holding::read::read_holding;
-use keys::Key;
 use volume::check::check_file;
 
 // The last body line of that kind and number, or the held line where none names it: 15, then 14, then the file check, then 11.
@@ -39,13 +39,7 @@ pub fn in_force<'a>(
             &mut *answer,
         );
     }
-    let key = Key {
-        kind,
-        first: number,
-        second: 0,
-        third: 0,
-    };
-    match last_naming(file, key) {
+    match last_naming(file, asked_key(kind, number)) {
         Naming::Unnamed => held_line(holding, &starts, held, kind, number, &mut *answer),
         Naming::Deleted => refuse(holding, 11, 0, 0, &mut *answer),
         Naming::Named(line) => hand_line(file, line, &mut *answer),

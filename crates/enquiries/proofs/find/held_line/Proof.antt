@@ -7,6 +7,7 @@ pub held-line-spec : {M : Type 1} → statement M
 held-line-spec =
     tie.close
     (tie.spec
+    (λ c κs. search held)  -- asked-key-requires
     (λ c κs. search held)  -- line-of-requires
     (λ c κs. search held)  -- refuse-requires
     (λ c. search held)  -- returns

@@ -20,10 +20,11 @@ in-force-spec =
     (λ c κs. search force)  -- check-file-requires
     (λ c κs. search force)  -- refuse-requires-3
     (λ c. search force)  -- returns-3
+    (λ c κs. search force)  -- asked-key-requires
     (λ c κs. search force)  -- last-naming-requires
     (λ c. search force)  -- enum-told
     (λ c. search force)  -- slice-aggregate-held-line
-    (λ c κs. let d = c .before .before .before .before .before .before .before .before in let r = d .before .before .before in let i = r .before .before in enquired _ _ _ _ _ (i .before .is-enquired .ensures) (not-false _ (i .if1 .left)) (r .read-holding .ensures) (d .if2 .left) (search needs))  -- held-line-requires
+    (λ c κs. let d = c .before .before .before .before .before .before .before .before .before in let r = d .before .before .before in let i = r .before .before in enquired _ _ _ _ _ (i .before .is-enquired .ensures) (not-false _ (i .if1 .left)) (r .read-holding .ensures) (d .if2 .left) (search needs))  -- held-line-requires
     (λ c. search force)  -- enum-told-2
     (λ c κs. search force)  -- refuse-requires-4
     (λ c. search force)  -- enum-known-line
