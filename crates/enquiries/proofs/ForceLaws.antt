@@ -51,6 +51,11 @@ use Rattle.enquiries.proofs.FindLaws.{Asked, asked-is, asked-agrees, sa
 role-known : (o : Role) (t : List ℕ) (r : RoleLine o t) → recOf t ≡ record { kind = r .kind; content = contentOf t }
 role-known o t r = rec-known t (r .kind) (ap kindOf (r .sounds .identified) ∙ kind-in (r .kind))
 
+-- the record of a body line is its change's
+pub body-rec : (i : ℕ) (t : List ℕ) (c : Change Rec) → SaysChange i t c → recOf t ≡ c .rec
+unfolding changeOf
+body-rec i t c s = role-known bodyLine t (s .line) ∙ ap (λ x. x .rec) (s .says)
+
 -- the key that is asked for, as numbers
 abbrev sought : ℕ → ℕ → List ℕ
 sought kind n = kind ∷ n ∷ 0 ∷ 0 ∷ []
@@ -77,14 +82,11 @@ module _ (kind n : ℕ) (k : Asked kind) where
   unfolding namedBy changeOf laterOf namingOf saidBy
   said-by i t c s f o = rw (names, op) (go (same (kind ∷ n ∷ []) (keyOf (c .rec))) (c .op))
     where
-      rec : recOf t ≡ c .rec
-      rec = role-known bodyLine t (s .line) ∙ ap (λ x. x .rec) (s .says)
-
       op : opOf (getD (fieldsOf t) 1 []) ≡ c .op
       op = ap (λ x. x .op) (s .says)
 
       names : isEq (lex (sought kind n) (keyNumbers (recOf t))) ≡ same (kind ∷ n ∷ []) (keyOf (c .rec))
-      names = ap (λ x. isEq (lex (sought kind n) (keyNumbers x))) rec ∙ ap isEq (asked-agrees kind n k (c .rec) f) ∙ same-lex (kind ∷ n ∷ []) (keyOf (c .rec))
+      names = ap (λ x. isEq (lex (sought kind n) (keyNumbers x))) (body-rec i t c s) ∙ ap isEq (asked-agrees kind n k (c .rec) f) ∙ same-lex (kind ∷ n ∷ []) (keyOf (c .rec))
 
       go : (b : Bool) (p : Op) → laterOf (namingOf o) (pick b (saidBy (suc i) p) Unnamed) ≡ namingOf (pick b (some (i, p)) o)
       go true ins = refl

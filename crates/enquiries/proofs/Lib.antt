@@ -4,3 +4,4 @@ pub mod FieldPartLaws
 pub mod FindLaws
 pub mod NamingLaws
 pub mod ForceLaws
+pub mod TakenLaws
