@@ -80,7 +80,7 @@ no-lt e = let z : _≡_ {A = ℕ} 0 1 = cc in omega arith
 no-gt : gt ≡ eq → ⊥
 no-gt e = let z : _≡_ {A = ℕ} 0 1 = cc in omega arith
 
--- those that are, are
+-- they are compared as equal just where they are the same
 pub same-lex : (a b : List ℕ) → isEq (lex a b) ≡ same a b
 same-lex a b = go (lex a b) refl
   where
@@ -140,7 +140,7 @@ asked-is kind e = go (eqb kind (value (ident street))) refl (eqb kind (value (id
     go false p true q t = record { named = blpu; known = rw (p, q); number = eqb→eq kind (value (ident blpu)) (rw q tt); numbers = unfold numbersIn keyNames fields ownFields formNamed narrow in tt; single = unfold keyNames in refl; body = unfold role in refl }
     go false p false q t = let z : _≡_ {A = Bool} false true = t in absurd (let y : _≡_ {A = ℕ} 0 1 = cc in omega arith)
 
--- and its key is compared as its number is
+-- the number that is asked for is compared as the key is
 pub asked-agrees : (kind n : ℕ) → Asked kind → Agree (kind ∷ n ∷ 0 ∷ 0 ∷ []) (kind ∷ n ∷ [])
 unfolding padded zeros
 asked-agrees kind n k = rw (k .number) (number-agrees (k .named) n (k .numbers) (k .single))
