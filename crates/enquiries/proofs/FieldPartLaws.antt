@@ -87,9 +87,9 @@ in-line at t f = go (oddQuotes t)
 
 module _ (b p : RefT (List ℕ)) (l f : ℕ) (r : Span) (w : LineIs (b .now) l r) where
   -- no such line
-  pub handed-no-line : r .known ≡ false → StandsIn p b 0 (0 - 0) → Handed (fieldOf (b .now) l f) b p (19 ∷ 0 ∷ 0 ∷ [])
-  unfolding fieldOf refusal
-  handed-no-line k s = rw (sym (w .exists) ∙ k) (record { numbers = refl; part = s })
+  pub handed-no-line : (x : List ℕ) → r .known ≡ false → Handed (refusal 19 0 0) b p x → Handed (fieldOf (b .now) l f) b p x
+  unfolding fieldOf
+  handed-no-line x k s = rw (sym (w .exists) ∙ k) s
 
   module _ (k : r .known ≡ true) (q : Span) (v : FieldIs (take (r .end - r .start) (drop (r .start) (b .now))) f q) where
     -- the line is there
@@ -98,9 +98,8 @@ module _ (b p : RefT (List ℕ)) (l f : ℕ) (r : Span) (w : LineIs (b .now) l r
     in-bytes = rw (sym (w .exists) ∙ k, ← (w .starts k), ← (w .text k))
 
     -- no such field
-    pub handed-no-field : q .known ≡ false → StandsIn p b 0 (0 - 0) → Handed (fieldOf (b .now) l f) b p (19 ∷ 0 ∷ 0 ∷ [])
-    unfolding refusal
-    handed-no-field m s = rw (in-bytes, in-line (r .start) (take (r .end - r .start) (drop (r .start) (b .now))) f, sym (v .exists) ∙ m) (record { numbers = refl; part = s })
+    pub handed-no-field : (x : List ℕ) → q .known ≡ false → Handed (refusal 19 0 0) b p x → Handed (fieldOf (b .now) l f) b p x
+    handed-no-field x m s = rw (in-bytes, in-line (r .start) (take (r .end - r .start) (drop (r .start) (b .now))) f, sym (v .exists) ∙ m) s
 
     -- the field, where it stands
     pub handed-field : q .known ≡ true → StandsIn p b (r .start + q .start) (r .start + q .end - (r .start + q .start)) → Handed (fieldOf (b .now) l f) b p (0 ∷ 0 ∷ 0 ∷ [])

@@ -1,31 +1,31 @@
 -- The laws of find: where a key stands among the records of a sound holding.
 use mathlib.Core.Path.{_≡_, refl, sym, ap, _∙_, subst}
-use mathlib.Core.Bool.{Bool, true, false, not, _&&_}
+use mathlib.Core.Bool.{Bool, true, false}
 use mathlib.Core.Option.{Option, none, some}
 use mathlib.Core.List.{List, [], _∷_}
-use Prim.Native.Nat.{ℕ, zero, suc, _+_, _-_, _≤_, _<_}
+use Prim.Native.Nat.{ℕ, suc, _+_, _-_, _≤_, _<_}
 use native.Mathlib.Nat.{add-zero}
 use native.Mathlib.Numerals.{add-one}
 use native.Mathlib.Omega.{arith}
 use borrow.Author.Needs.{needs}
-use borrow.Author.Tests.{not-true, not-false, eq-eqb, ne-eqb, le-leb}
+use borrow.Author.Tests.{not-true, not-false, eq-eqb, ne-eqb}
 use denote.Ref.{RefT, now}
-use lib.Dec.{T, eqb, leb, eqb→eq}
-use lib.ListN.{length, getD, take, drop, length-take, length-drop}
+use lib.Dec.{T, eqb, eqb→eq}
+use lib.ListN.{length}
 use Rattle.base.specs.Lists.{pick, all, same, some?, bytes}
-use Rattle.base.specs.Tests.{and-l, and-r, T-true}
+use Rattle.base.specs.Tests.{T-true}
 use Rattle.base.specs.ListLaws.{same-eq, same-refl}
-use Rattle.theory.specs.Tri.{Tri, lt, eq, gt}
+use Rattle.theory.specs.Tri.{Tri, lt, eq, gt, isEq}
 use Rattle.theory.specs.Lex.{lex}
 use Rattle.theory.specs.LexLaws.{lex-order}
 use Rattle.theory.specs.Decimal.{value, valueF}
 use Rattle.theory.specs.Store.{get, gets, Low, Asc}
-use Rattle.theory.specs.StoreLaws.{low-down, get-low}
+use Rattle.theory.specs.StoreLaws.{low-down}
 use Rattle.theory.specs.Place.{rank, ranks}
-use Rattle.meaning.specs.Lines.{Line, linesOf}
-use Rattle.meaning.specs.Table.{Kind, street, blpu, ident, fields, keyNames, formNamed, enquiries, numberedAmong}
+use Rattle.meaning.specs.Lines.{linesOf}
+use Rattle.meaning.specs.Table.{Kind, bodyLine, role, street, blpu, ident, fields, keyNames, formNamed, enquiries, numberedAmong}
 use Rattle.meaning.specs.Records.{Rec, ownFields, keyOf, keyed, changeTexts}
-use Rattle.meaning.specs.Enquiries.{refusal, partOf, heldAt, heldPart, findIn, findKind, find}
+use Rattle.meaning.specs.Enquiries.{first, refusal, partOf, heldAt, heldPart, findIn, findKind, find}
 use Rattle.meaning.specs.Holding as meaning
 use Rattle.meaning.specs.Holding.{sound, unsound, readHolding}
 use Rattle.keys.specs.Numbers.{keyNumbers, numbered}
@@ -35,19 +35,16 @@ use Rattle.theory.specs.Format.{Sound}
 use Rattle.theory.specs.Run.{inserts}
 use Rattle.laws.specs.LinesAndFields.{endsAll}
 use Rattle.laws.specs.SoundHolding.{held-is-sound}
-use Rattle.enquiries.proofs.LineSeekLaws.{noLine}
 use Rattle.laws.specs.Body.{fine}
 use Rattle.laws.specs.HoldingReadBack.{always, holding, heldRecords}
 use Rattle.holding.specs.declared.read.Held.{Held}
-use Rattle.holding.specs.Read.{faultOf, recordsOf, Listed, HeldIs}
+use Rattle.holding.specs.Read.{faultOf, recordsOf, HeldIs}
 use Rattle.holding.proofs.ReadLaws.{held-sound}
 use Rattle.places.specs.Places.{says}
-use Rattle.text.specs.Parts.{StandsIn}
 use Rattle.base.specs.Lists.{zeros}
 use Rattle.layout.specs.Rows.{padded}
-use Rattle.enquiries.specs.declared.lines.Span.{Span}
-use Rattle.enquiries.specs.Handed.{Handed, LineIs}
-use Rattle.enquiries.specs.Found.{lineFound}
+use Rattle.enquiries.specs.Handed.{Handed}
+use Rattle.enquiries.specs.Found.{lineFound, Enquired}
 
 -- ---- the kinds that can be asked for
 
@@ -82,6 +79,15 @@ no-lt e = let z : _≡_ {A = ℕ} 0 1 = cc in omega arith
 
 no-gt : gt ≡ eq → ⊥
 no-gt e = let z : _≡_ {A = ℕ} 0 1 = cc in omega arith
+
+-- they are compared as equal just where they are the same
+pub same-lex : (a b : List ℕ) → isEq (lex a b) ≡ same a b
+same-lex a b = go (lex a b) refl
+  where
+    go : (c : Tri) → lex a b ≡ c → isEq c ≡ same a b
+    go lt e = sym (apart-same a b lt e no-lt)
+    go eq e = sym (T-true (same a b) (subst (λ x. T (same a x)) (lex-order .equal a b e) (same-refl a)))
+    go gt e = sym (apart-same a b gt e no-gt)
 
 -- a key before all records is that of none
 held-low : (q : List ℕ) (i : ℕ) (st : List Rec) → Low keyed q st → Asc keyed st → heldAt q i st ≡ none
@@ -122,16 +128,38 @@ pub record Asked (kind : ℕ) : Type 0 where
   pub number : kind ≡ value (ident named)
   pub numbers : T (numbersIn named (keyNames named))
   pub single : length (keyNames named) ≡ 1
+  pub body : role named ≡ bodyLine
 
 -- every kind that an enquiry may name is such a one
-asked-is : (kind : ℕ) → some? (numberedAmong enquiries kind) ≡ true → Asked kind
+pub asked-is : (kind : ℕ) → some? (numberedAmong enquiries kind) ≡ true → Asked kind
 unfolding numberedAmong enquiries
 asked-is kind e = go (eqb kind (value (ident street))) refl (eqb kind (value (ident blpu))) refl e
   where
     go : (a : Bool) → eqb kind (value (ident street)) ≡ a → (b : Bool) → eqb kind (value (ident blpu)) ≡ b → some? (pick a (some street) (pick b (some blpu) none)) ≡ true → Asked kind
-    go true p b q t = record { named = street; known = rw p; number = eqb→eq kind (value (ident street)) (rw p tt); numbers = unfold numbersIn keyNames fields ownFields formNamed narrow in tt; single = unfold keyNames in refl }
-    go false p true q t = record { named = blpu; known = rw (p, q); number = eqb→eq kind (value (ident blpu)) (rw q tt); numbers = unfold numbersIn keyNames fields ownFields formNamed narrow in tt; single = unfold keyNames in refl }
+    go true p b q t = record { named = street; known = rw p; number = eqb→eq kind (value (ident street)) (rw p tt); numbers = unfold numbersIn keyNames fields ownFields formNamed narrow in tt; single = unfold keyNames in refl; body = unfold role in refl }
+    go false p true q t = record { named = blpu; known = rw (p, q); number = eqb→eq kind (value (ident blpu)) (rw q tt); numbers = unfold numbersIn keyNames fields ownFields formNamed narrow in tt; single = unfold keyNames in refl; body = unfold role in refl }
     go false p false q t = let z : _≡_ {A = Bool} false true = t in absurd (let y : _≡_ {A = ℕ} 0 1 = cc in omega arith)
+
+-- the number that is asked for is compared as the key is
+pub asked-agrees : (kind n : ℕ) → Asked kind → Agree (kind ∷ n ∷ 0 ∷ 0 ∷ []) (kind ∷ n ∷ [])
+unfolding padded zeros
+asked-agrees kind n k = rw (k .number) (number-agrees (k .named) n (k .numbers) (k .single))
+
+-- no other kind can be asked for
+pub no-kind : (kind : ℕ) (b : Bool) → b ≡ some? (numberedAmong enquiries kind) → b ≡ false → numberedAmong enquiries kind ≡ none
+no-kind kind b e f = go (numberedAmong enquiries kind) (sym e ∙ f)
+  where
+    go : (o : Option Kind) → some? o ≡ false → o ≡ none
+    go none z = refl
+    go (some k) z = let y : _≡_ {A = Bool} true false = z in absurd (let x : _≡_ {A = ℕ} 0 1 = cc in omega arith)
+
+-- a fault that was read is that of an unsound holding
+pub unsounds : (h : List ℕ) (r : Held) (a : List ℕ) → HeldIs h r a → (r .line ≡ 0 → ⊥) → readHolding h ≡ unsound (r .line)
+unsounds h r a w z = go (readHolding h) (w .line)
+  where
+    go : (u : meaning.Held) → r .line ≡ faultOf u → u ≡ unsound (r .line)
+    go (sound st) q = absurd (unfold faultOf in z q)
+    go (unsound m) q = ap unsound (sym (unfold faultOf in q))
 
 -- a key that stands has fewer records before it than there are
 rank-in : (k : List ℕ) (st : List Rec) → some? (get numbered k st) ≡ true → rank numbered k st < length st
@@ -159,78 +187,81 @@ unfolding changeTexts
 count-lines n [] = refl
 count-lines n (r ∷ rs) = ap suc (count-lines (suc n) rs)
 
--- ---- the answer
+-- ---- the held line
 
-module _ (s p : RefT (List ℕ)) (kind n : ℕ) (b : Bool) (e : b ≡ some? (numberedAmong enquiries kind)) where
+module _ (s : RefT (List ℕ)) (a : List ℕ) (r : Held) (kind n : ℕ) (w : Enquired (s .now) a r kind) where
+  -- the holding's records
+  abbrev st : List Rec
+  st = recordsOf (readHolding (s .now))
+
+  sounds : readHolding (s .now) ≡ sound st
+  sounds = held-sound (s .now) (sym (w .read .line) ∙ w .sound)
+
+  state : Sound keyed fine always st
+  unfolding heldRecords
+  state = holding .holds (s .now) st (ap heldRecords sounds) .1
+
+  -- they are few
+  pub held-few : r .count ≤ 8192
+  held-few = w .read .listed (w .sound) .few
+
+  -- the array has them all
+  pub held-space : r .count ≤ length a
+  held-space = omega (arith, held-few, w .space)
+
+  -- the state that it says is in order by numbers
+  pub held-asc : Asc numbered (says (s .now) (s .now) a (r .count))
+  held-asc = rw (w .read .listed (w .sound) .says (s .now)) (asc-numbered st (state .fines) (state .asc))
+
+  module _ (k : List ℕ) (y : k ≡ kind ∷ n ∷ 0 ∷ 0 ∷ []) (l : ℕ) (g : l ≡ lineFound k (says (s .now) (s .now) a (r .count))) where
+    here : l ≡ lineFound (kind ∷ n ∷ 0 ∷ 0 ∷ []) st
+    here = g ∙ ap (lineFound k) (w .read .listed (w .sound) .says (s .now)) ∙ ap (λ j. lineFound j st) y
+
+    -- the key's place among them
+    place : heldAt (kind ∷ n ∷ []) 0 st ≡ pick (eqb l 0) none (some (l - 1))
+    place = held-line (kind ∷ n ∷ 0 ∷ 0 ∷ []) (kind ∷ n ∷ []) st (state .fines) (state .asc) (asked-agrees kind n (asked-is kind (w .asked))) ∙ ap (λ (x : ℕ). pick (eqb x 0) none (some (x - 1))) (sym here)
+
+    -- its line is one of the holding's
+    pub held-in : (l ≡ 0 → ⊥) → l ≤ length (linesOf (s .now))
+    held-in u = omega (arith, here, line-in (kind ∷ n ∷ 0 ∷ 0 ∷ []) st (λ v. u (here ∙ v)), ap length (held-is-sound (s .now) st sounds .lines), count-lines 1 st)
+
+    module _ (p : RefT (List ℕ)) (x : List ℕ) where
+      -- 11 for an absent key
+      pub held-absent : l ≡ 0 → Handed (refusal 11 0 0) s p x → Handed (heldPart (s .now) (heldAt (kind ∷ n ∷ []) 0 st)) s p x
+      unfolding heldPart
+      held-absent u v = rw (place, eq-eqb l 0 u) v
+
+      -- else its line
+      pub held-there : (l ≡ 0 → ⊥) → Handed (partOf first (linesOf (s .now)) (l - 1)) s p x → Handed (heldPart (s .now) (heldAt (kind ∷ n ∷ []) 0 st)) s p x
+      unfolding heldPart
+      held-there u v = rw (place, ne-eqb l 0 u) v
+
+pub ruleset held = (needs, held-few, held-space, held-asc, held-in, held-absent, held-there)
+
+-- ---- find
+
+-- what is read of a sound holding serves an enquiry
+pub enquired : (h a : List ℕ) (r : Held) (kind : ℕ) (b : Bool) → b ≡ some? (numberedAmong enquiries kind) → b ≡ true → HeldIs h r a → r .line ≡ 0 → 8192 ≤ length a → Enquired h a r kind
+enquired h a r kind b e t w z l = record { asked = sym e ∙ t; read = w; sound = z; space = l }
+
+module _ (s p : RefT (List ℕ)) (kind n : ℕ) (x : List ℕ) (b : Bool) (e : b ≡ some? (numberedAmong enquiries kind)) where
   -- 15 for a kind that can't be asked for
-  pub find-other : b ≡ false → StandsIn p s 0 (0 - 0) → Handed (find (s .now) kind n) s p (15 ∷ 0 ∷ 0 ∷ [])
-  unfolding find findKind refusal
-  find-other f w = go (numberedAmong enquiries kind) (sym e ∙ f)
-    where
-      go : (o : Option Kind) → some? o ≡ false → Handed (findKind (s .now) n o) s p (15 ∷ 0 ∷ 0 ∷ [])
-      go none z = record { numbers = refl; part = w }
-      go (some k) z = let y : _≡_ {A = Bool} true false = z in absurd (let x : _≡_ {A = ℕ} 0 1 = cc in omega arith)
+  pub find-other : b ≡ false → Handed (refusal 15 0 0) s p x → Handed (find (s .now) kind n) s p x
+  unfolding find findKind
+  find-other f w = rw (no-kind kind b e f) w
 
-  module _ (f : b ≡ true) (r : Held) (a : List ℕ) (h : HeldIs (s .now) r a) where
-    -- 14 for an unsound holding
-    pub find-unsound : (r .line ≡ 0 → ⊥) → StandsIn p s 0 (0 - 0) → Handed (find (s .now) kind n) s p (14 ∷ r .line ∷ 0 ∷ [])
-    unfolding find findKind findIn refusal
-    find-unsound z w = let k = asked-is kind (sym e ∙ f) in rw (k .known) (go (readHolding (s .now)) (h .line))
-      where
-        go : (u : meaning.Held) → r .line ≡ faultOf u → Handed (findIn (s .now) (value (ident (asked-is kind (sym e ∙ f) .named)) ∷ n ∷ []) u) s p (14 ∷ r .line ∷ 0 ∷ [])
-        go (sound st) q = absurd (unfold faultOf in z q)
-        go (unsound m) q = unfold faultOf in record { numbers = ap (λ (x : ℕ). 14 ∷ x ∷ 0 ∷ []) q; part = w }
+  -- 14 for an unsound holding
+  pub find-unsound : (r : Held) (a : List ℕ) → b ≡ true → HeldIs (s .now) r a → (r .line ≡ 0 → ⊥) → Handed (refusal 14 (r .line) 0) s p x → Handed (find (s .now) kind n) s p x
+  unfolding find findKind findIn
+  find-unsound r a f h z w = rw (asked-is kind (sym e ∙ f) .known, unsounds (s .now) r a h z) w
 
-    module _ (z : r .line ≡ 0) where
-      -- the holding's records
-      abbrev st : List Rec
-      st = recordsOf (readHolding (s .now))
+  -- else the held line
+  pub find-held : (r : Held) (a : List ℕ) → b ≡ true → HeldIs (s .now) r a → r .line ≡ 0 → Handed (heldPart (s .now) (heldAt (kind ∷ n ∷ []) 0 (recordsOf (readHolding (s .now))))) s p x
+      → Handed (find (s .now) kind n) s p x
+  unfolding find findKind findIn
+  find-held r a f h z w = let k = asked-is kind (sym e ∙ f) in rw (k .known, held-sound (s .now) (sym (h .line) ∙ z), ← (k .number)) w
 
-      sounds : readHolding (s .now) ≡ sound st
-      sounds = held-sound (s .now) (sym (h .line) ∙ z)
-
-      state : Sound keyed fine always st
-      unfolding heldRecords
-      state = holding .holds (s .now) st (ap heldRecords sounds) .1
-
-      -- the key's place among them
-      place : heldAt (kind ∷ n ∷ []) 0 st ≡ pick (eqb (lineFound (kind ∷ n ∷ 0 ∷ 0 ∷ []) st) 0) none (some (lineFound (kind ∷ n ∷ 0 ∷ 0 ∷ []) st - 1))
-      unfolding padded zeros
-      place =
-          let k = asked-is kind (sym e ∙ f) in
-          held-line (kind ∷ n ∷ 0 ∷ 0 ∷ []) (kind ∷ n ∷ []) st (state .fines) (state .asc) (rw (k .number) (number-agrees (k .named) n (k .numbers) (k .single)))
-
-      -- what find answers, by that place
-      answered : find (s .now) kind n ≡ heldPart (s .now) (heldAt (kind ∷ n ∷ []) 0 st)
-      unfolding find findKind findIn
-      answered = go (asked-is kind (sym e ∙ f))
-        where
-          go : (k : Asked kind) → find (s .now) kind n ≡ heldPart (s .now) (heldAt (kind ∷ n ∷ []) 0 st)
-          go k = rw (k .known) (ap (findIn (s .now) (value (ident (k .named)) ∷ n ∷ [])) sounds ∙ ap (λ (x : ℕ). heldPart (s .now) (heldAt (x ∷ n ∷ []) 0 st)) (sym (k .number)))
-
-      -- the state that the array says is in order by numbers
-      pub find-asc : Asc numbered (says (s .now) (s .now) a (r .count))
-      find-asc = rw (h .listed z .says (s .now)) (asc-numbered st (state .fines) (state .asc))
-
-      module _ (l : ℕ) (g : l ≡ lineFound (kind ∷ n ∷ 0 ∷ 0 ∷ []) (says (s .now) (s .now) a (r .count))) where
-        here : l ≡ lineFound (kind ∷ n ∷ 0 ∷ 0 ∷ []) st
-        here = g ∙ ap (lineFound (kind ∷ n ∷ 0 ∷ 0 ∷ [])) (h .listed z .says (s .now))
-
-        -- 11 for an absent key
-        pub find-absent : l ≡ 0 → StandsIn p s 0 (0 - 0) → Handed (find (s .now) kind n) s p (11 ∷ 0 ∷ 0 ∷ [])
-        unfolding heldPart refusal
-        find-absent u w = rw (answered, place, ← here, eq-eqb l 0 u) (record { numbers = refl; part = w })
-
-        -- else the held line
-        pub find-there : (t : Span) → (l ≡ 0 → ⊥) → LineIs (s .now) l t → StandsIn p s (t .start) (t .end - t .start) → Handed (find (s .now) kind n) s p (0 ∷ 0 ∷ 0 ∷ [])
-        unfolding heldPart partOf
-        find-there t u i w =
-            let k : l ≤ length (linesOf (s .now)) = omega (arith, here, line-in (kind ∷ n ∷ 0 ∷ 0 ∷ []) st (λ v. u (here ∙ v)), ap length (held-is-sound (s .now) st sounds .lines), count-lines 1 st) in
-            let o : t .known ≡ true = i .exists ∙ rw (le-leb 1 l (omega (arith, u)), le-leb l (length (linesOf (s .now))) k) in
-            let y : t .end - t .start ≡ length (getD (linesOf (s .now)) (l - 1) noLine .text) = omega (arith, simp (length-take, length-drop) at (ap length (i .text o)), i .from, i .within) in
-            rw (answered, place, ← here, ne-eqb l 0 u) (record { numbers = refl; part = rw (← (i .starts o), ← y) w })
-
-pub ruleset finds = (needs, not-true, not-false, find-other, find-unsound, find-asc, find-absent, find-there)
+pub ruleset finds = (needs, not-true, not-false, find-other, find-unsound, find-held)
 
 -- ---- the line of a key
 

@@ -1,3 +1,7 @@
 pub mod LineSeekLaws
+pub mod HandLaws
 pub mod FieldPartLaws
 pub mod FindLaws
+pub mod NamingLaws
+pub mod ForceLaws
+pub mod TakenLaws

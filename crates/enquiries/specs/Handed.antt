@@ -8,7 +8,7 @@ use lib.Dec.{leb}
 use lib.ListN.{length, getD, take, drop}
 use Rattle.meaning.specs.Lines.{Line, linesOf, fieldsOf, oddQuotes}
 use Rattle.meaning.specs.Load.{Three}
-use Rattle.meaning.specs.Enquiries.{Found, spanned, fieldsSpanned}
+use Rattle.meaning.specs.Enquiries.{Slice, first, second, Found, spanned, fieldsSpanned}
 use Rattle.text.specs.Parts.{StandsIn}
 use Rattle.enquiries.specs.declared.lines.Span.{Span}
 
@@ -20,6 +20,15 @@ threeList t = t .code ∷ t .line ∷ t .field ∷ []
 pub record Handed (f : Found) (s r : RefT (List ℕ)) (answer : List ℕ) : Type 0 where
   pub numbers : answer ≡ threeList (f .answer)
   pub part : StandsIn r s (f .start) (f .size)
+
+-- the slice that is meant, of the two that were lent
+abbrev pub lentAs : Slice → RefT (List ℕ) → RefT (List ℕ) → RefT (List ℕ)
+lentAs first s t = s
+lentAs second s t = t
+
+-- the same where the part r stands in either of two slices
+abbrev pub HandedOf : Found → RefT (List ℕ) → RefT (List ℕ) → RefT (List ℕ) → List ℕ → Type 0
+HandedOf f s t r answer = Handed f (lentAs (f .slice) s t) r answer
 
 -- line n of some bytes, counted from 1: whether there is one, and where it stands
 pub record LineIs (b : List ℕ) (n : ℕ) (r : Span) : Type 0 where

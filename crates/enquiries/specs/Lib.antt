@@ -1,2 +1,4 @@
 pub mod Handed
 pub mod Found
+pub mod Naming
+pub mod Outcome

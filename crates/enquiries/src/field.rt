@@ -1,6 +1,7 @@
 // Giving one field of a line splits any bytes, judges no field or line ending, and hands back the field with its quotes.
 ghost use Rattle.meaning.specs.Enquiries.{fieldOf};
 ghost use Rattle.enquiries.specs.Handed.{Handed, FieldIs};
+use crate::hand::refuse;
 use crate::lines::Span;
 use crate::lines::line_at;
 use text::fields::field_count;
@@ -45,13 +46,11 @@ pub fn field<'a>(bytes: &'a [u8], line: u64, number: u64, answer: &mut [u64; 3])
     let at = l.start;
     let end = l.end;
     if !l.known {
-        *answer = [19, 0, 0];
-        return part(bytes, 0, 0);
+        return refuse(bytes, 19, 0, 0, &mut *answer);
     }
     let f = field_at(&bytes[at..end], number);
     if !f.known {
-        *answer = [19, 0, 0];
-        return part(bytes, 0, 0);
+        return refuse(bytes, 19, 0, 0, &mut *answer);
     }
     *answer = [0, 0, 0];
     part(bytes, at + f.start, at + f.end)

@@ -1,23 +1,27 @@
 // Find hands back the held line of a street or BLPU, without CR LF, as a part of the holding.
 ghost use mathlib.Core.Path.{_≡_};
+ghost use mathlib.Core.List.{[], _∷_};
 ghost use Rattle.base.specs.Lists.{some?};
 ghost use Rattle.meaning.specs.Table.{enquiries, numberedAmong};
-ghost use Rattle.meaning.specs.Enquiries.{find};
+ghost use Rattle.meaning.specs.Holding.{readHolding};
+ghost use Rattle.meaning.specs.Enquiries.{heldAt, heldPart, find};
 ghost use Prim.Native.Nat.{_≤_};
 ghost use lib.ListN.{length};
 ghost use Rattle.theory.specs.Store.{Asc};
 ghost use Rattle.keys.specs.Numbers.{numbered, keyList};
 ghost use Rattle.places.specs.Places.{says};
+ghost use Rattle.holding.specs.Read.{recordsOf};
 ghost use Rattle.enquiries.specs.Handed.{Handed};
-ghost use Rattle.enquiries.specs.Found.{lineFound};
-use crate::lines::line_at;
+ghost use Rattle.enquiries.specs.Found.{lineFound, Enquired};
+use crate::hand::hand_line;
+use crate::hand::refuse;
+use holding::read::Held;
 use holding::read::read_holding;
 use keys::Key;
 use layout::records::Blpu;
 use layout::records::Street;
 use places::search::place;
 use places::search::stands;
-use text::parts::part;
 
 // Whether an enquiry may name the kind of that number.
 pub fn is_enquired(kind: u64) -> bool
@@ -27,6 +31,18 @@ pub fn is_enquired(kind: u64) -> bool
         return true;
     }
     kind == Blpu::LAYOUT.number
+}
+
+// The key of the record of that kind and number, where the key is one number.
+pub fn asked_key(kind: u64, number: u64) -> Key
+    ensures { λ r. ⌜ keyList r ≡ kind ∷ number ∷ 0 ∷ 0 ∷ [] ⌝ }
+{
+    Key {
+        kind,
+        first: number,
+        second: 0,
+        third: 0,
+    }
 }
 
 // The line of the record with that key, counted from 1, or 0.
@@ -41,33 +57,36 @@ pub fn line_of(holding: &[u8], starts: &[u64], count: usize, key: Key) -> usize
     0
 }
 
+// The held line of the record of that kind and number, in a sound holding that was read; 11 where none is held.
+pub fn held_line<'a>(
+    holding: &'a [u8],
+    starts: &[u64],
+    held: Held,
+    kind: u64,
+    number: u64,
+    answer: &mut [u64; 3],
+) -> &'a [u8]
+    requires { ⌜ Enquired (now holding) (now starts) held kind ⌝ }
+    ensures { λ r. ⌜ Handed (heldPart (now (holding .entry)) (heldAt (kind ∷ number ∷ []) 0 (recordsOf (readHolding (now (holding .entry)))))) (holding .entry) r (now (answer .exit)) ⌝ }
+{
+    let n = line_of(holding, starts, held.count, asked_key(kind, number));
+    if n == 0 {
+        return refuse(holding, 11, 0, 0, &mut *answer);
+    }
+    hand_line(holding, n as u64, &mut *answer)
+}
+
 // The line of the record of that kind and number: 15, then 14, then 11.
 pub fn find<'a>(holding: &'a [u8], kind: u64, number: u64, answer: &mut [u64; 3]) -> &'a [u8]
     ensures { λ r. ⌜ Handed (find (now (holding .entry)) kind number) (holding .entry) r (now (answer .exit)) ⌝ }
 {
     if !is_enquired(kind) {
-        *answer = [15, 0, 0];
-        return part(holding, 0, 0);
+        return refuse(holding, 15, 0, 0, &mut *answer);
     }
     let mut starts = [0u64; 8192];
     let held = read_holding(holding, &mut starts);
     if held.line != 0 {
-        *answer = [14, held.line as u64, 0];
-        return part(holding, 0, 0);
+        return refuse(holding, 14, held.line as u64, 0, &mut *answer);
     }
-    let count = held.count;
-    let key = Key {
-        kind,
-        first: number,
-        second: 0,
-        third: 0,
-    };
-    let n = line_of(holding, &starts, count, key);
-    if n == 0 {
-        *answer = [11, 0, 0];
-        return part(holding, 0, 0);
-    }
-    let line = line_at(holding, n as u64);
-    *answer = [0, 0, 0];
-    part(holding, line.start, line.end)
+    held_line(holding, &starts, held, kind, number, &mut *answer)
 }

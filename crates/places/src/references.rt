@@ -22,7 +22,7 @@ use layout::kinds::Kind;
 use text::order::Order;
 
 // Whether two keys are the same.
-fn is_same_key(a: Key, b: Key) -> bool
+pub fn is_same_key(a: Key, b: Key) -> bool
     ensures { λ r. ⌜ r ≡ isEq (lex (keyList a) (keyList b)) ⌝ }
 {
     match keys::order(a, b) {
