@@ -83,16 +83,16 @@ fn answer(holding: &[u8], file: &[u8], out: &mut [u8], room: usize) {
     say_six(apply(holding, file, &mut out[0..room]));
 }
 
-// An insert of street 501 into a holding.
+// The file insert.csv, which inserts street 501, into a holding.
 fn insert(holding: &[u8], room: usize) {
     say_number(holding.len() as u64);
     say(b" bytes and an insert, an output of ");
     say_number(room as u64);
     say(b": ");
-    let file =
-        b"10,\"a\",1,2001-01-01,1,2001-01-01,000000,1.0,\"A\"\r\n11,\"I\",1,501,1,1,,,,2001-01-01,2001-01-01,2001-01-01,,0.00,0.00,0.00,0.00\r\n29,\"a\",\"a\",\"a\",\"a\",\"a\",1,\"a\",\"a\",2001-01-01,\"a\",\"a\",2001-01-01,\"a\",\"a\"\r\n99,0,1,2001-01-01,000000\r\n";
+    let mut file = [0u8; 512];
+    let n = read_file(b"insert.csv", &mut file).size;
     let mut out = [0u8; 500000];
-    answer(holding, file, &mut out, room);
+    answer(holding, &file[..n], &mut out, room);
 }
 
 // A holding of so many lines, street 500 and its cross references, with the insert and an output of so many bytes.
