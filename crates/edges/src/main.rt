@@ -5,6 +5,9 @@ ghost use lib.ListN.{length};
 use holding::check::check_holding;
 use libc::STDIN_FILENO;
 use libc::STDOUT_FILENO;
+use samples::put_lines;
+use samples::put_text;
+use samples::put_value;
 use volume::check::check_file;
 
 fn say(words: &[u8]) {
@@ -39,54 +42,6 @@ fn answer_holding(held: &[u8]) {
     say_number(v.line as u64);
     say(b",");
     say_number(v.field as u64);
-}
-
-// Bytes into the free part of a buffer, if they fit; the place after them.
-fn put_text(out: &mut [u8], pos: usize, s: &[u8]) -> usize
-    requires { ⌜ pos ≤ length (now out) ⌝ }
-    ensures { λ r. ⌜ r ≤ length (now (out .exit)) ⌝ }
-{
-    if out.len() - pos < s.len() {
-        return pos;
-    }
-    pos + text::put::bytes(&mut out[pos..], s)
-}
-
-// A number into the free part of a buffer, if it fits; the place after it.
-fn put_value(out: &mut [u8], pos: usize, n: u64) -> usize
-    requires { ⌜ pos ≤ length (now out) ⌝ }
-    ensures { λ r. ⌜ r ≤ length (now (out .exit)) ⌝ }
-{
-    if out.len() - pos < text::numbers::width(n) {
-        return pos;
-    }
-    pos + text::put::number(&mut out[pos..], n)
-}
-
-// The cross reference n of street 500, as line n of a body.
-fn put_line(out: &mut [u8], pos: usize, n: u64) -> usize
-    requires { ⌜ pos ≤ length (now out) ⌝ }
-    ensures { λ r. ⌜ r ≤ length (now (out .exit)) ⌝ }
-{
-    let a = put_text(&mut *out, pos, b"12,\"I\",");
-    let b = put_value(&mut *out, a, n);
-    let c = put_text(&mut *out, b, b",500,1,");
-    let d = put_value(&mut *out, c, n);
-    put_text(&mut *out, d, b",2001-01-01,2001-01-01,,2001-01-01\r\n")
-}
-
-// Those after `first`, up to `last`.
-fn put_lines(out: &mut [u8], pos: usize, first: u64, last: u64) -> usize
-    requires { ⌜ pos ≤ length (now out) ⌝ }
-    ensures { λ r. ⌜ r ≤ length (now (out .exit)) ⌝ }
-{
-    let mut at = pos;
-    let mut n = first;
-    while n < last {
-        n += 1;
-        at = put_line(&mut *out, at, n);
-    }
-    at
 }
 
 // A file of so many body lines, judged.

@@ -1,0 +1,140 @@
+// Example nights. Standard input names folders, each with the two files of a night and, in `printed`, what the program prints for them;
+// each is run and compared byte for byte. Cases that no file of 65,536 bytes can hold, or no output of as many, are built here.
+ghost use Prim.Native.Nat.{_≤_};
+ghost use lib.ListN.{length};
+use libc::STDIN_FILENO;
+use libc::STDOUT_FILENO;
+use loader::apply::apply;
+use program::input::read_file;
+use program::night::night;
+use program::numbers::put_six;
+use program::print::MOST;
+use program::print::print;
+use samples::put_lines;
+use samples::put_text;
+use volume::check::Answer;
+
+fn say(words: &[u8]) {
+    io::write_all(STDOUT_FILENO, words);
+}
+
+// The first line of what was printed.
+fn say_line(s: &[u8]) {
+    let end = text::lines::plain_end(s, 0);
+    say(&s[0..end]);
+    say(b"\n");
+}
+
+// The path of a file in a folder.
+fn path(folder: &[u8], file: &[u8], out: &mut [u8; 256]) -> usize
+    ensures { λ r. ⌜ r ≤ length (now (out .exit)) ⌝ }
+{
+    let at = put_text(out, 0, folder);
+    let end = put_text(out, at, b"/");
+    put_text(out, end, file)
+}
+
+// Runs the night of a folder, and says whether it is as stored.
+fn run(folder: &[u8]) {
+    let mut holding = [0u8; 256];
+    let mut change = [0u8; 256];
+    let mut stored = [0u8; 256];
+    let h = path(folder, b"holding.csv", &mut holding);
+    let c = path(folder, b"change.csv", &mut change);
+    let p = path(folder, b"printed", &mut stored);
+    let mut printed = [0u8; MOST];
+    let n = night(&holding[0..h], &change[0..c], &mut printed);
+    let mut kept = [0u8; MOST];
+    let m = read_file(&stored[0..p], &mut kept).size;
+    say(folder);
+    if text::order::is_same(&printed[..n], &kept[..m]) {
+        say(b" as stored: ");
+    } else {
+        say(b" NOT AS STORED: ");
+    }
+    say_line(&printed[..n]);
+}
+
+fn nights(s: &[u8]) {
+    let mut at = 0;
+    while at < s.len() {
+        let end = text::lines::plain_end(s, at);
+        run(&s[at..end]);
+        at = end + 1;
+    }
+}
+
+fn say_number(n: u64) {
+    io::print_decimal(STDOUT_FILENO, n);
+}
+
+// Six numbers.
+fn say_six(a: Answer) {
+    let mut numbers = [0u8; 127];
+    let n = put_six(&mut numbers, a);
+    say_line(&numbers[0..n]);
+}
+
+// What apply answers with an output of so many bytes of what is lent.
+fn answer(holding: &[u8], file: &[u8], out: &mut [u8], room: usize) {
+    if out.len() < room {
+        return;
+    }
+    say_six(apply(holding, file, &mut out[0..room]));
+}
+
+// The file insert.csv, which inserts street 501, into a holding.
+fn insert(holding: &[u8], room: usize) {
+    say_number(holding.len() as u64);
+    say(b" bytes and an insert, an output of ");
+    say_number(room as u64);
+    say(b": ");
+    let mut file = [0u8; 512];
+    let n = read_file(b"insert.csv", &mut file).size;
+    let mut out = [0u8; 500000];
+    answer(holding, &file[..n], &mut out, room);
+}
+
+// A holding of so many lines, street 500 and its cross references, with the insert and an output of so many bytes.
+fn built(count: u64, room: usize) {
+    let mut held = [0u8; 500000];
+    let a = put_text(
+        &mut held,
+        0,
+        b"11,\"I\",1,500,1,1,,,,2001-01-01,2001-01-01,2001-01-01,,0.00,0.00,0.00,0.00\r\n",
+    );
+    let n = put_lines(&mut held, a, 1, count);
+    say_number(count);
+    say(b" lines of ");
+    insert(&held[0..n], room);
+}
+
+// Inputs of so many zeros, as a holding and as a change file.
+fn zeros(size: usize)
+    requires { ⌜ size ≤ 65537 ⌝ }
+{
+    let s = [0u8; 65537];
+    let mut printed = [0u8; MOST];
+    let n = print(true, &s[0..size], true, b"", &mut printed);
+    say_number(size as u64);
+    say(b" zeros for a holding: ");
+    say_line(&printed[..n]);
+    let m = print(true, b"", true, &s[0..size], &mut printed);
+    say_number(size as u64);
+    say(b" zeros for a change: ");
+    say_line(&printed[..m]);
+}
+
+fn main() {
+    let mut names = io::large_buffer();
+    let n = io::read_full(STDIN_FILENO, &mut names);
+    nights(&names[..n]);
+    built(8191, 500000);
+    built(8192, 500000);
+    built(1, 74);
+    built(1, 75);
+    built(1, 149);
+    built(1, 150);
+    zeros(65536);
+    zeros(65537);
+}

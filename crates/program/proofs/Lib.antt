@@ -1,0 +1,3 @@
+pub mod SixLaws
+pub mod BareLaws
+pub mod PrintLaws

@@ -1,0 +1,108 @@
+-- The laws of numbers that are written with commas.
+use mathlib.Core.Path.{_≡_, sym, ap, _∙_}
+use mathlib.Core.List.{List, [], _∷_, _++_, append-assoc}
+use Prim.Native.Nat.{ℕ, _+_, _-_, _^_, _≤_, _<_}
+use native.Mathlib.Omega.{arith}
+use borrow.Author.Needs.{needs}
+use borrow.Rule.Slice.PartMut.{putMid}
+use lib.ListN.{length, take, drop, length-append}
+use mir.Syntax.{w64}
+use mir.Val.{Fits}
+use Rattle.theory.specs.Decimal.{width, dec}
+use Rattle.theory.specs.DecimalLaws.{length-dec}
+use Rattle.meaning.specs.Load.{six}
+use Rattle.meaning.specs.Program.{printSix}
+use Rattle.text.specs.Front.{inFront}
+use Rattle.text.proofs.PutLaws.{front-then}
+use Rattle.text.proofs.NumberLaws.{width-most}
+use Rattle.writer.proofs.LineLaws.{front-same, front-room, front-last, last-room}
+use Rattle.program.specs.Printed.{numberThen, threeThen}
+
+-- ---- a number, and what stands after it
+
+module _ (x : ℕ) (h : Fits w64 x) (mark old : List ℕ) (room : 20 + length mark ≤ length old) where
+  -- the number has room
+  pub number-room : width x ≤ length old
+  number-room = omega (arith, width-most x h)
+
+  module _ (n : ℕ) (p : n ≡ width x) where
+    -- how much is written
+    pub number-count : (m : ℕ) → m ≡ length mark → n + m ≡ length (numberThen x mark)
+    unfolding numberThen
+    number-count m r = omega (arith, length-append (dec x) mark, length-dec x)
+
+    -- and that it is not much
+    pub number-most : (m : ℕ) → m ≡ length mark → n + m ≤ 20 + length mark
+    number-most m r = omega (arith, width-most x h)
+
+    -- so the sum fits
+    pub number-fits : (m : ℕ) → m ≡ length mark → length old < 2 ^ 64 → Fits w64 (n + m)
+    number-fits m r b = omega (arith, width-most x h)
+
+    module _ (new : List ℕ) (q : new ≡ inFront (dec x) old) where
+      -- it stands within what was lent
+      pub number-within : n ≤ length new
+      number-within = omega (arith, width-most x h, length-dec x, front-same (dec x) old new (omega (arith, width-most x h, length-dec x)) q)
+
+      -- the mark has room
+      pub mark-room : length mark ≤ length (take (length new - n) (drop n new))
+      mark-room = front-room (dec x) old new n (length mark) (p ∙ sym (length-dec x)) q (omega (arith, width-most x h))
+
+      -- with the mark both are there
+      pub number-done : (last : List ℕ) → last ≡ inFront mark (take (length new - n) (drop n new)) → putMid n (length new - n) new last ≡ inFront (numberThen x mark) old
+      unfolding numberThen
+      number-done last w = front-then (dec x) mark old new last n (p ∙ sym (length-dec x)) q w
+
+pub ruleset numbered = (needs, number-room, number-within, number-count, number-most, number-fits, mark-room, number-done)
+
+-- ---- three numbers
+
+-- how much is written
+pub three-count : (a b c : ℕ) (mark : List ℕ) (n m k : ℕ) → n ≡ length (numberThen a (44 ∷ [])) → m ≡ length (numberThen b (44 ∷ [])) → k ≡ length (numberThen c mark)
+    → n + m + k ≡ length (threeThen a b c mark)
+unfolding threeThen
+three-count a b c mark n m k p q r =
+    omega (arith, length-append (numberThen a (44 ∷ [])) (numberThen b (44 ∷ []) ++ numberThen c mark), length-append (numberThen b (44 ∷ [])) (numberThen c mark))
+
+module _ (a b c : ℕ) (mark old new : List ℕ) (n : ℕ) (room : 62 + length mark ≤ length old) (p : n ≡ length (numberThen a (44 ∷ []))) (s : n ≤ 21)
+    (q : new ≡ inFront (numberThen a (44 ∷ [])) old) where
+  -- the second has room
+  pub second-room : 21 ≤ length (take (length new - n) (drop n new))
+  second-room = front-room (numberThen a (44 ∷ [])) old new n 21 p q (omega arith)
+
+  module _ (m : ℕ) (last : List ℕ) (r : m ≡ length (numberThen b (44 ∷ []))) (t : m ≤ 21) (u : last ≡ inFront (numberThen b (44 ∷ [])) (take (length new - n) (drop n new))) where
+    -- and so has the third
+    pub third-room : 20 + length mark ≤ length (take (length (putMid n (length new - n) new last) - (n + m)) (drop (n + m) (putMid n (length new - n) new last)))
+    third-room = last-room (numberThen a (44 ∷ [])) (numberThen b (44 ∷ [])) [] old new last [] n m p q r u (20 + length mark) (omega arith)
+
+    -- with the third all are there
+    pub three-done : (end : List ℕ)
+        → end ≡ inFront (numberThen c mark) (take (length (putMid n (length new - n) new last) - (n + m)) (drop (n + m) (putMid n (length new - n) new last)))
+        → putMid (n + m) (length (putMid n (length new - n) new last) - (n + m)) (putMid n (length new - n) new last) end ≡ inFront (threeThen a b c mark) old
+    unfolding threeThen
+    three-done end w = front-last (numberThen a (44 ∷ [])) (numberThen b (44 ∷ [])) (numberThen c mark) old new last end n m p q r u w
+
+pub ruleset threefold = (needs, second-room, third-room, three-count, three-done)
+
+-- ---- all six
+
+-- they are the first three with a comma after them, then the counts with CR LF
+six-parts : (c l f i u d : ℕ) → threeThen c l f (44 ∷ []) ++ threeThen i u d (13 ∷ 10 ∷ []) ≡ printSix (six c l f i u d)
+unfolding threeThen numberThen printSix
+six-parts c l f i u d = simp append-assoc
+
+module _ (c l f i u d : ℕ) (n : ℕ) (p : n ≡ length (threeThen c l f (44 ∷ []))) where
+  -- how much is written
+  pub six-count : (m : ℕ) → m ≡ length (threeThen i u d (13 ∷ 10 ∷ [])) → n + m ≡ length (printSix (six c l f i u d))
+  six-count m r = omega (arith, length-append (threeThen c l f (44 ∷ [])) (threeThen i u d (13 ∷ 10 ∷ [])), ap length (six-parts c l f i u d))
+
+  module _ (old new : List ℕ) (q : new ≡ inFront (threeThen c l f (44 ∷ [])) old) where
+    -- the counts have room
+    pub counts-room : 127 ≤ length old → n ≤ 63 → 64 ≤ length (take (length new - n) (drop n new))
+    counts-room h k = front-room (threeThen c l f (44 ∷ [])) old new n 64 p q (omega arith)
+
+    -- with them all are there
+    pub six-done : (last : List ℕ) → last ≡ inFront (threeThen i u d (13 ∷ 10 ∷ [])) (take (length new - n) (drop n new)) → putMid n (length new - n) new last ≡ inFront (printSix (six c l f i u d)) old
+    six-done last w = front-then (threeThen c l f (44 ∷ [])) (threeThen i u d (13 ∷ 10 ∷ [])) old new last n p q w ∙ ap (λ t. inFront t old) (six-parts c l f i u d)
+
+pub ruleset sixfold = (needs, six-count, counts-room, six-done)

@@ -1,0 +1,49 @@
+-- It is enough to read 65,537 bytes of an input: a file that goes on after them is too long whatever they are.
+use mathlib.Core.Path.{_≡_, refl, sym, ap, _∙_}
+use mathlib.Core.Bool.{Bool, true, false, _||_}
+use mathlib.Core.Option.{Option, some, Option·getD}
+use mathlib.Core.List.{List, []}
+use Prim.Native.Nat.{ℕ, _≤_, _<_}
+use native.Mathlib.Decide.{decLe}
+use native.Mathlib.Omega.{arith}
+use lib.Dec.{lt→ltb}
+use lib.ListN.{length, take}
+use lib.Seq.{take-all, length-take-le}
+use Rattle.base.specs.Lists.{pick}
+use Rattle.base.specs.Tests.{T-true}
+use Rattle.meaning.specs.Load.{six, load}
+use Rattle.meaning.specs.Program.{programRoom, unusable, printSix, printLoad, program}
+
+-- 18 where either is unusable
+pub first-18 : (old b : Option (List ℕ)) → true ≡ unusable old → printSix (six 18 0 0 0 0 0) ≡ program old b
+unfolding program
+first-18 old b e = rw (← e)
+
+pub second-18 : (old b : Option (List ℕ)) → true ≡ unusable b → printSix (six 18 0 0 0 0 0) ≡ program old b
+unfolding program
+second-18 old b e = go (unusable old)
+  where
+    go : (x : Bool) → printSix (six 18 0 0 0 0 0) ≡ pick (x || unusable b) (printSix (six 18 0 0 0 0 0)) (printLoad (load programRoom (Option·getD old []) (Option·getD b [])))
+    go true = refl
+    go false = rw (← e)
+
+-- more than 65,536 bytes are unusable
+too-long : (s : List ℕ) → 65536 < length s → true ≡ unusable (some s)
+unfolding unusable
+too-long s h = sym (T-true (unusable (some s)) (lt→ltb 65536 (length s) h))
+
+-- the cut of a holding is answered as the whole of it
+pub cut-holding : (s : List ℕ) (b : Option (List ℕ)) → program (some (take 65537 s)) b ≡ program (some s) b
+cut-holding s b = go (decLe (length s) 65537)
+  where
+    go : Dec (length s ≤ 65537) → program (some (take 65537 s)) b ≡ program (some s) b
+    go (yes h) = ap (λ t. program (some t) b) (take-all 65537 s h)
+    go (no h) = sym (first-18 (some (take 65537 s)) b (too-long (take 65537 s) (omega (arith, length-take-le 65537 s (omega arith))))) ∙ first-18 (some s) b (too-long s (omega arith))
+
+-- and so is that of a change
+pub cut-change : (old : Option (List ℕ)) (s : List ℕ) → program old (some (take 65537 s)) ≡ program old (some s)
+cut-change old s = go (decLe (length s) 65537)
+  where
+    go : Dec (length s ≤ 65537) → program old (some (take 65537 s)) ≡ program old (some s)
+    go (yes h) = ap (λ t. program old (some t)) (take-all 65537 s h)
+    go (no h) = sym (second-18 old (some (take 65537 s)) (too-long (take 65537 s) (omega (arith, length-take-le 65537 s (omega arith))))) ∙ second-18 old (some s) (too-long s (omega arith))

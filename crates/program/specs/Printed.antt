@@ -1,0 +1,36 @@
+-- The words in which the code says what is printed.
+use mathlib.Core.Bool.{Bool, true, false}
+use mathlib.Core.Option.{Option, none, some}
+use mathlib.Core.List.{List, [], _∷_, _++_}
+use Prim.Native.Nat.{ℕ, zero, suc}
+use Rattle.theory.specs.Decimal.{dec}
+use Rattle.meaning.specs.Load.{Six, six}
+use Rattle.volume.specs.declared.check.Answer.{Answer}
+
+-- an input that was read, or could not be
+abbrev pub inputOf : Bool → List ℕ → Option (List ℕ)
+inputOf true b = some b
+inputOf false b = none
+
+-- the numbers that the code answers, number by number
+abbrev pub sixOf : Answer → Six
+sixOf a = six (a .code) (a .line) (a .field) (a .inserts) (a .updates) (a .deletes)
+
+-- a number, and what stands after it
+unfoldable pub numberThen : ℕ → List ℕ → List ℕ
+numberThen n mark = dec n ++ mark
+
+-- three numbers with commas, and what stands after them
+unfoldable pub threeThen : ℕ → ℕ → ℕ → List ℕ → List ℕ
+threeThen a b c mark = numberThen a (44 ∷ []) ++ (numberThen b (44 ∷ []) ++ numberThen c mark)
+
+-- a byte in front of what is left of those after it: a zero stays only where something is left
+unfoldable pub onBare : ℕ → List ℕ → List ℕ
+onBare zero [] = []
+onBare zero (y ∷ ys) = 0 ∷ (y ∷ ys)
+onBare (suc x) ys = suc x ∷ ys
+
+-- what stands before the zeros at the end
+unfoldable pub bare : List ℕ → List ℕ
+bare [] = []
+bare (x ∷ xs) = onBare x (bare xs)

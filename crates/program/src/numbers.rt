@@ -1,0 +1,46 @@
+// The six numbers, comma separated, with CR LF.
+ghost use mathlib.Core.Path.{_≡_};
+ghost use Prim.Native.Nat.{_+_, _≤_};
+ghost use lib.ListN.{length};
+ghost use Rattle.meaning.specs.Program.{printSix};
+ghost use Rattle.text.specs.Front.{inFront};
+ghost use Rattle.program.specs.Printed.{numberThen, threeThen, sixOf};
+use text::put;
+use volume::check::Answer;
+
+// A number, and what stands after it.
+fn put_number(out: &mut [u8], n: u64, mark: &[u8]) -> usize
+    requires { ⌜ 20 + length (now mark) ≤ length (now out) ⌝ }
+    ensures { λ r. ⌜ (r ≡ length (numberThen n (now (mark .entry)))) × (r ≤ 20 + length (now (mark .entry)))
+        × (now (out .exit) ≡ inFront (numberThen n (now (mark .entry))) (now (out .entry))) ⌝ }
+{
+    let at = put::number(&mut *out, n);
+    at + put::bytes(&mut out[at..], mark)
+}
+
+// Three numbers with commas, and what stands after them.
+fn put_three(out: &mut [u8], a: u64, b: u64, c: u64, mark: &[u8]) -> usize
+    requires { ⌜ 62 + length (now mark) ≤ length (now out) ⌝ }
+    ensures { λ r. ⌜ (r ≡ length (threeThen a b c (now (mark .entry)))) × (r ≤ 62 + length (now (mark .entry)))
+        × (now (out .exit) ≡ inFront (threeThen a b c (now (mark .entry))) (now (out .entry))) ⌝ }
+{
+    let at = put_number(&mut *out, a, b",");
+    let end = at + put_number(&mut out[at..], b, b",");
+    end + put_number(&mut out[end..], c, mark)
+}
+
+// All six: no number has more than 20 digits, so 127 bytes are enough.
+pub fn put_six(out: &mut [u8], a: Answer) -> usize
+    requires { ⌜ 127 ≤ length (now out) ⌝ }
+    ensures { λ r. ⌜ (r ≡ length (printSix (sixOf a))) × (r ≤ 127) × (now (out .exit) ≡ inFront (printSix (sixOf a)) (now (out .entry))) ⌝ }
+{
+    let at = put_three(&mut *out, a.code, a.line as u64, a.field as u64, b",");
+    at
+        + put_three(
+            &mut out[at..],
+            a.inserts as u64,
+            a.updates as u64,
+            a.deletes as u64,
+            b"\r\n",
+        )
+}
