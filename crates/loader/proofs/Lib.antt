@@ -1,2 +1,4 @@
 pub mod FillLaws
+pub mod FrameLaws
+pub mod LoadLaws
 pub mod ApplyLaws
