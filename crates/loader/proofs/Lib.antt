@@ -2,3 +2,4 @@ pub mod FillLaws
 pub mod FrameLaws
 pub mod LoadLaws
 pub mod ApplyLaws
+pub mod UndoLaws

@@ -40,7 +40,7 @@ use Rattle.steps.proofs.BackLaws.{length-back}
 use Rattle.steps.proofs.JudgeLaws.{ready-in}
 use Rattle.writer.specs.Runs.{backTexts}
 use Rattle.loader.specs.declared.load.Loaded.{Loaded}
-use Rattle.loader.specs.Loaded.{numbers, Loads}
+use Rattle.loader.specs.Loaded.{numbers, undoText, Loads}
 use Rattle.loader.proofs.FrameLaws.{frame-ends, frame-opens, frame-copied}
 
 -- ---- each refusal
@@ -175,8 +175,8 @@ module _ (h f : List ℕ) (room : ℕ) (r : Held) (a : List ℕ) (w : HeldIs h r
             many : n .steps ≡ length (read .sheet .1)
             many = sym (length-back h f t u (n .steps)) ∙ ap length backed ∙ length-undo (after keyed) (back keyed) st (read .sheet .1)
 
-            undoes : undoBytes h f ≡ take (lineEnd f 0 + 2) f ++ (backTexts h f t u (n .steps) ++ drop (n .end) f)
-            unfolding undoBytes undoHeld undoSheet backTexts
+            undoes : undoBytes h f ≡ undoText h f t u (n .steps) (n .end)
+            unfolding undoBytes undoHeld undoSheet backTexts undoText
             undoes =
                 ap (undoHeld f) sounds ∙ ap (undoSheet st) (read .reads)
                 ∙ frame-copied f (read .sheet .0) (read .sheet .1) file-sound (n .end) (n .steps) (kept .rest) many (undo (after keyed) (back keyed) st (read .sheet .1))

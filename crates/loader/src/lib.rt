@@ -4,3 +4,4 @@
 // is written once, front to back. On any refusal the output is all zeros and the counts are 0.
 pub mod load; // what apply and undo share
 pub mod apply; // take a file into a holding
+pub mod undo; // write the undo of a file

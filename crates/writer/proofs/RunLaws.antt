@@ -38,6 +38,28 @@ texts-append k (c ∷ a) b =
     ap (λ x. changeText k c ++ (13 ∷ (10 ∷ x))) (texts-append (suc k) a b ∙ rw s)
     ∙ sym (append-assoc (changeText k c) (13 ∷ (10 ∷ joined (changeTexts (suc k) a))) (joined (changeTexts (k + suc (length a)) b)))
 
+module _ (cs : List (Change Rec)) (i : ℕ) (c : Change Rec) (e : drop i cs ≡ c ∷ drop (suc i) cs) where
+  inside : i < length cs
+  inside = omega (arith, length-drop i cs, ap length e)
+
+  -- one line more
+  pub texts-more : texts (take (i + 1) cs) ≡ texts (take i cs) ++ lineBytes (i + 1) c
+  unfolding joined changeTexts lineBytes
+  texts-more =
+      let t : take (i + 1) cs ≡ take i cs ++ (c ∷ []) = take-add i 1 cs ∙ rw e in
+      let n : 1 + length (take i cs) ≡ i + 1 = omega (arith, length-take-le i cs (omega (arith, inside))) in
+      rw t (texts-append 1 (take i cs) (c ∷ []) ∙ rw n)
+
+  -- is not more than all
+  pub texts-most : length (texts (take i cs)) + length (lineBytes (i + 1) c) ≤ length (texts cs)
+  texts-most =
+      let w : length (texts cs) ≡ length (texts (take (i + 1) cs)) + length (joined (changeTexts (1 + length (take (i + 1) cs)) (drop (i + 1) cs))) =
+      ap (λ l. length (texts l)) (sym (take-append-drop (i + 1) cs))
+      ∙ ap length (texts-append 1 (take (i + 1) cs) (drop (i + 1) cs))
+      ∙ length-append (texts (take (i + 1) cs)) (joined (changeTexts (1 + length (take (i + 1) cs)) (drop (i + 1) cs)))
+      in
+      omega (arith, w, ap length texts-more, length-append (texts (take i cs)) (lineBytes (i + 1) c))
+
 -- the first i changes stand in the front of the output, and the rest of it is as it was
 pub record Writing (cs : List (Change Rec)) (old out : List ℕ) (pos i : ℕ) : Type 0 where
   pub place : pos ≡ length (texts (take i cs))
@@ -51,24 +73,11 @@ unfolding joined changeTexts
 writing-start cs old = record { place = refl; front = front-none old; same = refl; within = omega arith }
 
 module _ (cs : List (Change Rec)) (old out : List ℕ) (pos i : ℕ) (c : Change Rec) (g : Writing cs old out pos i) (h : length (texts cs) ≤ length old) (e : drop i cs ≡ c ∷ drop (suc i) cs) where
-  inside : i < length cs
-  inside = omega (arith, length-drop i cs, ap length e)
-
   more : texts (take (i + 1) cs) ≡ texts (take i cs) ++ lineBytes (i + 1) c
-  unfolding joined changeTexts lineBytes
-  more =
-      let t : take (i + 1) cs ≡ take i cs ++ (c ∷ []) = take-add i 1 cs ∙ rw e in
-      let n : 1 + length (take i cs) ≡ i + 1 = omega (arith, length-take-le i cs (omega (arith, inside))) in
-      rw t (texts-append 1 (take i cs) (c ∷ []) ∙ rw n)
+  more = texts-more cs i c e
 
   long : pos + length (lineBytes (i + 1) c) ≤ length old
-  long =
-      let w : length (texts cs) ≡ length (texts (take (i + 1) cs)) + length (joined (changeTexts (1 + length (take (i + 1) cs)) (drop (i + 1) cs))) =
-      ap (λ l. length (texts l)) (sym (take-append-drop (i + 1) cs))
-      ∙ ap length (texts-append 1 (take (i + 1) cs) (drop (i + 1) cs))
-      ∙ length-append (texts (take (i + 1) cs)) (joined (changeTexts (1 + length (take (i + 1) cs)) (drop (i + 1) cs)))
-      in
-      omega (arith, w, ap length more, length-append (texts (take i cs)) (lineBytes (i + 1) c), g .place)
+  long = omega (arith, texts-most cs i c e, g .place)
 
   -- the next line has room
   pub writing-room : length (lineBytes (i + 1) c) ≤ length (take (length out - pos) (drop pos out))
