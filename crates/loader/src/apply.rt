@@ -1,34 +1,14 @@
-// Apply: 14, then the whole file check, then 13 for the start, then the steps.
+// Apply: a load, then the new holding or zeros.
 ghost use mathlib.Core.Path.{_≡_};
 ghost use Prim.Native.Nat.{_≤_};
 ghost use lib.ListN.{length};
-ghost use Rattle.base.specs.Lists.{zeros};
 ghost use Rattle.meaning.specs.Holding.{written};
-ghost use Rattle.meaning.specs.Load.{six, filled};
+ghost use Rattle.meaning.specs.Load.{filled};
 ghost use Rattle.places.specs.Places.{says};
-ghost use Rattle.volume.specs.Answer.{answerOf};
 ghost use Rattle.loader.specs.Outcome.{Outcome};
-use holding::read::read_holding;
-use steps::judge::State;
-use steps::run::run;
+use crate::load::load;
 use volume::check::Answer;
-use volume::check::check_file;
 use writer::runs::write_holding;
-
-// A refusal: the output is all zeros, and nothing is counted.
-pub fn refuse(out: &mut [u8], code: u64, line: usize, field: usize) -> Answer
-    ensures { λ r. ⌜ (r ≡ answerOf (six code line field 0 0 0)) × (now (out .exit) ≡ zeros (length (now (out .entry)))) ⌝ }
-{
-    text::put::zeros(&mut *out);
-    Answer {
-        code,
-        line,
-        field,
-        inserts: 0,
-        updates: 0,
-        deletes: 0,
-    }
-}
 
 // The new holding, then zeros to the end of the output.
 pub fn fill(out: &mut [u8], holding: &[u8], file: &[u8], places: &[u64], count: usize)
@@ -44,28 +24,15 @@ pub fn apply(holding: &[u8], file: &[u8], out: &mut [u8]) -> Answer
     ensures { λ r. ⌜ Outcome (now (holding .entry)) (now (file .entry)) (length (now (out .entry))) r (now (out .exit)) ⌝ }
 {
     let mut places = [0u64; 8192];
-    let held = read_holding(holding, &mut places);
-    if held.line != 0 {
-        return refuse(&mut *out, 14, held.line, 0);
-    }
-    let checked = check_file(file);
-    if checked.code != 0 {
-        return refuse(&mut *out, checked.code, checked.line, checked.field);
-    }
+    let mut steps = [0u64; 4096];
+    let mut before = [0u64; 4096];
     let room = out.len();
-    let size = holding.len();
-    if room < size {
-        return refuse(&mut *out, 13, 0, 0);
+    let loaded = load(holding, file, &mut places, &mut steps, &mut before, room);
+    let answer = loaded.answer;
+    if answer.code != 0 {
+        text::put::zeros(&mut *out);
+        return answer;
     }
-    let start = State {
-        count: held.count,
-        size,
-    };
-    let ran = run(holding, file, &mut places, start, room);
-    if ran.code != 0 {
-        return refuse(&mut *out, ran.code, ran.line, 0);
-    }
-    let last = ran.state;
-    fill(&mut *out, holding, file, &places, last.count);
-    checked
+    fill(&mut *out, holding, file, &places, loaded.count);
+    answer
 }

@@ -2,4 +2,6 @@
 //
 // The holding and the file are only read. The state is an array of places in key order; a step moves places, never bytes; the new holding
 // is written once, front to back. On any refusal the output is all zeros and the counts are 0.
+pub mod load; // what apply and undo share
 pub mod apply; // take a file into a holding
+pub mod undo; // write the undo of a file

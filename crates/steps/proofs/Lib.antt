@@ -3,4 +3,5 @@ pub mod ClearLaws
 pub mod FindLaws
 pub mod JudgeLaws
 pub mod StepLaws
+pub mod BackLaws
 pub mod RunLaws

@@ -2,21 +2,22 @@
 use mathlib.Core.Path.{_≡_, refl, sym, ap, _∙_, subst}
 use mathlib.Core.Bool.{Bool, true, false, not}
 use mathlib.Core.Option.{Option, none, some}
-use mathlib.Core.List.{List, [], _∷_, _++_, nil≢cons}
-use Prim.Native.Nat.{ℕ, suc, _+_, _-_, _≤_, _<_}
+use mathlib.Core.List.{List, [], _∷_, _++_, append-nil, nil≢cons}
+use Prim.Native.Nat.{ℕ, suc, _+_, _-_, _*_, _≤_, _<_}
 use native.Mathlib.Decide.{decLe}
 use native.Mathlib.Nat.{lt-of-not-le}
-use native.Mathlib.Numerals.{add-one}
 use native.Mathlib.Omega.{arith}
 use borrow.Author.Needs.{needs}
 use borrow.Author.Tests.{not-true, not-false, ne-eqb}
 use mir.Syntax.{w64}
 use mir.Val.{Fits}
 use lib.Dec.{T}
-use lib.ListN.{length, getD, take, drop}
+use lib.ListN.{length, getD, take, drop, set, length-set}
+use lib.Seq.{drop-drop}
 use Rattle.base.specs.Lists.{pick, all}
 use Rattle.base.specs.Tests.{and-l, and-r}
-use Rattle.theory.specs.Step.{Op, Change, judge, after}
+use Rattle.theory.specs.Step.{Op, Change, judge, after, back}
+use Rattle.theory.specs.Trail.{undo}
 use Rattle.theory.specs.Answer.{Read, fault, file}
 use Rattle.theory.specs.Run as Theory
 use Rattle.theory.specs.Run.{Out, done, stop, on}
@@ -24,7 +25,7 @@ use Rattle.meaning.specs.Lines.{Line, linesOf, fieldsOf, identifier}
 use Rattle.meaning.specs.Table.{Kind, kindOf, Role, bodyLine, metadataLine, role}
 use Rattle.meaning.specs.Records.{Rec, keyed, opOf, contentOf, changeOf}
 use Rattle.meaning.specs.Holding.{isHeld}
-use Rattle.meaning.specs.File.{Sheet, readFile}
+use Rattle.meaning.specs.File.{Sheet, readFile, mostBody}
 use Rattle.meaning.specs.Load.{stepTests}
 use Rattle.laws.specs.Body.{kind-in}
 use Rattle.laws.specs.LinesAndFields.{endsAll}
@@ -40,9 +41,12 @@ use Rattle.places.proofs.LineLaws.{rec-known}
 use Rattle.volume.specs.declared.lines.Line as read
 use Rattle.steps.specs.declared.judge.State.{State}
 use Rattle.steps.specs.declared.step.Stepped.{Stepped}
+use Rattle.steps.specs.declared.run.Ran.{Ran}
 use Rattle.volume.specs.Meant.{changeMeant}
 use Rattle.steps.specs.Ready.{change, changeAt, codeNumber, Ready, Carries, Steps}
 use Rattle.steps.specs.Run.{isFile, changesOf, bodyFrom, Runs}
+use Rattle.steps.specs.Back.{stepsBack}
+use Rattle.steps.proofs.BackLaws.{back-turn}
 use Rattle.steps.proofs.StepLaws.{unheld, held-is, code-none}
 
 -- ---- leaves
@@ -83,52 +87,83 @@ body-from n [] (c ∷ cs) m t s r = absurd s
 body-from n (x ∷ ts) [] m t s r = absurd s
 body-from n (x ∷ ts) (c ∷ cs) m t s r = rw (role-is bodyLine x (s .0 .line), said n x c (s .0), body-from (suc n) ts cs m t (s .1) r)
 
-abbrev tailOf : List Line → List Line
-tailOf [] = []
-tailOf (l ∷ ls) = ls
-
--- the changes of a sound file are those of the lines after its first
-body-of : (f : List ℕ) → T (isFile (readFile f)) → (x : Read Sheet) → readFile f ≡ x → (bodyFrom (tailOf (linesOf f)) ≡ changesOf x) × T (all fineC (changesOf x)) × (linesOf f ≡ [] → ⊥)
+-- the changes of a sound file are those of the lines after its first, and there are few
+body-of : (f : List ℕ) → T (isFile (readFile f)) → (x : Read Sheet) → readFile f ≡ x
+    → (bodyFrom (drop 1 (linesOf f)) ≡ changesOf x) × T (all fineC (changesOf x)) × (linesOf f ≡ [] → ⊥) × (length (changesOf x) ≤ mostBody)
 body-of f t (fault c l k) e = absurd (subst (λ x. T (isFile x)) e t)
 body-of f t (file s) e =
-    let w = read-sound f (s .0) (s .1) e in
-    (ap (λ ls. bodyFrom (tailOf ls)) (w .lines) ∙ body-from 1 (w .texts) (s .1) (s .0 .metadataText) (s .0 .trailerText) (w .body) (w .describing), file-says f (s .0) (s .1) e .1, λ z. nil≢cons (sym z ∙ w .lines))
+    let w = read-sound f (s .0) (s .1) e in (
+      ap (λ ls. bodyFrom (drop 1 ls)) (w .lines) ∙ body-from 1 (w .texts) (s .1) (s .0 .metadataText) (s .0 .trailerText) (w .body) (w .describing),
+      file-says f (s .0) (s .1) e .1,
+      λ z. nil≢cons (sym z ∙ w .lines),
+      w .few,
+    )
 
 -- ---- the walk
 
--- what is left to run from `at` on, at that line, ends as the whole run does
-pub record Going (h f a₀ : List ℕ) (room : ℕ) (s₀ : State) (a : List ℕ) (s : State) (at line : ℕ) : Type 0 where
-  pub left : Theory.run keyed (stepTests room) line (says h f a (s .count)) (bodyFrom (linesOf (drop at f))) ≡ Theory.run keyed (stepTests room) 2 (says h f a₀ (s₀ .count)) (changesOf (readFile f))
+-- the way back over the rest and then over the steps made is that over the whole file
+abbrev Backed : List ℕ → List ℕ → List ℕ → State → List ℕ → State → List (Change Rec) → List ℕ → List ℕ → ℕ → Type 0
+Backed h f a₀ s₀ a s cs steps before n =
+    undo (after keyed) (back keyed) (says h f a (s .count)) cs ++ stepsBack h f steps before n ≡ undo (after keyed) (back keyed) (says h f a₀ (s₀ .count)) (changesOf (readFile f))
+
+-- what is left to run from `at` on, after n steps, ends as the whole run does
+pub record Going (h f a₀ : List ℕ) (room : ℕ) (s₀ : State) (a steps before : List ℕ) (s : State) (at n : ℕ) : Type 0 where
+  pub left : Theory.run keyed (stepTests room) (n + 2) (says h f a (s .count)) (bodyFrom (linesOf (drop at f))) ≡ Theory.run keyed (stepTests room) 2 (says h f a₀ (s₀ .count)) (changesOf (readFile f))
+  pub backed : Backed h f a₀ s₀ a s (bodyFrom (linesOf (drop at f))) steps before n
+  pub rest : linesOf (drop at f) ≡ drop (n + 1) (linesOf f)
   pub ready : Ready h f a room s
   pub fines : T (all fineC (bodyFrom (linesOf (drop at f))))
+  pub few : n + length (bodyFrom (linesOf (drop at f))) ≤ mostBody
   pub within : at ≤ length f + 2
-  pub lined : line ≤ at + 2
+  pub stepsSpace : 4096 ≤ length steps
+  pub beforeSpace : 4096 ≤ length before
+
+-- the lines after the one at an offset
+lines-after : (f : List ℕ) (at e : ℕ) → e ≡ lineEnd f at → at < length f → linesOf (drop (e + 2) f) ≡ drop 1 (linesOf (drop at f))
+lines-after f at e q m =
+    let i : at + (lineLen (drop at f) + 2) ≡ e + 2 = omega arith in
+    ap (λ z. linesOf (drop z f)) (sym i) ∙ sym (ap (drop 1) (lines-at f at m))
 
 -- the walk starts after the header
-pub go-start : (h f a : List ℕ) (room : ℕ) (s : State) (e : ℕ) → Ready h f a room s → T (isFile (readFile f)) → e ≡ lineEnd f 0 → e ≤ length f → Going h f a room s a s (e + 2) 2
-go-start h f a room s e y t q m =
+pub go-start : (h f a steps before : List ℕ) (room : ℕ) (s : State) (e : ℕ) → Ready h f a room s → T (isFile (readFile f)) → 4096 ≤ length steps → 4096 ≤ length before → e ≡ lineEnd f 0 → e ≤ length f
+    → Going h f a room s a steps before s (e + 2) 0
+unfolding stepsBack
+go-start h f a steps before room s e y t p k q m =
     let b = body-of f t (readFile f) refl in
-    record { left = ap (Theory.run keyed (stepTests room) 2 (says h f a (s .count))) (rest ∙ b .0); ready = y; fines = subst (λ cs. T (all fineC cs)) (sym (rest ∙ b .0)) (b .1); within = omega arith; lined = omega arith }
+    record {
+      left = ap (Theory.run keyed (stepTests room) 2 (says h f a (s .count))) (body ∙ b .0);
+      backed = append-nil _ ∙ ap (undo (after keyed) (back keyed) (says h f a (s .count))) (body ∙ b .0);
+      rest = lines-after f 0 e q full;
+      ready = y;
+      fines = subst (λ cs. T (all fineC cs)) (sym (body ∙ b .0)) (b .1);
+      few = omega (arith, ap length (body ∙ b .0), b .3);
+      within = omega arith;
+      stepsSpace = p;
+      beforeSpace = k;
+    }
   where
     full : 0 < length f
     full = elim (decLe (length f) 0) [ yes z ↦ absurd (body-of f t (readFile f) refl .2 (lines-end f 0 z)) | no z ↦ lt-of-not-le z ]
 
-    rest : bodyFrom (linesOf (drop (e + 2) f)) ≡ bodyFrom (tailOf (linesOf f))
-    rest =
-        let i : 0 + (lineLen (drop 0 f) + 2) ≡ e + 2 = omega arith in
-        sym (ap (λ ls. bodyFrom (tailOf ls)) (lines-at f 0 full) ∙ ap (λ z. bodyFrom (linesOf (drop z f))) i)
+    body : bodyFrom (linesOf (drop (e + 2) f)) ≡ bodyFrom (drop 1 (linesOf f))
+    body = ap bodyFrom (lines-after f 0 e q full)
 
-module _ (h f a₀ : List ℕ) (room : ℕ) (s₀ : State) (a : List ℕ) (s : State) (at line : ℕ) (g : Going h f a₀ room s₀ a s at line) where
-  ended : bodyFrom (linesOf (drop at f)) ≡ [] → Runs h f a₀ a room s₀ (record { code = 0; line = 0; state = s })
-  ended e = record { ended = run-nil ∙ ap (Theory.run keyed (stepTests room) line (says h f a (s .count))) (sym e) ∙ g .left; ready = λ z. g .ready }
+-- ---- each way out
+module _ (h f a₀ : List ℕ) (room : ℕ) (s₀ : State) (a steps before : List ℕ) (s : State) (at n : ℕ) (g : Going h f a₀ room s₀ a steps before s at n) where
+  ended : bodyFrom (linesOf (drop at f)) ≡ [] → Runs h f a₀ a steps before room s₀ (record { code = 0; line = 0; state = s; steps = n; end = at })
+  ended e = record {
+    ended = run-nil ∙ ap (Theory.run keyed (stepTests room) (n + 2) (says h f a (s .count))) (sym e) ∙ g .left;
+    ready = λ z. g .ready;
+    kept = λ z. record { few = omega (arith, g .few); backed = subst (λ cs. Backed h f a₀ s₀ a s cs steps before n) e (g .backed); rest = g .rest };
+  }
     where
-      run-nil : done (says h f a (s .count)) ≡ Theory.run keyed (stepTests room) line (says h f a (s .count)) []
+      run-nil : done (says h f a (s .count)) ≡ Theory.run keyed (stepTests room) (n + 2) (says h f a (s .count)) []
       run-nil = unfold Theory.run in refl
 
   -- where no line is left the run is done
-  pub go-done : length f ≤ at → Runs h f a₀ a room s₀ (record { code = 0; line = 0; state = s })
+  pub go-done : (r : Ran) → r ≡ record { code = 0; line = 0; state = s; steps = n; end = at } → length f ≤ at → Runs h f a₀ a steps before room s₀ r
   unfolding bodyFrom
-  go-done m = ended (ap bodyFrom (lines-end f at m))
+  go-done r u m = rw u (ended (ap bodyFrom (lines-end f at m)))
 
   module _ (m : at < length f) (l : read.Line) (k : kindMeant (l .kind) ≡ changeAt f at .rec .kind) (b : Bool) (q : b ≡ isHeld (role (kindMeant (l .kind)))) where
     held-here : isHeld (role (recOf (lineAt f at) .kind)) ≡ b
@@ -139,8 +174,8 @@ module _ (h f a₀ : List ℕ) (room : ℕ) (s₀ : State) (a : List ℕ) (s : S
     body-at = ap bodyFrom (lines-at f at m) ∙ ap (λ z. pick z (changeAt f at ∷ bodyFrom (linesOf (drop (at + (lineLen (drop at f) + 2)) f))) []) held-here
 
     -- where the metadata stands it is done too
-    pub go-last : b ≡ false → Runs h f a₀ a room s₀ (record { code = 0; line = 0; state = s })
-    go-last u = ended (body-at ∙ rw u)
+    pub go-last : (r : Ran) → r ≡ record { code = 0; line = 0; state = s; steps = n; end = at } → b ≡ false → Runs h f a₀ a steps before room s₀ r
+    go-last r w u = rw w (ended (body-at ∙ rw u))
 
     module _ (u : b ≡ true) where
       body-here : bodyFrom (linesOf (drop at f)) ≡ changeAt f at ∷ bodyFrom (linesOf (drop (at + (lineLen (drop at f) + 2)) f))
@@ -149,43 +184,67 @@ module _ (h f a₀ : List ℕ) (room : ℕ) (s₀ : State) (a : List ℕ) (s : S
       fines-here : T (all fineC (changeAt f at ∷ bodyFrom (linesOf (drop (at + (lineLen (drop at f) + 2)) f))))
       fines-here = subst (λ cs. T (all fineC cs)) body-here (g .fines)
 
+      few-here : n + suc (length (bodyFrom (linesOf (drop (at + (lineLen (drop at f) + 2)) f)))) ≤ mostBody
+      few-here = omega (arith, g .few, ap length body-here)
+
       -- a body line carries a sound record
       pub go-carries : changeMeant (l .change) ≡ changeAt f at .op → Carries f at l
       go-carries c = record { inside = omega arith; sound = and-l (fineC (changeAt f at)) _ fines-here; kinded = k; changed = c }
 
+      -- its step has a place among the steps
+      pub go-steps : n < length steps
+      go-steps = omega (arith, few-here, g .stepsSpace)
+
+      -- and among what stood before
+      pub go-before : n < length before
+      go-before = omega (arith, few-here, g .beforeSpace)
+
       module _ (b′ : List ℕ) (r : Stepped) (w : Steps h f a b′ room (changeAt f at) s r) where
-        run-here : on (judge keyed (stepTests room) (says h f a (s .count)) (changeAt f at)) line
-            (Theory.run keyed (stepTests room) (suc line) (after keyed (says h f a (s .count)) (changeAt f at)) (bodyFrom (linesOf (drop (at + (lineLen (drop at f) + 2)) f))))
+        run-here : on (judge keyed (stepTests room) (says h f a (s .count)) (changeAt f at)) (n + 2)
+            (Theory.run keyed (stepTests room) (suc (n + 2)) (after keyed (says h f a (s .count)) (changeAt f at)) (bodyFrom (linesOf (drop (at + (lineLen (drop at f) + 2)) f))))
             ≡ Theory.run keyed (stepTests room) 2 (says h f a₀ (s₀ .count)) (changesOf (readFile f))
         unfolding Theory.run
-        run-here = sym (ap (Theory.run keyed (stepTests room) line (says h f a (s .count))) body-here) ∙ g .left
+        run-here = sym (ap (Theory.run keyed (stepTests room) (n + 2) (says h f a (s .count))) body-here) ∙ g .left
 
         -- a step that is refused ends the run at its line
-        pub go-stop : (r .code ≡ 0 → ⊥) → Runs h f a₀ b′ room s₀ (record { code = r .code; line = line; state = s })
-        go-stop n = record { ended = rw (ne-eqb (r .code) 0 n) (sym (halt (judge keyed (stepTests room) (says h f a (s .count)) (changeAt f at)) (w .coded) _) ∙ run-here); ready = λ z. absurd (n z) }
+        pub go-stop : (x : Ran) → x ≡ record { code = r .code; line = n + 2; state = s; steps = n; end = at } → (r .code ≡ 0 → ⊥) → Runs h f a₀ b′ steps before room s₀ x
+        go-stop p v x = rw v (record {
+          ended = rw (ne-eqb (r .code) 0 x) (sym (halt (judge keyed (stepTests room) (says h f a (s .count)) (changeAt f at)) (w .coded) _) ∙ run-here);
+          ready = λ z. absurd (x z);
+          kept = λ z. absurd (x z);
+        })
           where
-            halt : (o : Option ℕ) → r .code ≡ codeNumber o → (x : Out (List Rec)) → on o line x ≡ stop line (r .code)
-            halt none e x = absurd (n e)
-            halt (some c) e x = unfold on in ap (stop line) (sym e)
+            halt : (o : Option ℕ) → r .code ≡ codeNumber o → (y : Out (List Rec)) → on o (n + 2) y ≡ stop (n + 2) (r .code)
+            halt none e y = absurd (x e)
+            halt (some c) e y = unfold on in ap (stop (n + 2)) (sym e)
 
-        -- one that is made leaves the lines after it
-        pub go-turn : (e : ℕ) → r .code ≡ 0 → e ≡ lineEnd f at → e ≤ length f → Going h f a₀ room s₀ b′ (r .state) (e + 2) (line + 1)
-        unfolding on
+        -- one that is made leaves the lines after it, and what takes it back
+        pub go-turn : (e : ℕ) → r .code ≡ 0 → e ≡ lineEnd f at → e ≤ length f → Going h f a₀ room s₀ b′ (set steps n (2 * at + 1)) (set before n (r .before)) (r .state) (e + 2) (n + 1)
+        unfolding on back
         go-turn e z q m′ =
             let x = w .left z in
             let i : at + (lineLen (drop at f) + 2) ≡ e + 2 = omega arith in
             let j = code-none room (r .code) (says h f a (s .count)) (changeAt f at) (w .coded) z in
+            let c : n + 1 + 2 ≡ suc (n + 2) = omega arith in
             record {
-              left = rw (add-one line, x .said, ← i) (rw j at run-here);
+              left = rw (c, x .said, ← i) (rw j at run-here);
+              backed = rw (x .said, ← i) (back-turn h f steps before n at (r .before) (says h f a (s .count)) (bodyFrom (linesOf (drop (at + (lineLen (drop at f) + 2)) f))) _ go-steps go-before (x .stood) (subst (λ cs. Backed h f a₀ s₀ a s cs steps before n) body-here (g .backed)));
+              rest = lines-after f at e q m ∙ ap (drop 1) (g .rest) ∙ drop-drop 1 (n + 1) (linesOf f);
               ready = x .ready;
               fines = rw (← i) (and-r (fineC (changeAt f at)) _ fines-here);
+              few = rw (← i) (omega (arith, few-here));
               within = omega arith;
-              lined = omega (arith, g .lined);
+              stepsSpace = rw length-set (g .stepsSpace);
+              beforeSpace = rw length-set (g .beforeSpace);
             }
 
-  -- lines can be counted
-  pub line-fits : at < length f → Fits w64 (line + 1)
-  line-fits m = record { fits = omega (arith, g .lined, g .ready .fileShort) }
+  -- steps can be counted
+  pub step-fits : Fits w64 (n + 1)
+  step-fits = record { fits = omega (arith, g .few) }
+
+  -- and lines
+  pub line-fits : Fits w64 (n + 2)
+  line-fits = record { fits = omega (arith, g .few) }
 
   -- the next line's start can be
   pub next-fits : (e : ℕ) → e ≤ length f → Fits w64 (e + 2)
@@ -195,4 +254,4 @@ module _ (h f a₀ : List ℕ) (room : ℕ) (s₀ : State) (a : List ℕ) (s : S
 pub first-fits : (h f a : List ℕ) (room : ℕ) (s : State) (e : ℕ) → Ready h f a room s → e ≤ length f → Fits w64 (e + 2)
 first-fits h f a room s e y m = record { fits = omega (arith, y .fileShort) }
 
-pub ruleset running = (needs, not-true, not-false, first-fits, go-start, go-done, go-last, go-carries, go-stop, go-turn, line-fits, next-fits)
+pub ruleset running = (needs, not-true, not-false, first-fits, go-start, go-done, go-last, go-carries, go-steps, go-before, go-stop, go-turn, step-fits, line-fits, next-fits)

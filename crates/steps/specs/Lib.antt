@@ -1,3 +1,4 @@
 pub mod Clear
 pub mod Ready
+pub mod Back
 pub mod Run

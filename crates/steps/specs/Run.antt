@@ -2,24 +2,26 @@
 use mathlib.Core.Path.{_≡_}
 use mathlib.Core.Bool.{Bool, true, false}
 use mathlib.Core.List.{List, [], _∷_}
-use Prim.Native.Nat.{ℕ}
+use Prim.Native.Nat.{ℕ, _+_, _≤_}
 use lib.Dec.{eqb}
-use lib.ListN.{getD}
+use lib.ListN.{getD, drop}
 use Rattle.base.specs.Lists.{pick}
-use Rattle.theory.specs.Step.{Change}
+use Rattle.theory.specs.Step.{Change, after, back}
+use Rattle.theory.specs.Trail.{undo}
 use Rattle.theory.specs.Answer.{Read, fault, file}
 use Rattle.theory.specs.Run as Theory
 use Rattle.theory.specs.Run.{Out, done, stop}
-use Rattle.meaning.specs.Lines.{Line, fieldsOf}
+use Rattle.meaning.specs.Lines.{Line, linesOf, fieldsOf}
 use Rattle.meaning.specs.Table.{role}
 use Rattle.meaning.specs.Records.{Rec, keyed, opOf}
 use Rattle.meaning.specs.Holding.{isHeld}
-use Rattle.meaning.specs.File.{Sheet, readFile}
+use Rattle.meaning.specs.File.{Sheet, readFile, mostBody}
 use Rattle.meaning.specs.Load.{stepTests}
 use Rattle.places.specs.Places.{recOf, says}
 use Rattle.steps.specs.declared.judge.State.{State}
 use Rattle.steps.specs.declared.run.Ran.{Ran}
 use Rattle.steps.specs.Ready.{change, Ready}
+use Rattle.steps.specs.Back.{stepsBack}
 
 -- what was read is a sound file
 abbrev pub isFile : Read Sheet → Bool
@@ -40,7 +42,14 @@ bodyFrom (l ∷ ls) = pick (isHeld (role (recOf (l .text) .kind))) (change (opOf
 abbrev pub ranAs : List ℕ → List ℕ → List ℕ → Ran → Out (List Rec)
 ranAs h f b r = pick (eqb (r .code) 0) (done (says h f b (r .state .count))) (stop (r .line) (r .code))
 
--- the run ends as the run of the file's changes from line 2 on does, and where nothing is refused it leaves a state that is ready for more
-pub record Runs (h f a b : List ℕ) (room : ℕ) (s : State) (r : Ran) : Type 0 where
+-- the entries of the steps that were made say how they are taken back, and from `end` on stands what follows the body
+pub record Kept (h f a steps before : List ℕ) (s : State) (r : Ran) : Type 0 where
+  pub few : r .steps ≤ mostBody
+  pub backed : stepsBack h f steps before (r .steps) ≡ undo (after keyed) (back keyed) (says h f a (s .count)) (changesOf (readFile f))
+  pub rest : linesOf (drop (r .end) f) ≡ drop (r .steps + 1) (linesOf f)
+
+-- the run ends as the run of the file's changes from line 2 on does, and where nothing is refused it leaves a state that is ready for more, and what its undo needs
+pub record Runs (h f a b steps before : List ℕ) (room : ℕ) (s : State) (r : Ran) : Type 0 where
   pub ended : ranAs h f b r ≡ Theory.run keyed (stepTests room) 2 (says h f a (s .count)) (changesOf (readFile f))
   pub ready : r .code ≡ 0 → Ready h f b room (r .state)
+  pub kept : r .code ≡ 0 → Kept h f a steps before s r

@@ -18,11 +18,14 @@ use text::lines::line_end;
 use volume::lines::Line;
 use volume::lines::known;
 
-// The code and line of the first step that is refused, or two zeros and the state after the last.
+// The code and line of the first step that is refused, or two zeros and the state after the last; how many steps were made, and
+// where the line after them starts.
 pub struct Ran {
     pub code: u64,
     pub line: usize,
     pub state: State,
+    pub steps: usize,
+    pub end: usize,
 }
 
 // Whether a kind is held.
@@ -52,36 +55,52 @@ fn line_at(f: &[u8], at: usize) -> Line
     known(kind, text)
 }
 
-// The steps of a sound file, body line by body line; its header stands on line 1.
-pub fn run(h: &[u8], f: &[u8], a: &mut [u64], s: State, room: usize) -> Ran
-    requires { ⌜ Ready (now h) (now f) (now a) room s × T (isFile (readFile (now f))) ⌝ }
-    ensures { λ r. ⌜ Runs (now (h .entry)) (now (f .entry)) (now (a .entry)) (now (a .exit)) room s r ⌝ }
+// How a run ended.
+fn ended(code: u64, line: usize, state: State, steps: usize, end: usize) -> Ran
+    ensures { λ r. ⌜ r ≡ record { code = code; line = line; state = state; steps = steps; end = end } ⌝ }
+{
+    Ran {
+        code,
+        line,
+        state,
+        steps,
+        end,
+    }
+}
+
+// The steps of a sound file, body line by body line; its header stands on line 1. Each step leaves its own entry in `steps`, and in
+// `before` what stood at its key, or its own entry where nothing did.
+pub fn run(
+    h: &[u8],
+    f: &[u8],
+    a: &mut [u64],
+    steps: &mut [u64],
+    before: &mut [u64],
+    s: State,
+    room: usize,
+) -> Ran
+    requires { ⌜ Ready (now h) (now f) (now a) room s × T (isFile (readFile (now f))) × (4096 ≤ length (now steps)) × (4096 ≤ length (now before)) ⌝ }
+    ensures { λ r. ⌜ Runs (now (h .entry)) (now (f .entry)) (now (a .entry)) (now (a .exit)) (now (steps .exit)) (now (before .exit)) room s r ⌝ }
 {
     let mut at = line_end(f, 0) + 2;
-    let mut line = 2;
+    let mut n = 0;
     let mut state = s;
     while at < f.len() {
         let read = line_at(f, at);
         let kind = read.kind;
         if !is_held(kind) {
-            return Ran {
-                code: 0,
-                line: 0,
-                state,
-            };
+            return ended(0, 0, state, n, at);
         }
         let stepped = step(h, f, at, read, &mut *a, state, room);
         let code = stepped.code;
         if code != 0 {
-            return Ran { code, line, state };
+            return ended(code, n + 2, state, n, at);
         }
+        steps[n] = 2 * (at as u64) + 1;
+        before[n] = stepped.before;
         state = stepped.state;
         at = line_end(f, at) + 2;
-        line += 1;
+        n += 1;
     }
-    Ran {
-        code: 0,
-        line: 0,
-        state,
-    }
+    ended(0, 0, state, n, at)
 }

@@ -17,8 +17,8 @@ use Rattle.text.specs.Places.{lineLen, lineEnd, contentStart}
 use Rattle.text.proofs.FieldLaws.{content-part}
 use Rattle.places.specs.Places.{known, recOf, lineAt, entry}
 use Rattle.places.proofs.SaysLaws.{entry-held, entry-filed}
+use Rattle.steps.specs.Back.{opAt}
 use Rattle.writer.specs.Lines.{lineBytes}
-use Rattle.writer.specs.Runs.{opAt}
 use Rattle.writer.proofs.LineLaws.{length-line}
 
 -- ---- the line at an offset

@@ -1,3 +1,4 @@
 pub mod LineLaws
 pub mod EntryLaws
 pub mod RunLaws
+pub mod RoomLaws

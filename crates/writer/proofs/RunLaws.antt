@@ -8,20 +8,19 @@ use borrow.Author.Needs.{needs}
 use borrow.Rule.Slice.PartMut.{putMid}
 use mir.Syntax.{w64}
 use mir.Val.{Fits}
-use lib.ListN.{length, getD, take, drop, set, length-append, length-drop, take-append-drop}
-use lib.Seq.{length-take-le, take-add, take-all, getD-set-same, getD-set-other}
-use Rattle.theory.specs.Step.{Op, ins, inv, Change, after, back}
+use lib.ListN.{length, getD, take, drop, length-append, length-drop, take-append-drop}
+use lib.Seq.{length-take-le, take-add, take-all}
+use Rattle.theory.specs.Step.{Op, ins, inv, Change}
 use Rattle.theory.specs.Run.{inserts}
-use Rattle.theory.specs.Trail.{final, undo}
-use Rattle.theory.specs.TrailLaws.{undo-snoc}
-use Rattle.meaning.specs.Records.{Rec, keyed, changeText, changeTexts, joined}
+use Rattle.meaning.specs.Records.{Rec, changeText, changeTexts, joined}
 use Rattle.meaning.specs.Holding.{written}
 use Rattle.text.specs.Front.{inFront}
 use Rattle.text.proofs.PutLaws.{front-none, front-then}
 use Rattle.places.specs.Places.{entry, says}
 use Rattle.places.proofs.SaysLaws.{length-says, says-at}
+use Rattle.steps.specs.Back.{opAt, stepsBack}
+use Rattle.steps.proofs.BackLaws.{length-back}
 use Rattle.writer.specs.Lines.{lineBytes}
-use Rattle.writer.specs.Runs.{opAt, stepsBack, backTexts}
 use Rattle.writer.proofs.LineLaws.{front-same, front-room}
 
 -- ---- changes, the first i of them written
@@ -39,6 +38,28 @@ texts-append k (c ∷ a) b =
     ap (λ x. changeText k c ++ (13 ∷ (10 ∷ x))) (texts-append (suc k) a b ∙ rw s)
     ∙ sym (append-assoc (changeText k c) (13 ∷ (10 ∷ joined (changeTexts (suc k) a))) (joined (changeTexts (k + suc (length a)) b)))
 
+module _ (cs : List (Change Rec)) (i : ℕ) (c : Change Rec) (e : drop i cs ≡ c ∷ drop (suc i) cs) where
+  inside : i < length cs
+  inside = omega (arith, length-drop i cs, ap length e)
+
+  -- one line more
+  pub texts-more : texts (take (i + 1) cs) ≡ texts (take i cs) ++ lineBytes (i + 1) c
+  unfolding joined changeTexts lineBytes
+  texts-more =
+      let t : take (i + 1) cs ≡ take i cs ++ (c ∷ []) = take-add i 1 cs ∙ rw e in
+      let n : 1 + length (take i cs) ≡ i + 1 = omega (arith, length-take-le i cs (omega (arith, inside))) in
+      rw t (texts-append 1 (take i cs) (c ∷ []) ∙ rw n)
+
+  -- is not more than all
+  pub texts-most : length (texts (take i cs)) + length (lineBytes (i + 1) c) ≤ length (texts cs)
+  texts-most =
+      let w : length (texts cs) ≡ length (texts (take (i + 1) cs)) + length (joined (changeTexts (1 + length (take (i + 1) cs)) (drop (i + 1) cs))) =
+      ap (λ l. length (texts l)) (sym (take-append-drop (i + 1) cs))
+      ∙ ap length (texts-append 1 (take (i + 1) cs) (drop (i + 1) cs))
+      ∙ length-append (texts (take (i + 1) cs)) (joined (changeTexts (1 + length (take (i + 1) cs)) (drop (i + 1) cs)))
+      in
+      omega (arith, w, ap length texts-more, length-append (texts (take i cs)) (lineBytes (i + 1) c))
+
 -- the first i changes stand in the front of the output, and the rest of it is as it was
 pub record Writing (cs : List (Change Rec)) (old out : List ℕ) (pos i : ℕ) : Type 0 where
   pub place : pos ≡ length (texts (take i cs))
@@ -52,24 +73,11 @@ unfolding joined changeTexts
 writing-start cs old = record { place = refl; front = front-none old; same = refl; within = omega arith }
 
 module _ (cs : List (Change Rec)) (old out : List ℕ) (pos i : ℕ) (c : Change Rec) (g : Writing cs old out pos i) (h : length (texts cs) ≤ length old) (e : drop i cs ≡ c ∷ drop (suc i) cs) where
-  inside : i < length cs
-  inside = omega (arith, length-drop i cs, ap length e)
-
   more : texts (take (i + 1) cs) ≡ texts (take i cs) ++ lineBytes (i + 1) c
-  unfolding joined changeTexts lineBytes
-  more =
-      let t : take (i + 1) cs ≡ take i cs ++ (c ∷ []) = take-add i 1 cs ∙ rw e in
-      let n : 1 + length (take i cs) ≡ i + 1 = omega (arith, length-take-le i cs (omega (arith, inside))) in
-      rw t (texts-append 1 (take i cs) (c ∷ []) ∙ rw n)
+  more = texts-more cs i c e
 
   long : pos + length (lineBytes (i + 1) c) ≤ length old
-  long =
-      let w : length (texts cs) ≡ length (texts (take (i + 1) cs)) + length (joined (changeTexts (1 + length (take (i + 1) cs)) (drop (i + 1) cs))) =
-      ap (λ l. length (texts l)) (sym (take-append-drop (i + 1) cs))
-      ∙ ap length (texts-append 1 (take (i + 1) cs) (drop (i + 1) cs))
-      ∙ length-append (texts (take (i + 1) cs)) (joined (changeTexts (1 + length (take (i + 1) cs)) (drop (i + 1) cs)))
-      in
-      omega (arith, w, ap length more, length-append (texts (take i cs)) (lineBytes (i + 1) c), g .place)
+  long = omega (arith, texts-most cs i c e, g .place)
 
   -- the next line has room
   pub writing-room : length (lineBytes (i + 1) c) ≤ length (take (length out - pos) (drop pos out))
@@ -134,11 +142,6 @@ module _ (h f steps before : List ℕ) where
   drop-back zero k = let z : 0 + k ≡ k = omega arith in rw z
   drop-back (suc i) k = let z : suc i + k ≡ suc (i + k) = omega arith in rw z (drop-back i k)
 
-  length-back : (n : ℕ) → length (stepsBack h f steps before n) ≡ n
-  unfolding stepsBack
-  length-back zero = refl
-  length-back (suc n) = ap suc (length-back n)
-
   -- the next line takes back the last step that is left
   pub back-next : (n i k : ℕ) (o : Op) → i < n → k ≡ n - i - 1 → o ≡ inv (opAt f (getD steps k 0))
       → drop i (stepsBack h f steps before n) ≡ record { op = o; rec = entry h f (getD before k 0) } ∷ drop (suc i) (stepsBack h f steps before n)
@@ -152,28 +155,6 @@ module _ (h f steps before : List ℕ) where
 
   -- there are as many as steps
   pub back-end : (n i : ℕ) → n ≤ i → length (stepsBack h f steps before n) ≤ i
-  back-end n i g = omega (arith, length-back n)
+  back-end n i g = omega (arith, length-back h f steps before n)
 
 pub ruleset backwards = (needs, writing-start, writing-room, writing-fits, writing-turn, writing-count, writing-done, back-next, back-end)
-
--- entries that stand after the first n do not matter to them
-pub back-set : (h f steps before : List ℕ) (n m v w : ℕ) → n ≤ m → stepsBack h f (set steps m v) (set before m w) n ≡ stepsBack h f steps before n
-unfolding stepsBack
-back-set h f steps before zero m v w g = refl
-back-set h f steps before (suc n) m v w g =
-    rw (getD-set-other steps m n v 0 (λ e. absurd (omega arith)), getD-set-other before m n w 0 (λ e. absurd (omega arith)), back-set h f steps before n m v w (omega arith))
-
--- one step more is taken back first
-pub back-more : (h f steps before : List ℕ) (n v w : ℕ) → n < length steps → n < length before
-    → stepsBack h f (set steps n v) (set before n w) (n + 1) ≡ record { op = inv (opAt f v); rec = entry h f w } ∷ stepsBack h f steps before n
-unfolding stepsBack
-back-more h f steps before n v w g k =
-    let z : n + 1 ≡ suc n = omega arith in
-    rw (z, getD-set-same steps n v 0 g, getD-set-same before n w 0 k, back-set h f steps before n n v w (omega arith))
-
--- so the steps back of a run are its undo: each has the record that stood at its key before it, or its own where none did
-pub back-undo : (h f steps before : List ℕ) (n v w : ℕ) (st : List Rec) (cs : List (Change Rec)) (c : Change Rec) → n < length steps → n < length before
-    → stepsBack h f steps before n ≡ undo (after keyed) (back keyed) st cs → opAt f v ≡ c .op → entry h f w ≡ back keyed (final (after keyed) st cs) c .rec
-    → stepsBack h f (set steps n v) (set before n w) (n + 1) ≡ undo (after keyed) (back keyed) st (cs ++ (c ∷ []))
-unfolding back
-back-undo h f steps before n v w st cs c g k e o r = back-more h f steps before n v w g k ∙ rw (e, o, r) (sym (undo-snoc (after keyed) (back keyed) st cs c))

@@ -1,21 +1,17 @@
 -- Lines one after another: the undo's body, by the entries that a run of steps leaves.
-use mathlib.Core.List.{List, [], _∷_}
-use Prim.Native.Nat.{ℕ, zero, suc, _/_}
-use lib.ListN.{getD}
-use Rattle.theory.specs.Step.{Op, inv, Change}
-use Rattle.meaning.specs.Lines.{fieldsOf}
-use Rattle.meaning.specs.Records.{Rec, opOf, changeTexts, joined}
-use Rattle.places.specs.Places.{lineAt, entry}
+use mathlib.Core.Path.{_≡_}
+use mathlib.Core.Bool.{Bool}
+use mathlib.Core.List.{List}
+use Prim.Native.Nat.{ℕ}
+use lib.Dec.{leb}
+use lib.ListN.{length}
+use Rattle.meaning.specs.Records.{changeTexts, joined}
+use Rattle.steps.specs.Back.{stepsBack}
 
--- what a step does to its record: CHANGE_TYPE of the line of the file that its entry names
-unfoldable pub opAt : List ℕ → ℕ → Op
-opAt f v = opOf (getD (fieldsOf (lineAt f (v / 2))) 1 [])
-
--- the first n steps taken back, the last first, each with the record that stood at its key before it, or its own where none did
-unfoldable pub stepsBack : List ℕ → List ℕ → List ℕ → List ℕ → ℕ → List (Change Rec)
-stepsBack h f steps before zero = []
-stepsBack h f steps before (suc k) = record { op = inv (opAt f (getD steps k 0)); rec = entry h f (getD before k 0) } ∷ stepsBack h f steps before k
-
--- their lines, numbered from 1
+-- the lines of the first n steps taken back, numbered from 1
 unfoldable pub backTexts : List ℕ → List ℕ → List ℕ → List ℕ → ℕ → List ℕ
 backTexts h f steps before n = joined (changeTexts 1 (stepsBack h f steps before n))
+
+-- whether they fit `room` bytes, which goes by what stood before and not by what each step did
+abbrev pub FitsBack : List ℕ → List ℕ → List ℕ → ℕ → ℕ → Bool → Type 0
+FitsBack h f before n room r = (steps : List ℕ) → r ≡ leb (length (backTexts h f steps before n)) room

@@ -5,4 +5,5 @@
 pub mod changes; // what a body line does to its record
 pub mod lines; // one line
 pub mod entries; // the line of an entry's record
+pub mod room; // whether the undo's body fits
 pub mod runs; // the holding, and the undo's body

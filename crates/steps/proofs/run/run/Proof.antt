@@ -1,6 +1,8 @@
 -- `steps::run::run` meets its contract.
 use Rattle.steps.proofs.RunLaws.{running}
-use Rattle.steps.proofs.RunLaws.{Going}
+use Rattle.steps.proofs.RunLaws.{Going, go-steps, go-before, go-turn, go-stop}
+use borrow.Author.Needs.{needs}
+use borrow.Author.Tests.{not-false}
 use lib.ListN.{length}
 use Prim.Native.Nat.{_-_}
 use mathlib.Core.Path.{_≡_}
@@ -11,22 +13,38 @@ pub run-spec : {M : Type 1} → statement M
 run-spec =
     tie.close
     (tie.spec
-    (λ h f a₀ room at₀ line₀ state₀ a at line state. Going h f a₀ room state₀ a state at line × (length a ≡ length a₀))
-    (λ h f a₀ room at₀ line₀ state₀ a at line state. length f - at)
+    (λ h f a₀ steps₀ before₀ room at₀ n₀ state₀ a steps before at n state. Going h f a₀ room state₀ a steps before state at n × (length a ≡ length a₀) × (length steps ≡ length steps₀) × (length before ≡ length before₀))
+    (λ h f a₀ steps₀ before₀ room at₀ n₀ state₀ a steps before at n state. length f - at)
     (λ c κs. search running)  -- line-end-requires
     (λ c. search running)  -- add-at
     (λ c. search running)  -- loop-holds
     (λ c κs. search running)  -- line-at-requires
     (λ c κs. search running)  -- is-held-requires
+    (λ c κs. search running)  -- ended-requires
     (λ c. search running)  -- same-length
+    (λ c. search running)  -- same-length-2
+    (λ c. search running)  -- same-length-3
     (λ c. search running)  -- returns
     (λ c κs. search running)  -- step-requires
-    (λ c. search running)  -- same-length-2
+    (λ c. search running)  -- add-ended
+    (λ c κs. search running)  -- ended-requires-2
+    (λ c. search running)  -- same-length-4
+    (λ c. search running)  -- same-length-5
+    (λ c. search running)  -- same-length-6
     (λ c. search running)  -- returns-2
+    (λ c. search running)  -- mul-steps
+    (λ c. search running)  -- add-steps
+    (λ c. search running)  -- mul-steps-2
+    (λ c. go-steps _ _ _ _ _ _ _ _ _ _ _ (c .before .before .before .before .before .before .before .before .before .loop .inv .0) (c .before .before .before .before .before .before .before .before .loop-test .taken) (c .before .before .before .before .before .before .before .line-at .result) (c .before .before .before .before .before .before .before .line-at .ensures .0) _ (c .before .before .before .before .before .before .is-held .ensures) (not-false _ (c .before .before .before .before .before .if1 .left)))  -- slice-write-steps
+    (λ c. search running)  -- mul-before
+    (λ c. go-before _ _ _ _ _ _ _ _ _ _ _ (c .before .before .before .before .before .before .before .before .before .loop .inv .0) (c .before .before .before .before .before .before .before .before .loop-test .taken) (c .before .before .before .before .before .before .before .line-at .result) (c .before .before .before .before .before .before .before .line-at .ensures .0) _ (c .before .before .before .before .before .before .is-held .ensures) (not-false _ (c .before .before .before .before .before .if1 .left)))  -- slice-write-before
     (λ c κs. search running)  -- line-end-requires-2
     (λ c. search running)  -- add-at-2
-    (λ c. search running)  -- add-line
+    (λ c. search running)  -- add-n
     (λ c. search running)  -- loop-less
-    (λ c. search running)  -- loop-again
-    (λ c. search running)  -- same-length-3
+    (λ c. (go-turn _ _ _ _ _ _ _ _ _ _ _ (c .before .before .before .before .before .before .before .before .before .before .before .loop .inv .0) (c .before .before .before .before .before .before .before .before .before .before .loop-test .taken) (c .before .before .before .before .before .before .before .before .before .line-at .result) (c .before .before .before .before .before .before .before .before .before .line-at .ensures .0) _ (c .before .before .before .before .before .before .before .before .is-held .ensures) (not-false _ (c .before .before .before .before .before .before .before .if1 .left)) _ _ (c .before .before .before .before .before .step .ensures) _ (c .before .before .if2 .left) (c .line-end2 .ensures .0) (c .line-end2 .ensures .2), search needs, search needs, search needs))  -- loop-again
+    (λ c κs. search running)  -- ended-requires-3
+    (λ c. search running)  -- same-length-7
+    (λ c. search running)  -- same-length-8
+    (λ c. search running)  -- same-length-9
     (λ c. search running))  -- returns-3

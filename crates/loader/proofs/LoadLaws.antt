@@ -1,0 +1,202 @@
+-- The laws of a load: what is answered at each refusal, and what a file that is taken leaves.
+use mathlib.Core.Path.{_≡_, refl, sym, ap, _∙_}
+use mathlib.Core.List.{List, _++_}
+use Prim.Native.Nat.{ℕ, _+_, _≤_, _<_}
+use native.Mathlib.Omega.{arith}
+use borrow.Author.Tests.{le-leb, lt-leb, eq-eqb, ne-eqb}
+use lib.Dec.{T}
+use lib.ListN.{length, take, drop}
+use Rattle.base.specs.Lists.{pick}
+use Rattle.theory.specs.Step.{ins, upd, del, after, back}
+use Rattle.theory.specs.Trail.{undo}
+use Rattle.theory.specs.TrailLaws.{length-undo}
+use Rattle.theory.specs.Format.{Sound}
+use Rattle.theory.specs.Run.{done, run}
+use Rattle.theory.specs.Answer.{Read, fault, file, took, refused, count}
+use Rattle.meaning.specs.Records.{Rec, keyed, changeTexts, joined}
+use Rattle.meaning.specs.File.{Sheet, readFile}
+use Rattle.meaning.specs.Holding as meaning
+use Rattle.meaning.specs.Holding.{sound, unsound, readHolding, written}
+use Rattle.meaning.specs.Load.{six, fits, stepTests, outcome, fromStart, onFile, onHolding, load, checked, checkFile, undoSheet, undoHeld, undoBytes}
+use Rattle.laws.specs.Body.{fine}
+use Rattle.laws.specs.HoldingReadBack.{always, holding, heldRecords}
+use Rattle.laws.specs.FileRefusals.{ReadIn, among, fileCodes, file-codes}
+use Rattle.laws.specs.SoundHolding.{held-is-sound}
+use Rattle.laws.specs.SoundFile.{SoundFile, read-sound}
+use Rattle.laws.specs.Checks.{held-bytes}
+use Rattle.text.specs.Places.{lineEnd}
+use Rattle.places.specs.Places.{says}
+use Rattle.volume.specs.declared.check.Answer.{Answer as Six′}
+use Rattle.volume.specs.Answer.{answerOf}
+use Rattle.holding.specs.declared.read.Held.{Held}
+use Rattle.holding.specs.Read.{faultOf, recordsOf, Listed, HeldIs}
+use Rattle.holding.proofs.ReadLaws.{held-sound}
+use Rattle.steps.specs.declared.judge.State.{State}
+use Rattle.steps.specs.declared.run.Ran.{Ran}
+use Rattle.steps.specs.Ready.{Ready}
+use Rattle.steps.specs.Run.{isFile, changesOf, ranAs, Kept, Runs}
+use Rattle.steps.specs.Back.{stepsBack}
+use Rattle.steps.proofs.BackLaws.{length-back}
+use Rattle.steps.proofs.JudgeLaws.{ready-in}
+use Rattle.writer.specs.Runs.{backTexts}
+use Rattle.loader.specs.declared.load.Loaded.{Loaded}
+use Rattle.loader.specs.Loaded.{numbers, undoText, Loads}
+use Rattle.loader.proofs.FrameLaws.{frame-ends, frame-opens, frame-copied}
+
+-- ---- each refusal
+
+-- 14 for an unsound holding
+pub load-unsound : (h f : List ℕ) (room : ℕ) (r : Held) (a : List ℕ) → HeldIs h r a → (r .line ≡ 0 → ⊥) → load room h f ≡ refused 14 (r .line) 0
+unfolding load
+load-unsound h f room r a w n = go (readHolding h) (w .line)
+  where
+    go : (u : meaning.Held) → r .line ≡ faultOf u → onHolding room f u ≡ refused 14 (r .line) 0
+    go (sound st) e = absurd (unfold faultOf in n e)
+    go (unsound m) e = unfold faultOf onHolding in rw e
+
+module _ (h f : List ℕ) (room : ℕ) (r : Held) (a : List ℕ) (w : HeldIs h r a) (z : r .line ≡ 0) where
+  -- the holding's records
+  abbrev st : List Rec
+  st = recordsOf (readHolding h)
+
+  sounds : readHolding h ≡ sound st
+  sounds = held-sound h (sym (w .line) ∙ z)
+
+  state : Sound keyed fine always st
+  unfolding heldRecords
+  state = holding .holds h st (ap heldRecords sounds) .1
+
+  bytes : h ≡ written st
+  bytes = held-bytes h st (held-is-sound h st sounds)
+
+  -- so the file is judged
+  on-file : load room h f ≡ onFile room st (readFile f)
+  unfolding load onHolding
+  on-file = ap (onHolding room f) sounds
+
+  module _ (c : Six′) (e : c ≡ answerOf (checkFile f)) where
+    -- the file's own fault
+    pub load-faulty : (c .code ≡ 0 → ⊥) → load room h f ≡ refused (c .code) (c .line) (c .field)
+    unfolding checkFile
+    load-faulty n = on-file ∙ go (readFile f) e
+      where
+        go : (u : Read Sheet) → c ≡ answerOf (checked u) → onFile room st u ≡ refused (c .code) (c .line) (c .field)
+        go (fault d l x) q = unfold checked onFile in rw q
+        go (file s) q = absurd (unfold checked in n (ap (λ y. y .code) q))
+
+    module _ (k : c .code ≡ 0) where
+      -- what was read of the file
+      pub record Reads : Type 0 where
+        pub sheet : Sheet
+        pub reads : readFile f ≡ file sheet
+        pub counts : c ≡ answerOf (six 0 0 0 (count ins (sheet .1)) (count upd (sheet .1)) (count del (sheet .1)))
+
+      read : Reads
+      unfolding checkFile
+      read = go (readFile f) refl (file-codes f) e
+        where
+          go : (u : Read Sheet) → readFile f ≡ u → ReadIn u → c ≡ answerOf (checked u) → Reads
+          go (fault d l x) q i p = absurd (unfold checked among in (rw (sym (ap (λ y. y .code) p) ∙ k) at i))
+          go (file s) q i p = unfold checked in record { sheet = s; reads = q; counts = p }
+
+      -- it is a sound file
+      pub is-file : T (isFile (readFile f))
+      is-file = rw (read .reads) tt
+
+      -- so the room is asked for
+      on-start : load room h f ≡ fromStart room st (read .sheet)
+      unfolding onFile
+      on-start = on-file ∙ ap (onFile room st) (read .reads)
+
+      -- 13 for the start
+      pub load-short : room < length h → load room h f ≡ refused 13 0 0
+      unfolding fromStart fits
+      load-short s = on-start ∙ rw (lt-leb (length (written st)) room (omega (arith, ap length bytes)))
+
+      module _ (s : length h ≤ room) where
+        -- so the steps are made
+        on-steps : load room h f ≡ outcome (read .sheet .1) (run keyed (stepTests room) 2 st (read .sheet .1))
+        unfolding fromStart fits
+        on-steps = on-start ∙ ap (λ b. pick b (outcome (read .sheet .1) (run keyed (stepTests room) 2 st (read .sheet .1))) (refused 13 0 0)) (le-leb (length (written st)) room (omega (arith, ap length bytes)))
+
+        -- the holding as it stands is ready for them
+        pub load-ready : 8192 ≤ length a → room < 9223372036854775808 → length h < 9223372036854775808 → length f < 9223372036854775808
+            → Ready h f a room (record { count = r .count; size = length h })
+        load-ready p u v x =
+            let g = w .listed z in
+            let y : says h f a (r .count) ≡ st = g .says f in
+            record {
+              asc = rw y (state .asc);
+              fines = rw y (state .fines);
+              pass = rw y (state .pass);
+              counted = g .count ∙ ap length (sym y);
+              sized = ap length bytes ∙ ap (λ l. length (written l)) (sym y);
+              fits = s;
+              space = p;
+              roomShort = u;
+              heldShort = v;
+              fileShort = x;
+            }
+
+        module _ (b t u : List ℕ) (n : Ran) (y : Runs h f a b t u room (record { count = r .count; size = length h }) n) where
+          said : says h f a (r .count) ≡ st
+          said = w .listed z .says f
+
+          -- the run of the file's changes
+          ran : ranAs h f b n ≡ run keyed (stepTests room) 2 st (read .sheet .1)
+          ran = y .ended ∙ ap (λ l. run keyed (stepTests room) 2 l (changesOf (readFile f))) said ∙ ap (λ u. run keyed (stepTests room) 2 st (changesOf u)) (read .reads)
+
+          -- a step that is refused
+          pub load-stopped : (n .code ≡ 0 → ⊥) → load room h f ≡ refused (n .code) (n .line) 0
+          unfolding outcome
+          load-stopped m = on-steps ∙ rw (← ran, ne-eqb (n .code) 0 m)
+
+          module _ (m : n .code ≡ 0) where
+            kept : Kept h f a t u (record { count = r .count; size = length h }) n
+            kept = y .kept m
+
+            ready : Ready h f b room (n .state)
+            ready = y .ready m
+
+            -- all steps made
+            made : load room h f ≡ took (written (says h f b (n .state .count))) (c .inserts) (c .updates) (c .deletes)
+            unfolding outcome
+            made =
+                let d : ranAs h f b n ≡ done (says h f b (n .state .count)) = rw (eq-eqb (n .code) 0 m) in
+                on-steps ∙ ap (outcome (read .sheet .1)) (sym ran ∙ d) ∙ ap (λ x. took (written (says h f b (n .state .count))) (x .inserts) (x .updates) (x .deletes)) (sym (read .counts))
+
+            -- and how they are taken back
+            backed : stepsBack h f t u (n .steps) ≡ undo (after keyed) (back keyed) st (read .sheet .1)
+            backed = kept .backed ∙ ap (λ l. undo (after keyed) (back keyed) l (changesOf (readFile f))) said ∙ ap (λ u. undo (after keyed) (back keyed) st (changesOf u)) (read .reads)
+
+            file-sound : SoundFile f (read .sheet .0) (read .sheet .1)
+            file-sound = read-sound f (read .sheet .0) (read .sheet .1) (read .reads)
+
+            many : n .steps ≡ length (read .sheet .1)
+            many = sym (length-back h f t u (n .steps)) ∙ ap length backed ∙ length-undo (after keyed) (back keyed) st (read .sheet .1)
+
+            undoes : undoBytes h f ≡ undoText h f t u (n .steps) (n .end)
+            unfolding undoBytes undoHeld undoSheet backTexts undoText
+            undoes =
+                ap (undoHeld f) sounds ∙ ap (undoSheet st) (read .reads)
+                ∙ frame-copied f (read .sheet .0) (read .sheet .1) file-sound (n .end) (n .steps) (kept .rest) many (undo (after keyed) (back keyed) st (read .sheet .1))
+                ∙ ap (λ l. take (lineEnd f 0 + 2) f ++ (joined (changeTexts 1 l) ++ drop (n .end) f)) (sym backed)
+
+            -- what a file that is taken leaves
+            pub load-done : (x : Loaded) → x ≡ record { answer = c; count = n .state .count; steps = n .steps; end = n .end } → Loads h f b t u room x
+            load-done x q = rw q (record {
+              answered = read .counts ∙ ap (λ x. answerOf (six 0 0 0 (x .inserts) (x .updates) (x .deletes))) (sym (read .counts)) ∙ ap (λ y. answerOf (numbers y)) (sym made);
+              taken = λ v. record {
+                loaded = made;
+                held = ready-in h f b room (n .state) ready;
+                fits = omega (arith, ready .sized, ready .fits);
+                few = kept .few;
+                opens = frame-opens f (read .sheet .0) (read .sheet .1) file-sound (n .end) (n .steps) (kept .rest) many;
+                ends = frame-ends f (read .sheet .0) (read .sheet .1) file-sound (n .end) (n .steps) (kept .rest) many;
+                undoes = undoes;
+              };
+            })
+
+-- a refusal leaves nothing
+pub load-refused : (h f b t u : List ℕ) (room c l x : ℕ) (r : Loaded) → load room h f ≡ refused c l x → (c ≡ 0 → ⊥) → r .answer ≡ answerOf (six c l x 0 0 0) → Loads h f b t u room r
+load-refused h f b t u room c l x r e n q = record { answered = q ∙ ap (λ y. answerOf (numbers y)) (sym e); taken = λ z. absurd (n (sym (ap (λ y. y .code) q) ∙ z)) }

@@ -1,0 +1,30 @@
+-- `loader::undo::undo` meets its contract.
+use borrow.Author.Needs.{needs}
+use lib.ListN.{length}
+use Rattle.loader.proofs.UndoLaws.{undo-refused, undo-steps, undo-lent, undo-done, undo-long}
+use Rattle.loader.proofs.undo.undo.Statement.{statement}
+use Rattle.loader.proofs.undo.undo.Tie as tie
+
+pub undo-spec : {M : Type 1} → statement M
+undo-spec =
+    tie.close
+    (tie.spec
+    (λ c κs. search needs)  -- zeros-requires
+    (λ c. search needs)  -- slice-aggregate-load
+    (λ c. search needs)  -- slice-aggregate-load-2
+    (λ c. search needs)  -- slice-aggregate-load-3
+    (λ c κs. search needs)  -- load-requires
+    (λ c κs. search needs)  -- zeros-requires-2
+    (λ c. search needs)  -- same-length
+    (λ c. search needs)  -- same-length-2
+    (λ c. let g = c .before .before .before .before .before .before .before .before .before .before .before .before .before .before .before .before .before .before .before .before .before .before .args in undo-refused (g .holding .now) (g .file .now) _ _ _ (length (g .out .now)) (length (g .work .now)) _ (c .before .before .before .before .before .before .before .before .before .before .load .ensures) _ _ (c .before .before .before .before .if1 .taken) (c .before .before .zeros2 .ensures) (c .before .before .before .before .before .before .before .before .before .before .before .before .before .before .before .before .zeros .ensures))  -- returns
+    (λ c. search needs)  -- slice-aggregate-fill-undo
+    (λ c. search needs)  -- slice-aggregate-fill-undo-2
+    (λ c κs. let g = c .before .before .before .before .before .before .before .before .before .before .before .before .before .before .before .before .before .before .before .before .before .args in (undo-steps (g .holding .now) (g .file .now) _ _ _ (length (g .out .now)) (length (g .work .now)) _ (c .before .before .before .before .before .before .before .before .before .load .ensures) (c .before .before .before .if1 .left) (search needs), undo-lent (g .holding .now) (g .file .now) _ _ _ (length (g .out .now)) (length (g .work .now)) _ (c .before .before .before .before .before .before .before .before .before .load .ensures) (c .before .before .before .if1 .left) (search needs)))  -- fill-undo-requires
+    (λ c. search needs)  -- same-length-3
+    (λ c. search needs)  -- same-length-4
+    (λ c. let g = c .before .before .before .before .before .before .before .before .before .before .before .before .before .before .before .before .before .before .before .before .before .before .before .before .before .args in undo-done (g .holding .now) (g .file .now) _ _ _ (length (g .out .now)) (length (g .work .now)) _ (c .before .before .before .before .before .before .before .before .before .before .before .before .before .load .ensures) (c .before .before .before .before .before .before .before .if1 .left) _ (c .before .before .before .fill-undo .ensures .0) _ _ (c .before .before .before .fill-undo .ensures .1) (c .before .before .before .before .before .before .before .before .before .before .before .before .before .before .before .before .before .before .before .zeros .ensures) (c .if2 .taken))  -- returns-2
+    (λ c κs. search needs)  -- too-long-requires
+    (λ c. search needs)  -- same-length-5
+    (λ c. search needs)  -- same-length-6
+    (λ c. let g = c .before .before .before .before .before .before .before .before .before .before .before .before .before .before .before .before .before .before .before .before .before .before .before .before .before .before .args in undo-long (g .holding .now) (g .file .now) _ _ _ (length (g .out .now)) (length (g .work .now)) _ (c .before .before .before .before .before .before .before .before .before .before .before .before .before .before .load .ensures) (c .before .before .before .before .before .before .before .before .if1 .left) _ (c .before .before .before .before .fill-undo .ensures .0) _ _ (c .before .before .before .before .fill-undo .ensures .1) (c .before .before .before .before .before .before .before .before .before .before .before .before .before .before .before .before .before .before .before .before .zeros .ensures) (c .before .if2 .left) _ (c .too-long .ensures)))  -- returns-3

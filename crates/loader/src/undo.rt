@@ -1,0 +1,109 @@
+// Undo: a load into the work buffer's room, then the file that takes it back, or zeros.
+ghost use mathlib.Core.Path.{_≡_};
+ghost use Prim.Native.Nat.{_≤_};
+ghost use lib.Dec.{leb};
+ghost use lib.ListN.{length};
+ghost use Rattle.base.specs.Lists.{pick, zeros};
+ghost use Rattle.meaning.specs.Load.{six, filled};
+ghost use Rattle.text.specs.Front.{inFront};
+ghost use Rattle.volume.specs.Answer.{answerOf};
+ghost use Rattle.loader.specs.Loaded.{undoText, FitsUndo, Lent};
+ghost use Rattle.loader.specs.Outcome.{UndoOutcome};
+use crate::load::load;
+use text::lines::line_end;
+use text::put;
+use volume::check::Answer;
+use writer::room::back_fits;
+use writer::runs::write_back;
+
+// Whether the undo fits `room` bytes.
+fn undo_fits(holding: &[u8], file: &[u8], before: &[u64], n: usize, end: usize, room: usize) -> bool
+    requires { ⌜ Lent (now file) (now before) n end ⌝ }
+    ensures { λ r. ⌜ FitsUndo (now (holding .entry)) (now (file .entry)) (now (before .entry)) n end room r ⌝ }
+{
+    let frame = line_end(file, 0) + 2 + (file.len() - end);
+    if room < frame {
+        return false;
+    }
+    back_fits(holding, file, before, n, room - frame)
+}
+
+// The file's first line, the steps taken back, and what follows the body, each into what is still free of the output.
+fn put_undo(
+    out: &mut [u8],
+    holding: &[u8],
+    file: &[u8],
+    steps: &[u64],
+    before: &[u64],
+    n: usize,
+    end: usize,
+) -> usize
+    requires { ⌜ (n ≤ length (now steps)) × Lent (now file) (now before) n end × (length (undoText (now holding) (now file) (now steps) (now before) n end) ≤ length (now out)) ⌝ }
+    ensures { λ r. ⌜ (r ≡ length (undoText (now (holding .entry)) (now (file .entry)) (now (steps .entry)) (now (before .entry)) n end))
+        × (now (out .exit) ≡ inFront (undoText (now (holding .entry)) (now (file .entry)) (now (steps .entry)) (now (before .entry)) n end) (now (out .entry))) ⌝ }
+{
+    let start = line_end(file, 0) + 2;
+    let at = put::bytes(&mut *out, &file[0..start]);
+    let pos = at + write_back(&mut out[at..], holding, file, steps, before, n);
+    pos + put::bytes(&mut out[pos..], &file[end..])
+}
+
+// The undo, then zeros to the end of the output; or zeros alone, where it is too long.
+fn fill_undo(
+    out: &mut [u8],
+    holding: &[u8],
+    file: &[u8],
+    steps: &[u64],
+    before: &[u64],
+    n: usize,
+    end: usize,
+) -> bool
+    requires { ⌜ (n ≤ length (now steps)) × Lent (now file) (now before) n end ⌝ }
+    ensures { λ r. ⌜ (r ≡ leb (length (undoText (now (holding .entry)) (now (file .entry)) (now (steps .entry)) (now (before .entry)) n end)) (length (now (out .entry))))
+        × (now (out .exit) ≡ pick r (filled (length (now (out .entry))) (undoText (now (holding .entry)) (now (file .entry)) (now (steps .entry)) (now (before .entry)) n end)) (zeros (length (now (out .entry))))) ⌝ }
+{
+    if !undo_fits(holding, file, before, n, end, out.len()) {
+        put::zeros(&mut *out);
+        return false;
+    }
+    let used = put_undo(&mut *out, holding, file, steps, before, n, end);
+    put::zeros(&mut out[used..]);
+    true
+}
+
+// The undo is longer than its output.
+fn too_long() -> Answer
+    ensures { λ r. ⌜ r ≡ answerOf (six 17 0 0 0 0 0) ⌝ }
+{
+    Answer {
+        code: 17,
+        line: 0,
+        field: 0,
+        inserts: 0,
+        updates: 0,
+        deletes: 0,
+    }
+}
+
+// Writes the undo of a file: the six numbers, the undo or zeros in the output, and zeros in the work buffer.
+pub fn undo(holding: &[u8], file: &[u8], out: &mut [u8], work: &mut [u8]) -> Answer
+    ensures { λ r. ⌜ UndoOutcome (now (holding .entry)) (now (file .entry)) (length (now (out .entry))) (length (now (work .entry))) r (now (out .exit)) (now (work .exit)) ⌝ }
+{
+    let mut places = [0u64; 8192];
+    let mut steps = [0u64; 4096];
+    let mut before = [0u64; 4096];
+    let space = work.len();
+    put::zeros(&mut *work);
+    let loaded = load(holding, file, &mut places, &mut steps, &mut before, space);
+    let answer = loaded.answer;
+    if answer.code != 0 {
+        put::zeros(&mut *out);
+        return answer;
+    }
+    let n = loaded.steps;
+    let end = loaded.end;
+    if fill_undo(&mut *out, holding, file, &steps, &before, n, end) {
+        return answer;
+    }
+    too_long()
+}
