@@ -4,7 +4,7 @@ use mathlib.Core.List.{List}
 use Prim.Native.Nat.{ℕ}
 use Rattle.base.specs.Lists.{zeros}
 use Rattle.meaning.specs.Holding.{written}
-use Rattle.meaning.specs.Load.{filled, apply, undoFile}
+use Rattle.meaning.specs.Load.{filled, apply}
 use Rattle.laws.specs.Buffers.{one-outcome}
 use Rattle.laws.specs.Demand2.{Allowed, afterAll, allowed-done, taken-exactly, refused-zeros}
 use Rattle.volume.specs.Answer.{answerOf}
@@ -13,11 +13,6 @@ use Rattle.volume.specs.declared.check.Answer.{Answer}
 -- the promise: the numbers and the bytes are those of the definition
 abbrev pub Outcome : List ℕ → List ℕ → ℕ → Answer → List ℕ → Type 0
 Outcome old file room r out = (r ≡ answerOf (apply old file room .answer)) × (out ≡ apply old file room .output)
-
--- the same of undo, whose work buffer is lent for 13 and left all zeros
-abbrev pub UndoOutcome : List ℕ → List ℕ → ℕ → ℕ → Answer → List ℕ → List ℕ → Type 0
-UndoOutcome old file room space r out work =
-    (r ≡ answerOf (undoFile old file room space .answer)) × (out ≡ undoFile old file room space .output) × (work ≡ undoFile old file room space .work)
 
 -- a file is taken exactly if the holding is sound and every line and every step is allowed
 pub zero-exactly : (old file : List ℕ) (room : ℕ) (r : Answer) (out : List ℕ) → Outcome old file room r out
