@@ -171,7 +171,7 @@ module _ (s p : RefT (List ℕ)) (kind n : ℕ) (b : Bool) (e : b ≡ some? (num
       go none z = record { numbers = refl; part = w }
       go (some k) z = let y : _≡_ {A = Bool} true false = z in absurd (let x : _≡_ {A = ℕ} 0 1 = cc in omega arith)
 
-  module _ (f : b ≡ true) (r : Held) (a : List ℕ) (h : HeldIs (s .now) r a) where
+  module _ (f : b ≡ true) (r : Held) (a t : List ℕ) (h : HeldIs (s .now) r a t) where
     -- 14 for an unsound holding
     pub find-unsound : (r .line ≡ 0 → ⊥) → StandsIn p s 0 (0 - 0) → Handed (find (s .now) kind n) s p (14 ∷ r .line ∷ 0 ∷ [])
     unfolding find findKind findIn refusal

@@ -24,6 +24,7 @@ use Rattle.laws.specs.FileRefusals.{ReadIn, among, fileCodes, file-codes}
 use Rattle.laws.specs.SoundHolding.{held-is-sound}
 use Rattle.laws.specs.Checks.{held-bytes}
 use Rattle.places.specs.Places.{says}
+use Rattle.places.specs.Counts.{Counted}
 use Rattle.volume.specs.declared.check.Answer.{Answer as Six′}
 use Rattle.volume.specs.Answer.{answerOf}
 use Rattle.holding.specs.declared.read.Held.{Held}
@@ -41,15 +42,15 @@ abbrev pub Refuses : List ℕ → List ℕ → ℕ → ℕ → ℕ → ℕ → T
 Refuses h f room c l x = apply h f room ≡ record { answer = six c l x 0 0 0; output = zeros room }
 
 -- 14 for an unsound holding
-pub apply-unsound : (h f : List ℕ) (room : ℕ) (r : Held) (a : List ℕ) → HeldIs h r a → (r .line ≡ 0 → ⊥) → Refuses h f room 14 (r .line) 0
+pub apply-unsound : (h f : List ℕ) (room : ℕ) (r : Held) (a t : List ℕ) → HeldIs h r a t → (r .line ≡ 0 → ⊥) → Refuses h f room 14 (r .line) 0
 unfolding apply load
-apply-unsound h f room r a w n = go (readHolding h) (w .line)
+apply-unsound h f room r a t w n = go (readHolding h) (w .line)
   where
     go : (u : meaning.Held) → r .line ≡ faultOf u → applied room (onHolding room f u) ≡ record { answer = six 14 (r .line) 0 0 0 0; output = zeros room }
     go (sound st) e = absurd (unfold faultOf in n e)
     go (unsound m) e = unfold faultOf applied onHolding in rw e
 
-module _ (h f : List ℕ) (room : ℕ) (r : Held) (a : List ℕ) (w : HeldIs h r a) (z : r .line ≡ 0) where
+module _ (h f : List ℕ) (room : ℕ) (r : Held) (a t : List ℕ) (w : HeldIs h r a t) (z : r .line ≡ 0) where
   -- the holding's records
   abbrev st : List Rec
   st = recordsOf (readHolding h)
@@ -133,7 +134,13 @@ module _ (h f : List ℕ) (room : ℕ) (r : Held) (a : List ℕ) (w : HeldIs h r
               fileShort = x;
             }
 
-        module _ (b : List ℕ) (n : Ran) (y : Runs h f a b room (record { count = r .count; size = length h }) n) where
+        -- and counted
+        pub apply-counted : 8192 ≤ length t → Counted h f a t (r .count)
+        apply-counted p =
+            let y : says h f a (r .count) ≡ st = w .listed z .says f in
+            record { space = p; told = rw y (w .told z) }
+
+        module _ (b d : List ℕ) (n : Ran) (y : Runs h f a b d room (record { count = r .count; size = length h }) n) where
           -- the run of the file's changes
           ran : ranAs h f b n ≡ run keyed (stepTests room) 2 st (read .sheet .1)
           ran = y .ended ∙ ap (λ l. run keyed (stepTests room) 2 l (changesOf (readFile f))) (w .listed z .says f) ∙ ap (λ u. run keyed (stepTests room) 2 st (changesOf u)) (read .reads)

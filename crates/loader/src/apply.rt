@@ -44,7 +44,8 @@ pub fn apply(holding: &[u8], file: &[u8], out: &mut [u8]) -> Answer
     ensures { λ r. ⌜ Outcome (now (holding .entry)) (now (file .entry)) (length (now (out .entry))) r (now (out .exit)) ⌝ }
 {
     let mut places = [0u64; 8192];
-    let held = read_holding(holding, &mut places);
+    let mut counts = [0u64; 8192];
+    let held = read_holding(holding, &mut places, &mut counts);
     if held.line != 0 {
         return refuse(&mut *out, 14, held.line, 0);
     }
@@ -61,7 +62,7 @@ pub fn apply(holding: &[u8], file: &[u8], out: &mut [u8]) -> Answer
         count: held.count,
         size,
     };
-    let ran = run(holding, file, &mut places, start, room);
+    let ran = run(holding, file, &mut places, &mut counts, start, room);
     if ran.code != 0 {
         return refuse(&mut *out, ran.code, ran.line, 0);
     }

@@ -35,6 +35,7 @@ use Rattle.text.proofs.LineLaws.{lines-at, lines-end}
 use Rattle.layout.specs.declared.kinds.Kind as code
 use Rattle.layout.specs.Meant.{kindMeant}
 use Rattle.places.specs.Places.{known, recOf, lineAt, says}
+use Rattle.places.specs.Counts.{Counted}
 use Rattle.places.proofs.EntryLaws.{line-here}
 use Rattle.places.proofs.LineLaws.{rec-known}
 use Rattle.volume.specs.declared.lines.Line as read
@@ -97,18 +98,19 @@ body-of f t (file s) e =
 -- ---- the walk
 
 -- what is left to run from `at` on, at that line, ends as the whole run does
-pub record Going (h f a₀ : List ℕ) (room : ℕ) (s₀ : State) (a : List ℕ) (s : State) (at line : ℕ) : Type 0 where
+pub record Going (h f a₀ : List ℕ) (room : ℕ) (s₀ : State) (a t : List ℕ) (s : State) (at line : ℕ) : Type 0 where
   pub left : Theory.run keyed (stepTests room) line (says h f a (s .count)) (bodyFrom (linesOf (drop at f))) ≡ Theory.run keyed (stepTests room) 2 (says h f a₀ (s₀ .count)) (changesOf (readFile f))
   pub ready : Ready h f a room s
+  pub tallied : Counted h f a t (s .count)
   pub fines : T (all fineC (bodyFrom (linesOf (drop at f))))
   pub within : at ≤ length f + 2
   pub lined : line ≤ at + 2
 
 -- the walk starts after the header
-pub go-start : (h f a : List ℕ) (room : ℕ) (s : State) (e : ℕ) → Ready h f a room s → T (isFile (readFile f)) → e ≡ lineEnd f 0 → e ≤ length f → Going h f a room s a s (e + 2) 2
-go-start h f a room s e y t q m =
+pub go-start : (h f a c : List ℕ) (room : ℕ) (s : State) (e : ℕ) → Ready h f a room s → Counted h f a c (s .count) → T (isFile (readFile f)) → e ≡ lineEnd f 0 → e ≤ length f → Going h f a room s a c s (e + 2) 2
+go-start h f a c room s e y k t q m =
     let b = body-of f t (readFile f) refl in
-    record { left = ap (Theory.run keyed (stepTests room) 2 (says h f a (s .count))) (rest ∙ b .0); ready = y; fines = subst (λ cs. T (all fineC cs)) (sym (rest ∙ b .0)) (b .1); within = omega arith; lined = omega arith }
+    record { left = ap (Theory.run keyed (stepTests room) 2 (says h f a (s .count))) (rest ∙ b .0); ready = y; tallied = k; fines = subst (λ cs. T (all fineC cs)) (sym (rest ∙ b .0)) (b .1); within = omega arith; lined = omega arith }
   where
     full : 0 < length f
     full = elim (decLe (length f) 0) [ yes z ↦ absurd (body-of f t (readFile f) refl .2 (lines-end f 0 z)) | no z ↦ lt-of-not-le z ]
@@ -118,15 +120,15 @@ go-start h f a room s e y t q m =
         let i : 0 + (lineLen (drop 0 f) + 2) ≡ e + 2 = omega arith in
         sym (ap (λ ls. bodyFrom (tailOf ls)) (lines-at f 0 full) ∙ ap (λ z. bodyFrom (linesOf (drop z f))) i)
 
-module _ (h f a₀ : List ℕ) (room : ℕ) (s₀ : State) (a : List ℕ) (s : State) (at line : ℕ) (g : Going h f a₀ room s₀ a s at line) where
-  ended : bodyFrom (linesOf (drop at f)) ≡ [] → Runs h f a₀ a room s₀ (record { code = 0; line = 0; state = s })
-  ended e = record { ended = run-nil ∙ ap (Theory.run keyed (stepTests room) line (says h f a (s .count))) (sym e) ∙ g .left; ready = λ z. g .ready }
+module _ (h f a₀ : List ℕ) (room : ℕ) (s₀ : State) (a t : List ℕ) (s : State) (at line : ℕ) (g : Going h f a₀ room s₀ a t s at line) where
+  ended : bodyFrom (linesOf (drop at f)) ≡ [] → Runs h f a₀ a t room s₀ (record { code = 0; line = 0; state = s })
+  ended e = record { ended = run-nil ∙ ap (Theory.run keyed (stepTests room) line (says h f a (s .count))) (sym e) ∙ g .left; ready = λ z. g .ready; tallied = λ z. g .tallied }
     where
       run-nil : done (says h f a (s .count)) ≡ Theory.run keyed (stepTests room) line (says h f a (s .count)) []
       run-nil = unfold Theory.run in refl
 
   -- where no line is left the run is done
-  pub go-done : length f ≤ at → Runs h f a₀ a room s₀ (record { code = 0; line = 0; state = s })
+  pub go-done : length f ≤ at → Runs h f a₀ a t room s₀ (record { code = 0; line = 0; state = s })
   unfolding bodyFrom
   go-done m = ended (ap bodyFrom (lines-end f at m))
 
@@ -139,7 +141,7 @@ module _ (h f a₀ : List ℕ) (room : ℕ) (s₀ : State) (a : List ℕ) (s : S
     body-at = ap bodyFrom (lines-at f at m) ∙ ap (λ z. pick z (changeAt f at ∷ bodyFrom (linesOf (drop (at + (lineLen (drop at f) + 2)) f))) []) held-here
 
     -- where the metadata stands it is done too
-    pub go-last : b ≡ false → Runs h f a₀ a room s₀ (record { code = 0; line = 0; state = s })
+    pub go-last : b ≡ false → Runs h f a₀ a t room s₀ (record { code = 0; line = 0; state = s })
     go-last u = ended (body-at ∙ rw u)
 
     module _ (u : b ≡ true) where
@@ -153,7 +155,7 @@ module _ (h f a₀ : List ℕ) (room : ℕ) (s₀ : State) (a : List ℕ) (s : S
       pub go-carries : changeMeant (l .change) ≡ changeAt f at .op → Carries f at l
       go-carries c = record { inside = omega arith; sound = and-l (fineC (changeAt f at)) _ fines-here; kinded = k; changed = c }
 
-      module _ (b′ : List ℕ) (r : Stepped) (w : Steps h f a b′ room (changeAt f at) s r) where
+      module _ (b′ t′ : List ℕ) (r : Stepped) (w : Steps h f a b′ t′ room (changeAt f at) s r) where
         run-here : on (judge keyed (stepTests room) (says h f a (s .count)) (changeAt f at)) line
             (Theory.run keyed (stepTests room) (suc line) (after keyed (says h f a (s .count)) (changeAt f at)) (bodyFrom (linesOf (drop (at + (lineLen (drop at f) + 2)) f))))
             ≡ Theory.run keyed (stepTests room) 2 (says h f a₀ (s₀ .count)) (changesOf (readFile f))
@@ -161,15 +163,15 @@ module _ (h f a₀ : List ℕ) (room : ℕ) (s₀ : State) (a : List ℕ) (s : S
         run-here = sym (ap (Theory.run keyed (stepTests room) line (says h f a (s .count))) body-here) ∙ g .left
 
         -- a step that is refused ends the run at its line
-        pub go-stop : (r .code ≡ 0 → ⊥) → Runs h f a₀ b′ room s₀ (record { code = r .code; line = line; state = s })
-        go-stop n = record { ended = rw (ne-eqb (r .code) 0 n) (sym (halt (judge keyed (stepTests room) (says h f a (s .count)) (changeAt f at)) (w .coded) _) ∙ run-here); ready = λ z. absurd (n z) }
+        pub go-stop : (r .code ≡ 0 → ⊥) → Runs h f a₀ b′ t′ room s₀ (record { code = r .code; line = line; state = s })
+        go-stop n = record { ended = rw (ne-eqb (r .code) 0 n) (sym (halt (judge keyed (stepTests room) (says h f a (s .count)) (changeAt f at)) (w .coded) _) ∙ run-here); ready = λ z. absurd (n z); tallied = λ z. absurd (n z) }
           where
             halt : (o : Option ℕ) → r .code ≡ codeNumber o → (x : Out (List Rec)) → on o line x ≡ stop line (r .code)
             halt none e x = absurd (n e)
             halt (some c) e x = unfold on in ap (stop line) (sym e)
 
         -- one that is made leaves the lines after it
-        pub go-turn : (e : ℕ) → r .code ≡ 0 → e ≡ lineEnd f at → e ≤ length f → Going h f a₀ room s₀ b′ (r .state) (e + 2) (line + 1)
+        pub go-turn : (e : ℕ) → r .code ≡ 0 → e ≡ lineEnd f at → e ≤ length f → Going h f a₀ room s₀ b′ t′ (r .state) (e + 2) (line + 1)
         unfolding on
         go-turn e z q m′ =
             let x = w .left z in
@@ -178,6 +180,7 @@ module _ (h f a₀ : List ℕ) (room : ℕ) (s₀ : State) (a : List ℕ) (s : S
             record {
               left = rw (add-one line, x .said, ← i) (rw j at run-here);
               ready = x .ready;
+              tallied = x .tallied;
               fines = rw (← i) (and-r (fineC (changeAt f at)) _ fines-here);
               within = omega arith;
               lined = omega (arith, g .lined);

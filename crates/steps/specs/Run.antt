@@ -17,6 +17,7 @@ use Rattle.meaning.specs.Holding.{isHeld}
 use Rattle.meaning.specs.File.{Sheet, readFile}
 use Rattle.meaning.specs.Load.{stepTests}
 use Rattle.places.specs.Places.{recOf, says}
+use Rattle.places.specs.Counts.{Counted}
 use Rattle.steps.specs.declared.judge.State.{State}
 use Rattle.steps.specs.declared.run.Ran.{Ran}
 use Rattle.steps.specs.Ready.{change, Ready}
@@ -40,7 +41,8 @@ bodyFrom (l ∷ ls) = pick (isHeld (role (recOf (l .text) .kind))) (change (opOf
 abbrev pub ranAs : List ℕ → List ℕ → List ℕ → Ran → Out (List Rec)
 ranAs h f b r = pick (eqb (r .code) 0) (done (says h f b (r .state .count))) (stop (r .line) (r .code))
 
--- the run ends as the run of the file's changes from line 2 on does, and where nothing is refused it leaves a state that is ready for more
-pub record Runs (h f a b : List ℕ) (room : ℕ) (s : State) (r : Ran) : Type 0 where
+-- the run ends as the run of the file's changes from line 2 on does, and where nothing is refused it leaves a state that is ready for more, and counted
+pub record Runs (h f a b t : List ℕ) (room : ℕ) (s : State) (r : Ran) : Type 0 where
   pub ended : ranAs h f b r ≡ Theory.run keyed (stepTests room) 2 (says h f a (s .count)) (changesOf (readFile f))
   pub ready : r .code ≡ 0 → Ready h f b room (r .state)
+  pub tallied : r .code ≡ 0 → Counted h f b t (r .state .count)

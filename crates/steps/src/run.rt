@@ -8,6 +8,7 @@ ghost use Rattle.meaning.specs.Holding.{isHeld};
 ghost use Rattle.meaning.specs.File.{readFile};
 ghost use Rattle.layout.specs.Meant.{kindMeant};
 ghost use Rattle.volume.specs.Meant.{changeMeant};
+ghost use Rattle.places.specs.Counts.{Counted};
 ghost use Rattle.steps.specs.Ready.{Ready, changeAt};
 ghost use Rattle.steps.specs.Run.{isFile, Runs};
 use crate::judge::State;
@@ -53,9 +54,9 @@ fn line_at(f: &[u8], at: usize) -> Line
 }
 
 // The steps of a sound file, body line by body line; its header stands on line 1.
-pub fn run(h: &[u8], f: &[u8], a: &mut [u64], s: State, room: usize) -> Ran
-    requires { ⌜ Ready (now h) (now f) (now a) room s × T (isFile (readFile (now f))) ⌝ }
-    ensures { λ r. ⌜ Runs (now (h .entry)) (now (f .entry)) (now (a .entry)) (now (a .exit)) room s r ⌝ }
+pub fn run(h: &[u8], f: &[u8], a: &mut [u64], counts: &mut [u64], s: State, room: usize) -> Ran
+    requires { ⌜ Ready (now h) (now f) (now a) room s × Counted (now h) (now f) (now a) (now counts) (s .count) × T (isFile (readFile (now f))) ⌝ }
+    ensures { λ r. ⌜ Runs (now (h .entry)) (now (f .entry)) (now (a .entry)) (now (a .exit)) (now (counts .exit)) room s r ⌝ }
 {
     let mut at = line_end(f, 0) + 2;
     let mut line = 2;
@@ -70,7 +71,7 @@ pub fn run(h: &[u8], f: &[u8], a: &mut [u64], s: State, room: usize) -> Ran
                 state,
             };
         }
-        let stepped = step(h, f, at, read, &mut *a, state, room);
+        let stepped = step(h, f, at, read, &mut *a, &mut *counts, state, room);
         let code = stepped.code;
         if code != 0 {
             return Ran { code, line, state };
