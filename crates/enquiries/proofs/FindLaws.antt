@@ -154,8 +154,8 @@ no-kind kind b e f = go (numberedAmong enquiries kind) (sym e ∙ f)
     go (some k) z = let y : _≡_ {A = Bool} true false = z in absurd (let x : _≡_ {A = ℕ} 0 1 = cc in omega arith)
 
 -- a fault that was read is that of an unsound holding
-pub unsounds : (h : List ℕ) (r : Held) (a : List ℕ) → HeldIs h r a → (r .line ≡ 0 → ⊥) → readHolding h ≡ unsound (r .line)
-unsounds h r a w z = go (readHolding h) (w .line)
+pub unsounds : (h : List ℕ) (r : Held) (a t : List ℕ) → HeldIs h r a t → (r .line ≡ 0 → ⊥) → readHolding h ≡ unsound (r .line)
+unsounds h r a t w z = go (readHolding h) (w .line)
   where
     go : (u : meaning.Held) → r .line ≡ faultOf u → u ≡ unsound (r .line)
     go (sound st) q = absurd (unfold faultOf in z q)
@@ -241,8 +241,8 @@ pub ruleset held = (needs, held-few, held-space, held-asc, held-in, held-absent,
 -- ---- find
 
 -- what is read of a sound holding serves an enquiry
-pub enquired : (h a : List ℕ) (r : Held) (kind : ℕ) (b : Bool) → b ≡ some? (numberedAmong enquiries kind) → b ≡ true → HeldIs h r a → r .line ≡ 0 → 8192 ≤ length a → Enquired h a r kind
-enquired h a r kind b e t w z l = record { asked = sym e ∙ t; read = w; sound = z; space = l }
+pub enquired : (h a c : List ℕ) (r : Held) (kind : ℕ) (b : Bool) → b ≡ some? (numberedAmong enquiries kind) → b ≡ true → HeldIs h r a c → r .line ≡ 0 → 8192 ≤ length a → Enquired h a r kind
+enquired h a c r kind b e t w z l = record { asked = sym e ∙ t; counts = c; read = w; sound = z; space = l }
 
 module _ (s p : RefT (List ℕ)) (kind n : ℕ) (x : List ℕ) (b : Bool) (e : b ≡ some? (numberedAmong enquiries kind)) where
   -- 15 for a kind that can't be asked for
@@ -251,15 +251,15 @@ module _ (s p : RefT (List ℕ)) (kind n : ℕ) (x : List ℕ) (b : Bool) (e : b
   find-other f w = rw (no-kind kind b e f) w
 
   -- 14 for an unsound holding
-  pub find-unsound : (r : Held) (a : List ℕ) → b ≡ true → HeldIs (s .now) r a → (r .line ≡ 0 → ⊥) → Handed (refusal 14 (r .line) 0) s p x → Handed (find (s .now) kind n) s p x
+  pub find-unsound : (r : Held) (a t : List ℕ) → b ≡ true → HeldIs (s .now) r a t → (r .line ≡ 0 → ⊥) → Handed (refusal 14 (r .line) 0) s p x → Handed (find (s .now) kind n) s p x
   unfolding find findKind findIn
-  find-unsound r a f h z w = rw (asked-is kind (sym e ∙ f) .known, unsounds (s .now) r a h z) w
+  find-unsound r a t f h z w = rw (asked-is kind (sym e ∙ f) .known, unsounds (s .now) r a t h z) w
 
   -- else the held line
-  pub find-held : (r : Held) (a : List ℕ) → b ≡ true → HeldIs (s .now) r a → r .line ≡ 0 → Handed (heldPart (s .now) (heldAt (kind ∷ n ∷ []) 0 (recordsOf (readHolding (s .now))))) s p x
+  pub find-held : (r : Held) (a t : List ℕ) → b ≡ true → HeldIs (s .now) r a t → r .line ≡ 0 → Handed (heldPart (s .now) (heldAt (kind ∷ n ∷ []) 0 (recordsOf (readHolding (s .now))))) s p x
       → Handed (find (s .now) kind n) s p x
   unfolding find findKind findIn
-  find-held r a f h z w = let k = asked-is kind (sym e ∙ f) in rw (k .known, held-sound (s .now) (sym (h .line) ∙ z), ← (k .number)) w
+  find-held r a t f h z w = let k = asked-is kind (sym e ∙ f) in rw (k .known, held-sound (s .now) (sym (h .line) ∙ z), ← (k .number)) w
 
 pub ruleset finds = (needs, not-true, not-false, find-other, find-unsound, find-held)
 

@@ -202,11 +202,11 @@ module _ (s t p : RefT (List ℕ)) (kind n : ℕ) (x : List ℕ) where
     force-other f w = of-first _ _ (ap (inForceKind (s .now) (t .now) n) (no-kind kind b e f)) refl w
 
     -- 14 for an unsound holding
-    pub force-unsound : (r : Held) (a : List ℕ) → b ≡ true → HeldIs (s .now) r a → (r .line ≡ 0 → ⊥) → Handed (refusal 14 (r .line) 0) s p x → HandedOf (inForce (s .now) (t .now) kind n) s t p x
+    pub force-unsound : (r : Held) (a c : List ℕ) → b ≡ true → HeldIs (s .now) r a c → (r .line ≡ 0 → ⊥) → Handed (refusal 14 (r .line) 0) s p x → HandedOf (inForce (s .now) (t .now) kind n) s t p x
     unfolding inForce inForceKind inForceHeld refusal
-    force-unsound r a f h z w = of-first _ _ (rw (asked-is kind (sym e ∙ f) .known, unsounds (s .now) r a h z)) refl w
+    force-unsound r a c f h z w = of-first _ _ (rw (asked-is kind (sym e ∙ f) .known, unsounds (s .now) r a c h z)) refl w
 
-  module _ (b : Bool) (e : b ≡ some? (numberedAmong enquiries kind)) (u : b ≡ true) (r : Held) (a : List ℕ) (h : HeldIs (s .now) r a) (v : r .line ≡ 0) where
+  module _ (b : Bool) (e : b ≡ some? (numberedAmong enquiries kind)) (u : b ≡ true) (r : Held) (a i : List ℕ) (h : HeldIs (s .now) r a i) (v : r .line ≡ 0) where
     known : Asked kind
     known = asked-is kind (sym e ∙ u)
 

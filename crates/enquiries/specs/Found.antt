@@ -20,6 +20,7 @@ lineFound k st = pick (some? (get numbered k st)) (suc (rank numbered k st)) 0
 -- the kind is one that an enquiry may name; the holding was read, and is sound; the array has room for every holding
 pub record Enquired (h a : List ℕ) (r : Held) (kind : ℕ) : Type 0 where
   pub asked : some? (numberedAmong enquiries kind) ≡ true
-  pub read : HeldIs h r a
+  pub counts : List ℕ
+  pub read : HeldIs h r a counts
   pub sound : r .line ≡ 0
   pub space : 8192 ≤ length a

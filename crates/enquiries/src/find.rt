@@ -84,7 +84,8 @@ pub fn find<'a>(holding: &'a [u8], kind: u64, number: u64, answer: &mut [u64; 3]
         return refuse(holding, 15, 0, 0, &mut *answer);
     }
     let mut starts = [0u64; 8192];
-    let held = read_holding(holding, &mut starts);
+    let mut counts = [0u64; 8192];
+    let held = read_holding(holding, &mut starts, &mut counts);
     if held.line != 0 {
         return refuse(holding, 14, held.line as u64, 0, &mut *answer);
     }

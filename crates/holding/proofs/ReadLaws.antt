@@ -10,7 +10,8 @@ use borrow.Author.Needs.{needs}
 use borrow.Author.Tests.{not-true, not-false}
 use lib.Dec.{T, leb}
 use lib.ListN.{length, getD, take, drop, drop-of-length-le, take-append-drop}
-use Rattle.base.specs.Lists.{all, pick}
+use lib.Seq.{length-take-le, take-add, take-all}
+use Rattle.base.specs.Lists.{all, pick, zeros}
 use Rattle.base.specs.Tests.{and-l}
 use Rattle.base.specs.ListLaws.{append-all}
 use Rattle.theory.specs.Store.{Asc}
@@ -23,11 +24,16 @@ use Rattle.meaning.specs.Holding.{sound, unsound, heldLine, addRec, above, onHe
 use Rattle.meaning.specs.Load.{heldNumbers, checkHolding}
 use Rattle.laws.specs.Body.{fine}
 use Rattle.laws.specs.HoldingReadBack.{Scanned, Reads, scanned}
+use Rattle.keys.specs.Numbers.{refNumbers}
+use Rattle.keys.specs.KeyLaws.{meets-agree}
 use Rattle.places.specs.Places.{entry, says}
+use Rattle.places.specs.Counts.{times, refers, tally, byKey, moved, Open, Notes}
 use Rattle.places.proofs.SaysLaws.{length-says, says-at}
+use Rattle.places.proofs.ReferenceLaws.{asc-told}
+use Rattle.places.proofs.CountLaws.{refs-few, tally-few, tally-more, by-cong, by-nothing, count-all, open-up, has-all}
 use Rattle.holding.specs.declared.read.Held.{Held}
 use Rattle.holding.specs.declared.check.Verdict.{Verdict}
-use Rattle.holding.specs.Read.{faultOf, recordsOf, Listed, ReadAs, HeldIs}
+use Rattle.holding.specs.Read.{faultOf, recordsOf, Listed, ReadAs, CountsAs, HeldIs}
 use Rattle.holding.specs.Verdict.{verdictOf}
 
 -- ---- references, i records on
@@ -43,26 +49,69 @@ module _ (h a : List ℕ) (n i : ℕ) (l : n ≤ length a) (g : i < n) where
       let d : T (all fine (drop i (says h h a n))) = append-all fine (take i (says h h a n)) (drop i (says h h a n)) (rw (take-append-drop i (says h h a n)) t) .1 in
       and-l (fine (entry h h (getD a i 0))) _ (subst (λ s. T (all fine s)) left-at d)
 
-  module _ (x : ℕ) (w : faultOf (referring (says h h a n) (i + 1) (drop i (says h h a n))) ≡ x) (b : Bool) (e : b ≡ meets keyed refsOf (says h h a n) (entry h h (getD a i 0))) where
-    here : faultOf (pick b (referring (says h h a n) (suc (i + 1)) (drop (i + 1) (says h h a n))) (unsound (i + 1))) ≡ x
-    unfolding referring
-    here = rw (left-at, ← e) at w
+-- the records from i on are left, and the references of those before it are counted
+pub record Counting (h a : List ℕ) (n : ℕ) (t : List ℕ) (i : ℕ) : Type 0 where
+  pub left : faultOf (referring (says h h a n) (i + 1) (drop i (says h h a n))) ≡ faultOf (referring (says h h a n) 1 (says h h a n))
+  pub told : take n t ≡ byKey (tally (take i (says h h a n))) (says h h a n)
+  pub within : i ≤ n
 
-    -- one that is not met is the lowest
-    pub unmet-stop : b ≡ false → i + 1 ≡ x
-    unfolding faultOf
-    unmet-stop f = rw f at here
+-- at first nothing is counted
+pub unmet-start : (h a : List ℕ) (n : ℕ) (t : List ℕ) → n ≤ length a → take n t ≡ zeros n → Counting h a n t 0
+unmet-start h a n t l e = record { left = refl; told = e ∙ sym (by-nothing (says h h a n) ∙ ap zeros (length-says h h a n l)); within = omega arith }
 
-    -- one that is met leaves those after it
-    pub unmet-turn : b ≡ true → faultOf (referring (says h h a n) (i + 1 + 1) (drop (i + 1) (says h h a n))) ≡ x
-    unmet-turn t = rw (add-one (i + 1)) (rw t at here)
+module _ (h a : List ℕ) (n : ℕ) (t : List ℕ) (i : ℕ) (w : Counting h a n t i) (l : n ≤ length a) where
+  module _ (m : n ≤ 8192) (g : i < n) (y : Asc keyed (says h h a n)) (p : T (all fine (says h h a n))) where
+    -- one record's references more can be counted
+    pub unmet-open : Open true (says h h a n) t (refNumbers (entry h h (getD a i 0)))
+    unmet-open =
+        open-up (says h h a n) (asc-told (says h h a n) y p) n (sym (length-says h h a n l)) (refNumbers (entry h h (getD a i 0))) (tally (take i (says h h a n))) t (w .told)
+        (λ k. omega (arith, tally-few (take i (says h h a n)) k, length-take-le i (says h h a n) (omega (arith, length-says h h a n l)), refs-few (entry h h (getD a i 0))))
 
--- at the end all are met
-pub unmet-done : (h a : List ℕ) (n i x : ℕ) → n ≤ length a → faultOf (referring (says h h a n) (i + 1) (drop i (says h h a n))) ≡ x → n ≤ i → 0 ≡ x
-unfolding referring faultOf
-unmet-done h a n i x l w g = rw (drop-of-length-le (says h h a n) {i = i} (omega (arith, length-says h h a n l))) at w
+    module _ (u : List ℕ) (b : Bool) (q : Notes true (says h h a n) (entry h h (getD a i 0)) t u b) where
+      here : faultOf (pick b (referring (says h h a n) (suc (i + 1)) (drop (i + 1) (says h h a n))) (unsound (i + 1))) ≡ faultOf (referring (says h h a n) 1 (says h h a n))
+      unfolding referring
+      here =
+          let e : b ≡ meets keyed refsOf (says h h a n) (entry h h (getD a i 0)) = q .met ∙ meets-agree (says h h a n) p (entry h h (getD a i 0)) (fine-at h a n i l g p) in
+          rw (left-at h a n i l g, ← e) at (w .left)
 
-pub ruleset unmets = (needs, not-true, not-false, fine-at, unmet-stop, unmet-turn, unmet-done)
+      -- one that is not met is the lowest
+      pub unmet-stop : b ≡ false → CountsAs h a n u (i + 1)
+      unfolding faultOf
+      unmet-stop f = record { line = rw f at here; told = λ z. absurd (omega (arith, z)) }
+
+      -- one that is met is counted, and leaves those after it
+      pub unmet-turn : b ≡ true → Counting h a n u (i + 1)
+      unmet-turn c = record { left = rw (add-one (i + 1)) (rw c at here); told = counted; within = omega arith }
+        where
+          st : List Rec
+          st = says h h a n
+
+          x : Rec
+          x = entry h h (getD a i 0)
+
+          more : take (i + 1) st ≡ take i st ++ (x ∷ [])
+          more =
+              let e : drop i st ≡ x ∷ drop (i + 1) st = left-at h a n i l g in
+              take-add i 1 st ∙ rw e
+
+          counted : take n u ≡ byKey (tally (take (i + 1) st)) st
+          counted =
+              ap (take n) (q .noted c)
+              ∙ count-all st (asc-told st y p) n (sym (length-says h h a n l)) true (refNumbers x) (has-all st x (subst T (sym (sym (q .met) ∙ c)) tt)) (tally (take i st)) t (w .told)
+              ∙ by-cong (λ k. moved true (times k (refNumbers x)) (tally (take i st) k)) (tally (take (i + 1) st)) (λ k. one k) st
+            where
+              one : (k : List ℕ) → moved true (times k (refNumbers x)) (tally (take i st) k) ≡ tally (take (i + 1) st) k
+              one k = unfold moved refers in sym (ap (λ s. tally s k) more ∙ tally-more (take i st) x k)
+
+  -- at the end all are met
+  pub unmet-done : n ≤ i → CountsAs h a n t 0
+  unfolding referring faultOf
+  unmet-done g =
+      let e : drop i (says h h a n) ≡ [] = drop-of-length-le (says h h a n) {i = i} (omega (arith, length-says h h a n l)) in
+      let f : take i (says h h a n) ≡ says h h a n = take-all i (says h h a n) (omega (arith, length-says h h a n l)) in
+      record { line = rw e at (w .left); told = λ z. w .told ∙ ap (λ s. byKey (tally s) (says h h a n)) f }
+
+pub ruleset unmets = (needs, not-true, not-false, asc-told, fine-at, unmet-start, unmet-open, unmet-stop, unmet-turn, unmet-done)
 
 -- ---- a faulty line is never 0
 
@@ -129,13 +178,13 @@ held-sound h z = sound-told (readHolding h) (read-counted h) z
 
 module _ (h a : List ℕ) (r : Held) (s : ReadAs h (scan 1 none (linesOf h)) r a) where
   -- a fault of the first pass is the holding's
-  pub read-faulty : (r .line ≡ 0 → ⊥) → HeldIs h r a
+  pub read-faulty : (t : List ℕ) → (r .line ≡ 0 → ⊥) → HeldIs h r a t
   unfolding readHolding
-  read-faulty m = go (scan 1 none (linesOf h)) (s .line)
+  read-faulty t m = record { line = go (scan 1 none (linesOf h)) (s .line); listed = λ z. absurd (m z); told = λ z. absurd (m z) }
     where
-      go : (w : meaning.Held) → r .line ≡ faultOf w → ReadAs h (onScan w) r a
+      go : (w : meaning.Held) → r .line ≡ faultOf w → r .line ≡ faultOf (onScan w)
       go (sound st) e = absurd (m (unfold faultOf in e))
-      go (unsound n) e = unfold onScan in (record { line = e; listed = λ z. absurd (m z) })
+      go (unsound n) e = unfold onScan in e
 
   module _ (z : r .line ≡ 0) where
     scan-sound : scan 1 none (linesOf h) ≡ sound (recordsOf (scan 1 none (linesOf h)))
@@ -151,6 +200,10 @@ module _ (h a : List ℕ) (r : Held) (s : ReadAs h (scan 1 none (linesOf h)) r a
     pub read-room : 8192 ≤ length a → r .count ≤ length a
     read-room l = omega (arith, s .listed z .few)
 
+    -- and no more than a holding may have
+    pub read-few : r .count ≤ 8192
+    read-few = s .listed z .few
+
     -- the records are in order
     pub read-asc : Asc keyed (says h h a (r .count))
     read-asc = reads .asc
@@ -160,22 +213,33 @@ module _ (h a : List ℕ) (r : Held) (s : ReadAs h (scan 1 none (linesOf h)) r a
     read-fines = reads .fines
 
     -- the second pass says the rest
-    pub read-told : (x : ℕ) → x ≡ faultOf (referring (says h h a (r .count)) 1 (says h h a (r .count))) → HeldIs h (record { line = x; count = r .count }) a
+    pub read-told : (t : List ℕ) (x : ℕ) → CountsAs h a (r .count) t x → HeldIs h (record { line = x; count = r .count }) a t
     unfolding readHolding onScan
-    read-told x e = rw (scan-sound, ← says-is) (record { line = e; listed = λ y. kept (referring st 1 st) (refer-is st 0 st) (sym e ∙ y) })
+    read-told t x e = record {
+      line = e .line ∙ ap faultOf (sym same);
+      listed = λ y. subst (λ w. Listed h a (r .count) (recordsOf w)) (sym same) (kept (referring st 1 st) (refer-is st 0 st) (sym (e .line) ∙ y));
+      told = λ y. subst (λ w. take (r .count) t ≡ byKey (tally (recordsOf w)) (recordsOf w)) (sym same) (counts (referring st 1 st) (refer-is st 0 st) (sym (e .line) ∙ y) (e .told y));
+    }
       where
         st : List Rec
         st = says h h a (r .count)
+
+        same : readHolding h ≡ referring st 1 st
+        same = ap onScan scan-sound ∙ ap (λ l. referring l 1 l) (sym says-is)
 
         kept : (w : meaning.Held) → Refers st w → faultOf w ≡ 0 → Listed h a (r .count) (recordsOf w)
         kept (sound t) i y = unfold recordsOf in (rw (i, says-is) (s .listed z))
         kept (unsound n) i y = absurd (i (unfold faultOf in y))
 
-pub ruleset readings = (needs, read-faulty, read-room, read-asc, read-fines, read-told)
+        counts : (w : meaning.Held) → Refers st w → faultOf w ≡ 0 → take (r .count) t ≡ byKey (tally st) st → take (r .count) t ≡ byKey (tally (recordsOf w)) (recordsOf w)
+        counts (sound t) i y q = unfold recordsOf in (rw i q)
+        counts (unsound n) i y q = absurd (i (unfold faultOf in y))
+
+pub ruleset readings = (needs, read-faulty, read-room, read-few, read-asc, read-fines, read-told)
 
 -- ---- the three numbers
 
-module _ (h a : List ℕ) (r : Held) (s : HeldIs h r a) where
+module _ (h a t : List ℕ) (r : Held) (s : HeldIs h r a t) where
   -- a sound holding
   pub check-sound : r .line ≡ 0 → record { code = 0; line = 0; field = 0 } ≡ verdictOf (checkHolding h)
   unfolding checkHolding heldNumbers

@@ -9,8 +9,9 @@ use Rattle.base.specs.Lists.{all}
 use Rattle.theory.specs.Limits.{most}
 use Rattle.meaning.specs.Records.{Rec}
 use Rattle.meaning.specs.Holding as meaning
-use Rattle.meaning.specs.Holding.{sound, unsound, readHolding}
+use Rattle.meaning.specs.Holding.{sound, unsound, referring, readHolding}
 use Rattle.places.specs.Places.{says}
+use Rattle.places.specs.Counts.{tally, byKey}
 use Rattle.holding.specs.declared.read.Held.{Held}
 
 -- the lowest faulty line; a sound holding has none, which is 0
@@ -35,6 +36,13 @@ pub record ReadAs (h : List ℕ) (s : meaning.Held) (r : Held) (a : List ℕ) : 
   pub line : r .line ≡ faultOf s
   pub listed : r .line ≡ 0 → Listed h a (r .count) (recordsOf s)
 
--- the same of a holding
-abbrev pub HeldIs : List ℕ → Held → List ℕ → Type 0
-HeldIs h r a = ReadAs h (readHolding h) r a
+-- the lowest record whose references are not all met, or 0 and how often the records refer to each of them
+pub record CountsAs (h a : List ℕ) (n : ℕ) (t : List ℕ) (r : ℕ) : Type 0 where
+  pub line : r ≡ faultOf (referring (says h h a n) 1 (says h h a n))
+  pub told : r ≡ 0 → take n t ≡ byKey (tally (says h h a n)) (says h h a n)
+
+-- the lowest faulty line of a holding, or its records, where they stand and how often they refer to each of them
+pub record HeldIs (h : List ℕ) (r : Held) (a t : List ℕ) : Type 0 where
+  pub line : r .line ≡ faultOf (readHolding h)
+  pub listed : r .line ≡ 0 → Listed h a (r .count) (recordsOf (readHolding h))
+  pub told : r .line ≡ 0 → take (r .count) t ≡ byKey (tally (recordsOf (readHolding h))) (recordsOf (readHolding h))

@@ -16,7 +16,8 @@ pub fn check_holding(holding: &[u8]) -> Verdict
     ensures { λ r. ⌜ r ≡ verdictOf (checkHolding (now (holding .entry))) ⌝ }
 {
     let mut starts = [0u64; 8192];
-    let held = read_holding(holding, &mut starts);
+    let mut counts = [0u64; 8192];
+    let held = read_holding(holding, &mut starts, &mut counts);
     if held.line == 0 {
         return Verdict {
             code: 0,

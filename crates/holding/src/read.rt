@@ -1,5 +1,4 @@
 // A holding is tested first over all lines, then for references; each gives its lowest faulty line.
-ghost use mathlib.Core.Path.{_≡_};
 ghost use Prim.Native.Nat.{_≤_};
 ghost use lib.ListN.{length};
 ghost use Rattle.holding.specs.Read.{HeldIs};
@@ -12,16 +11,16 @@ pub struct Held {
     pub count: usize,
 }
 
-// Judges a holding, and leaves where its lines start, twice, in the front of `starts`.
-pub fn read_holding(holding: &[u8], starts: &mut [u64]) -> Held
-    requires { ⌜ 8192 ≤ length (now starts) ⌝ }
-    ensures { λ r. ⌜ HeldIs (now (holding .entry)) r (now (starts .exit)) ⌝ }
+// Judges a holding, and leaves where its lines start, twice, in the front of `starts`, and how often each is referred to in `counts`.
+pub fn read_holding(holding: &[u8], starts: &mut [u64], counts: &mut [u64]) -> Held
+    requires { ⌜ (8192 ≤ length (now starts)) × (8192 ≤ length (now counts)) ⌝ }
+    ensures { λ r. ⌜ HeldIs (now (holding .entry)) r (now (starts .exit)) (now (counts .exit)) ⌝ }
 {
     let held = scan(holding, &mut *starts);
     if held.line != 0 {
         return held;
     }
     let count = held.count;
-    let line = unmet(holding, &*starts, count);
+    let line = unmet(holding, &*starts, &mut *counts, count);
     Held { line, count }
 }

@@ -1,25 +1,33 @@
 // References come after all lines: a record may refer to one on a later line.
-ghost use mathlib.Core.Path.{_≡_};
 ghost use Prim.Native.Nat.{_≤_};
 ghost use lib.Dec.{T};
 ghost use lib.ListN.{length};
 ghost use Rattle.base.specs.Lists.{all};
 ghost use Rattle.theory.specs.Store.{Asc};
 ghost use Rattle.meaning.specs.Records.{keyed};
-ghost use Rattle.meaning.specs.Holding.{referring};
 ghost use Rattle.laws.specs.Body.{fine};
 ghost use Rattle.places.specs.Places.{says};
-ghost use Rattle.holding.specs.Read.{faultOf};
-use places::references::meets;
+ghost use Rattle.holding.specs.Read.{CountsAs};
+use places::counts::clear;
+use places::counts::note;
 
-// The lowest record, counted from 1, whose references are not all met; 0 where all are.
-pub fn unmet(holding: &[u8], starts: &[u64], count: usize) -> usize
-    requires { ⌜ (count ≤ length (now starts)) × Asc keyed (says (now holding) (now holding) (now starts) count) × T (all fine (says (now holding) (now holding) (now starts) count)) ⌝ }
-    ensures { λ r. ⌜ r ≡ faultOf (referring (says (now (holding .entry)) (now (holding .entry)) (now (starts .entry)) count) 1 (says (now (holding .entry)) (now (holding .entry)) (now (starts .entry)) count)) ⌝ }
+// The lowest record, counted from 1, whose references are not all met; 0 where all are, with how often each record is referred to.
+pub fn unmet(holding: &[u8], starts: &[u64], counts: &mut [u64], count: usize) -> usize
+    requires { ⌜ (count ≤ length (now starts)) × (count ≤ length (now counts)) × (count ≤ 8192) × Asc keyed (says (now holding) (now holding) (now starts) count) × T (all fine (says (now holding) (now holding) (now starts) count)) ⌝ }
+    ensures { λ r. ⌜ CountsAs (now (holding .entry)) (now (starts .entry)) count (now (counts .exit)) r ⌝ }
 {
+    clear(&mut *counts, count);
     let mut i = 0;
     while i < count {
-        if !meets(holding, holding, starts, count, starts[i]) {
+        if !note(
+            holding,
+            holding,
+            starts,
+            &mut *counts,
+            count,
+            starts[i],
+            true,
+        ) {
             return i + 1;
         }
         i += 1;

@@ -4,3 +4,5 @@ pub mod SearchLaws
 pub mod MoveLaws
 pub mod LineLaws
 pub mod ReferenceLaws
+pub mod CountLaws
+pub mod NoteLaws

@@ -21,17 +21,20 @@ use Rattle.places.specs.Places.{recOf, lineAt, entry, says, opened, clos
 
 -- ---- lists
 
-map-take : {A B : Type 0} (g : A → B) (n : ℕ) (l : List A) → map g (take n l) ≡ take n (map g l)
+-- the first of a list are mapped as the list is
+pub map-take : {A B : Type 0} (g : A → B) (n : ℕ) (l : List A) → map g (take n l) ≡ take n (map g l)
 map-take g zero l = refl
 map-take g (suc n) [] = refl
 map-take g (suc n) (x ∷ l) = ap (λ t. g x ∷ t) (map-take g n l)
 
-map-drop : {A B : Type 0} (g : A → B) (n : ℕ) (l : List A) → map g (drop n l) ≡ drop n (map g l)
+-- and so is what is left after them
+pub map-drop : {A B : Type 0} (g : A → B) (n : ℕ) (l : List A) → map g (drop n l) ≡ drop n (map g l)
 map-drop g zero l = refl
 map-drop g (suc n) [] = refl
 map-drop g (suc n) (x ∷ l) = map-drop g n l
 
-drop-take : {A : Type 0} (c n : ℕ) (s : List A) → drop c (take n s) ≡ take (n - c) (drop c s)
+-- what is left of the first n
+pub drop-take : {A : Type 0} (c n : ℕ) (s : List A) → drop c (take n s) ≡ take (n - c) (drop c s)
 drop-take zero n s = rw sub-zero
 drop-take (suc c) n [] = rw (take-nil n, take-nil (n - suc c))
 drop-take (suc c) zero (x ∷ s) = rw (zero-sub (suc c))
@@ -110,7 +113,8 @@ says-more h f a n v l = rw (add-one n, take-suc-set a n v l, map-append)
 
 -- ---- an entry more, another, one less
 
-open-take : (a : List ℕ) (n i v : ℕ) → i ≤ n → n < length a → take (n + 1) (opened a n i v) ≡ take i a ++ (v ∷ take (n - i) (drop i a))
+-- the first n + 1 elements once room is made
+pub open-take : (a : List ℕ) (n i v : ℕ) → i ≤ n → n < length a → take (n + 1) (opened a n i v) ≡ take i a ++ (v ∷ take (n - i) (drop i a))
 unfolding opened
 open-take a n i v m l =
     let b : length (take i a) ≡ i = length-take-le i a (omega arith) in
@@ -120,7 +124,8 @@ open-take a n i v m l =
     ∙ take-append-add (take i a) (v ∷ (take (n - i) (drop i a) ++ drop (n + 1) a)) (suc (n - i))
     ∙ ap (λ t. take i a ++ (v ∷ t)) (take-at (take (n - i) (drop i a)) (drop (n + 1) a) (n - i) c)
 
-close-take : (a : List ℕ) (n i : ℕ) → i < n → n ≤ length a → take (n - 1) (closed a n i) ≡ take i a ++ take (n - (i + 1)) (drop (i + 1) a)
+-- the first n - 1 once closed up
+pub close-take : (a : List ℕ) (n i : ℕ) → i < n → n ≤ length a → take (n - 1) (closed a n i) ≡ take i a ++ take (n - (i + 1)) (drop (i + 1) a)
 unfolding closed
 close-take a n i m l =
     let b : length (take i a) ≡ i = length-take-le i a (omega arith) in

@@ -2,8 +2,10 @@
 //
 // An entry is twice the offset of its line's start, even for the holding and odd for the file. The array is lent, and its first n
 // entries count. `search` finds where a key stands among them, `moves` makes room and closes up, and laws of proofs/ say that the
-// array then says what `put` of the theory says. The counts beside the entries are moved by the same functions.
+// array then says what `put` of the theory says. Beside the entries stand counts of how often each record is referred to, in an array
+// of their own that is moved by the same functions.
 pub mod entries; // the key of an entry's record
 pub mod search; // where a key stands
 pub mod moves; // room made, and closed up
 pub mod references; // whether what a record refers to is met
+pub mod counts; // how often a record is referred to

@@ -30,9 +30,9 @@ get-both st x p g = get-alike st p (keyNumbers x) (keyOf x) (own-agrees x g)
 
 -- the place by halves and what stands there are what is asked for
 pub finds : (h f a : List ℕ) (n v : ℕ) (k : Key) (i : ℕ) (b : Bool) → T (all fine (says h f a n)) → T (fine (entry h f v)) → keyList k ≡ keyNumbers (entry h f v)
-    → i ≡ rank numbered (keyList k) (says h f a n) → i ≤ n → b ≡ some? (get numbered (keyList k) (says h f a n)) → Finds h f a n v (record { key = k; place = i; stands = b })
+    → i ≡ rank numbered (keyList k) (says h f a n) → i ≤ n → b ≡ some? (get numbered (keyList k) (says h f a n)) → Finds h f a n v (record { place = i; stands = b })
 finds h f a n v k i b p g e r l q =
-    record { named = e; placed = r ∙ ap (λ z. rank numbered z (says h f a n)) e; within = l; there = q ∙ ap (λ z. some? (get numbered z (says h f a n))) e ∙ ap some? (get-both (says h f a n) (entry h f v) p g) }
+    record { placed = r ∙ ap (λ z. rank numbered z (says h f a n)) e; within = l; there = q ∙ ap (λ z. some? (get numbered z (says h f a n))) e ∙ ap some? (get-both (says h f a n) (entry h f v) p g) }
 
 pub ruleset finding = (needs, asc-told, finds)
 

@@ -6,15 +6,15 @@ use mathlib.Core.List.{List, [], _∷_, _++_}
 use Prim.Native.Nat.{ℕ, suc, _+_, _-_, _≤_, _<_, max}
 use native.Mathlib.Omega.{arith}
 use borrow.Author.Needs.{needs}
-use borrow.Author.Tests.{not-true, not-false, le-leb, lt-leb}
+use borrow.Author.Tests.{not-true, not-false, le-leb, lt-leb, eq-eqb, ne-eqb}
 use mir.Syntax.{w64}
 use mir.Val.{Fits}
 use lib.Dec.{T, leb, leb→le, eqb, eqb→eq}
 use lib.ListN.{length, getD, length-append}
 use Rattle.base.specs.Lists.{all, some?, bytes}
-use Rattle.base.specs.Tests.{and-l, T-true}
+use Rattle.base.specs.Tests.{and-l, and-r, T-true}
 use Rattle.theory.specs.Store.{get, put}
-use Rattle.theory.specs.Refs.{meets, clear}
+use Rattle.theory.specs.Refs.{has, meets, clear}
 use Rattle.theory.specs.Decimal.{width}
 use Rattle.theory.specs.Limits.{most, few}
 use Rattle.theory.specs.Written.{render, bare, size}
@@ -28,14 +28,17 @@ use Rattle.meaning.specs.Load.{stepTests}
 use Rattle.laws.specs.Kinds.{every}
 use Rattle.laws.specs.Body.{fine}
 use Rattle.laws.specs.FastStep.{printed, written-render, written-length, fast-step}
-use Rattle.keys.specs.Numbers.{keyList, keyNumbers, refNumbers, numbered}
+use Rattle.keys.specs.Numbers.{keyNumbers, refNumbers, numbered}
+use Rattle.keys.specs.KeyLaws.{clear-agree}
 use Rattle.places.specs.Places.{entry, says}
+use Rattle.places.specs.Counts.{tally, Counted}
 use Rattle.places.proofs.SearchLaws.{stands-in}
+use Rattle.places.proofs.ReferenceLaws.{asc-told}
+use Rattle.places.proofs.CountLaws.{clear-tally, count-at}
 use Rattle.steps.specs.declared.judge.State.{State}
 use Rattle.steps.specs.declared.judge.Found.{Found}
 use Rattle.steps.specs.declared.judge.Judged.{Judged}
 use Rattle.steps.specs.Ready.{change, codeNumber, Ready, Finds, Judges}
-use Rattle.steps.proofs.ClearLaws.{clear-all}
 use Rattle.steps.proofs.FindLaws.{get-both, found-at}
 
 -- ---- lengths of lines
@@ -53,6 +56,11 @@ bare-is r = omega (arith, ident-long (r .kind), length-append (ident (r .kind)) 
 pub none-of : {A : Type 0} (o : Option A) → some? o ≡ false → o ≡ none
 none-of none e = refl
 none-of (some x) e = absurd (subst T e tt)
+
+-- no sound record refers to a sound one by its numbers where none does by its key
+clear-all : (x : Rec) (st : List Rec) → T (fine x) → T (all fine st) → all (clear numbered refNumbers (keyNumbers x)) st ≡ all (clear keyed refsOf (keyOf x)) st
+clear-all x [] g h = refl
+clear-all x (r ∷ rs) g h = rw (clear-agree r x (and-l (fine r) (all fine rs) h) g, clear-all x rs g (and-r (fine r) (all fine rs) h))
 
 -- ---- what a state that is ready for a step gives
 
@@ -227,14 +235,24 @@ module _ (h f a : List ℕ) (room : ℕ) (s : State) (y : Ready h f a room s) wh
       unfolding fast fewAfter metAfter sizeAfter need
       told-del = fast-step room (says h f a (s .count)) (change del (entry h f v)) (y .asc) (y .pass) ∙ rw (at-some t)
 
-      module _ (b : Bool) (r : b ≡ all (clear numbered refNumbers (keyList (p .key))) (says h f a (s .count))) where
-        seen : b ≡ all (clear keyed refsOf (keyOf (entry h f v))) (says h f a (s .count))
-        seen = r ∙ ap (λ k. all (clear numbered refNumbers k) (says h f a (s .count))) (q .named) ∙ clear-all (entry h f v) (says h f a (s .count)) g (y .fines)
+      module _ (c : List ℕ) (k : Counted h f a c (s .count)) where
+        -- its count is beside it
+        pub count-in : p .place < length c
+        count-in = omega (arith, k .space, ready-few, stands-in h f a (s .count) (p .place) (keyNumbers (entry h f v)) ready-in (q .placed) (some? (get numbered (keyNumbers (entry h f v)) (says h f a (s .count)))) refl (T-true _ (stood t)))
+
+        counts : getD c (p .place) 0 ≡ tally (says h f a (s .count)) (keyNumbers (entry h f v))
+        unfolding has
+        counts =
+            ap (λ i. getD c i 0) (q .placed)
+            ∙ count-at (says h f a (s .count)) (asc-told (says h f a (s .count)) (y .asc) (y .fines)) (s .count) (y .counted) true (tally (says h f a (s .count))) c (k .told) (keyNumbers (entry h f v)) (stood t)
+
+        seen : all (clear keyed refsOf (keyOf (entry h f v))) (says h f a (s .count)) ≡ eqb (getD c (p .place) 0) 0
+        seen = sym (clear-all (entry h f v) (says h f a (s .count)) g (y .fines)) ∙ clear-tally (keyNumbers (entry h f v)) (says h f a (s .count)) ∙ ap (λ n. eqb n 0) (sym counts)
 
         -- no record may refer to the one that goes
-        pub del-met : b ≡ false → Judges h f a room (change del (entry h f v)) s (record { code = 12; place = p .place; size = s .size })
+        pub del-met : (getD c (p .place) 0 ≡ 0 → ⊥) → Judges h f a room (change del (entry h f v)) s (record { code = 12; place = p .place; size = s .size })
         unfolding need
-        del-met u = refused del 12 (s .size) (rw (told-del, ← seen, u)) (λ e. omega arith)
+        del-met u = refused del 12 (s .size) (rw (told-del, seen, ne-eqb (getD c (p .place) 0) 0 u)) (λ e. omega arith)
 
       module _ (l w : ℕ) (d : l ≡ length (entry h f (getD a (p .place) 0) .content)) (e : w ≡ width (s .count)) where
         narrower : width (length (says h f a (s .count))) ≡ w
@@ -249,12 +267,12 @@ module _ (h f a : List ℕ) (room : ℕ) (s : State) (y : Ready h f a room s) wh
         del-room = omega (arith, del-sized)
 
         -- else it is taken
-        pub del-taken : (b : Bool) → b ≡ all (clear numbered refNumbers (keyList (p .key))) (says h f a (s .count)) → b ≡ true
+        pub del-taken : (c : List ℕ) → Counted h f a c (s .count) → getD c (p .place) 0 ≡ 0
             → Judges h f a room (change del (entry h f v)) s (record { code = 0; place = p .place; size = s .size - (l + 10 + w) })
         unfolding need
-        del-taken b r u =
+        del-taken c k u =
             let x : length (render printed (says h f a (s .count))) - bare printed (entry h f (getD a (p .place) 0)) - width (length (says h f a (s .count))) ≤ room = omega (arith, rendered, y .fits) in
-            taken del (s .size - (l + 10 + w)) (rw (told-del, ← seen b r, u, le-leb (length (render printed (says h f a (s .count))) - bare printed (entry h f (getD a (p .place) 0)) - width (length (says h f a (s .count)))) room x)) (omega (arith, del-sized))
+            taken del (s .size - (l + 10 + w)) (rw (told-del, seen c k, eq-eqb (getD c (p .place) 0) 0 u, le-leb (length (render printed (says h f a (s .count))) - bare printed (entry h f (getD a (p .place) 0)) - width (length (says h f a (s .count)))) room x)) (omega (arith, del-sized))
 
 -- what is told is judged as it was put together
 pub judged-told : (h f a : List ℕ) (room : ℕ) (c : Change Rec) (s : State) (x y : Judged) → x ≡ y → Judges h f a room c s y → Judges h f a room c s x
@@ -264,4 +282,4 @@ pub ruleset inserting = (needs, judged-told, not-true, not-false, ready-in, read
 
 pub ruleset updating = (needs, judged-told, not-true, not-false, ready-in, ready-fits, room-fits, place-in, upd-absent, upd-unmet, upd-room, upd-shorter, upd-long, upd-longer)
 
-pub ruleset deleting = (needs, judged-told, not-true, not-false, ready-in, ready-fits, long-fits, wide-fits, place-in, del-absent, del-met, del-room, del-taken)
+pub ruleset deleting = (needs, judged-told, not-true, not-false, ready-in, ready-fits, long-fits, wide-fits, place-in, count-in, del-absent, del-met, del-room, del-taken)

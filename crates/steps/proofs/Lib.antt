@@ -1,5 +1,4 @@
 pub mod LengthLaws
-pub mod ClearLaws
 pub mod FindLaws
 pub mod JudgeLaws
 pub mod StepLaws

@@ -12,11 +12,13 @@ use lib.Dec.{T, leb, leb→le}
 use lib.ListN.{length, getD, take, drop, set, length-append, length-drop, length-set}
 use lib.Seq.{length-take-le}
 use Rattle.base.specs.Lists.{all, some?}
+use Rattle.base.specs.ListLaws.{all-both}
 use Rattle.base.specs.Tests.{and-in, and-l, and-r, T-true, T-false}
 use Rattle.theory.specs.Fold.{all?}
-use Rattle.theory.specs.FoldLaws.{length-put, all-put}
+use Rattle.theory.specs.FoldLaws.{length-put, all-put, put-all?}
 use Rattle.theory.specs.Store.{get, put, Asc}
-use Rattle.theory.specs.Refs.{met}
+use Rattle.theory.specs.StoreLaws.{asc-put}
+use Rattle.theory.specs.Refs.{meets, met}
 use Rattle.theory.specs.Limits.{most, few}
 use Rattle.theory.specs.Step.{Op, ins, upd, del, Change, need, fails, passes, new, codeOf, allowed, judge, after}
 use Rattle.theory.specs.StepLaws.{ok-judge, asc-after}
@@ -26,14 +28,17 @@ use Rattle.meaning.specs.Holding.{isHeld, written}
 use Rattle.meaning.specs.Load.{fits, stepTests}
 use Rattle.laws.specs.Body.{fine}
 use Rattle.laws.specs.HoldingReadBack.{always}
-use Rattle.keys.specs.Numbers.{keyNumbers, numbered}
-use Rattle.keys.specs.KeyLaws.{put-alike, own-agrees}
+use Rattle.keys.specs.Numbers.{keyNumbers, refNumbers, numbered}
+use Rattle.keys.specs.KeyLaws.{put-alike, own-agrees, meets-agree}
 use Rattle.layout.specs.declared.kinds.Kind as code
 use Rattle.layout.specs.declared.kinds.Kind.the-variants.{Header, Street, StreetXref, Blpu, AppXref, Lpi, Metadata, Trailer}
 use Rattle.layout.specs.Meant.{kindMeant}
 use Rattle.places.specs.Places.{recOf, lineAt, entry, says, opened, closed}
+use Rattle.places.specs.Counts.{tally, byKey, Counted, notedAll, Open, Notes}
 use Rattle.places.proofs.SaysLaws.{entry-odd, put-says, set-says, close-says}
 use Rattle.places.proofs.SearchLaws.{stands-in}
+use Rattle.places.proofs.ReferenceLaws.{asc-told}
+use Rattle.places.proofs.CountLaws.{length-noted, insert-open, insert-told, old-open, old-met, update-open, update-told, delete-told}
 use Rattle.volume.specs.declared.lines.Change as code-change
 use Rattle.volume.specs.declared.lines.Line.{Line}
 use Rattle.volume.specs.Meant.{changeMeant}
@@ -78,6 +83,11 @@ zero-none (some w) c e = absurd (c e)
 pub code-none : (room w : ℕ) (st : List Rec) (c : Change Rec) → w ≡ codeNumber (judge keyed (stepTests room) st c) → w ≡ 0 → judge keyed (stepTests room) st c ≡ none
 code-none room w st c e z = zero-none (judge keyed (stepTests room) st c) (judge-coded room st c) (sym e ∙ z)
 
+-- references that are met by keys are met by numbers
+met-told : (st : List Rec) → T (all fine st) → T (met keyed refsOf st) → T (all (meets numbered refNumbers st) st)
+unfolding met
+met-told st p m = all-both fine (meets keyed refsOf st) (meets numbered refNumbers st) (λ r g u. subst T (sym (meets-agree st p r g)) u) st p m
+
 new-fine : (p : Op) (x : Rec) → T (fine x) → T (all? fine (new p x))
 new-fine ins x g = g
 new-fine upd x g = g
@@ -101,8 +111,8 @@ length-closed a n i l m =
 
 module _ (h f a : List ℕ) (room v : ℕ) (s : State) (y : Ready h f a room s) (g : T (fine (entry h f v))) (j : Judged) where
   -- a step that is refused leaves everything as it was
-  pub step-refused : (p : Op) → Judges h f a room (change p (entry h f v)) s j → (j .code ≡ 0 → ⊥) → Steps h f a a room (change p (entry h f v)) s (record { code = j .code; state = s; before = v })
-  step-refused p q n = record { coded = q .coded; left = λ z. absurd (n z) }
+  pub step-refused : (t : List ℕ) (p : Op) → Judges h f a room (change p (entry h f v)) s j → (j .code ≡ 0 → ⊥) → Steps h f a a t room (change p (entry h f v)) s (record { code = j .code; state = s; before = v })
+  step-refused t p q n = record { coded = q .coded; left = λ z. absurd (n z) }
 
   module _ (p : Op) (q : Judges h f a room (change p (entry h f v)) s j) (z : j .code ≡ 0) where
     passed : T (allowed p (get keyed (keyOf (entry h f v)) (says h f a (s .count)))) × T (passes (stepTests room) (after keyed (says h f a (s .count)) (change p (entry h f v))))
@@ -142,10 +152,13 @@ module _ (h f a : List ℕ) (room v : ℕ) (s : State) (y : Ready h f a room s) 
       fileShort = y .fileShort;
     }
 
-    stepped : (b : List ℕ) (m u : ℕ) → says h f b m ≡ after keyed (says h f a (s .count)) (change p (entry h f v)) → m ≡ length (after keyed (says h f a (s .count)) (change p (entry h f v))) → length b ≡ length a
-        → entry h f u ≡ Option·getD (get keyed (keyOf (entry h f v)) (says h f a (s .count))) (entry h f v)
-        → Steps h f a b room (change p (entry h f v)) s (record { code = 0; state = record { count = m; size = j .size }; before = u })
-    stepped b m u e n l w = record { coded = sym z ∙ q .coded; left = λ x. record { said = e; ready = ready-next b m e n l; stood = w } }
+    stepped : (b t : List ℕ) (m u : ℕ) → says h f b m ≡ after keyed (says h f a (s .count)) (change p (entry h f v)) → m ≡ length (after keyed (says h f a (s .count)) (change p (entry h f v))) → length b ≡ length a
+        → take m t ≡ byKey (tally (says h f b m)) (says h f b m) → 8192 ≤ length t → entry h f u ≡ Option·getD (get keyed (keyOf (entry h f v)) (says h f a (s .count))) (entry h f v)
+        → Steps h f a b t room (change p (entry h f v)) s (record { code = 0; state = record { count = m; size = j .size }; before = u })
+    stepped b t m u e n l c d w = record { coded = sym z ∙ q .coded; left = λ x. record { said = e; ready = ready-next b m e n l; tallied = record { space = d; told = c }; stood = w } }
+
+    meets-after : T (all (meets numbered refNumbers (after keyed (says h f a (s .count)) (change p (entry h f v)))) (after keyed (says h f a (s .count)) (change p (entry h f v))))
+    meets-after = met-told (after keyed (says h f a (s .count)) (change p (entry h f v))) fines-after met-after
 
     put-both : (o : Option Rec) → put numbered (keyNumbers (entry h f v)) o (says h f a (s .count)) ≡ put keyed (keyOf (entry h f v)) o (says h f a (s .count))
     put-both o = put-alike (says h f a (s .count)) (y .fines) (keyNumbers (entry h f v)) (keyOf (entry h f v)) (own-agrees (entry h f v) g) o
@@ -161,6 +174,28 @@ module _ (h f a : List ℕ) (room v : ℕ) (s : State) (y : Ready h f a room s) 
 
     found-in : T (some? (get keyed (keyOf (entry h f v)) (says h f a (s .count)))) → j .place < s .count
     found-in t = stands-in h f a (s .count) (j .place) (keyNumbers (entry h f v)) (ready-in h f a room s y) (q .placed) (some? (get numbered (keyNumbers (entry h f v)) (says h f a (s .count)))) refl (T-true _ (stood-at t))
+
+  -- ---- counts
+
+  -- the records in force, and the one that comes
+  abbrev st : List Rec
+  st = says h f a (s .count)
+
+  abbrev x : Rec
+  x = entry h f v
+
+  asc-now : Asc numbered st
+  asc-now = asc-told st (y .asc) (y .fines)
+
+  met-now : T (all (meets numbered refNumbers st) st)
+  met-now = met-told st (y .fines) (and-l (met keyed refsOf st) _ (and-r (few st) _ (y .pass)))
+
+  new-asc : (b : List ℕ) (m : ℕ) → says h f b m ≡ put numbered (keyNumbers x) (some x) st → Asc numbered (says h f b m)
+  new-asc b m e = subst (Asc numbered) (sym e) (asc-put numbered (keyNumbers x) (some x) st refl asc-now)
+
+  -- what is told of the records after a step is told of what the array says
+  said-told : (b t : List ℕ) (m : ℕ) (l : List Rec) → says h f b m ≡ l → take m t ≡ byKey (tally l) l → take m t ≡ byKey (tally (says h f b m)) (says h f b m)
+  said-told b t m l e c = rw e c
 
   -- ---- insert
 
@@ -191,10 +226,40 @@ module _ (h f a : List ℕ) (room v : ℕ) (s : State) (y : Ready h f a room s) 
         put-says h f a (keyNumbers (entry h f v)) (s .count) (j .place) (q .placed) v ins-in (q .within) (get-both (says h f a (s .count)) (entry h f v) (y .fines) g ∙ ins-none)
         ∙ put-both ins q z (some (entry h f v))
 
-    -- an entry more at its place
-    pub ins-step : (b : List ℕ) → b ≡ opened a (s .count) (j .place) v → Steps h f a b room (change ins (entry h f v)) s (record { code = 0; state = record { count = s .count + 1; size = j .size }; before = v })
-    ins-step b e =
-        stepped ins q z b (s .count + 1) v (ap (λ x. says h f x (s .count + 1)) e ∙ ins-says) (sym ins-count) (ap length e ∙ length-opened a (s .count) (j .place) v (q .within) ins-in) (rw ins-none)
+    module _ (t : List ℕ) (k : Counted h f a t (s .count)) where
+      -- there is room for one count more
+      pub ins-counts : s .count < length t
+      unfolding few
+      ins-counts = omega (arith, ins-count, k .space, leb→le (length (after keyed st (change ins x))) most (few-after ins q z))
+
+      ins-get : get numbered (keyNumbers x) st ≡ none
+      ins-get = get-both st x (y .fines) g ∙ ins-none
+
+      module _ (b : List ℕ) (e : b ≡ opened a (s .count) (j .place) v) (u : List ℕ) (w : u ≡ opened t (s .count) (j .place) 0) where
+        ins-put : says h f b (s .count + 1) ≡ put numbered (keyNumbers x) (some x) st
+        ins-put = ap (λ l. says h f l (s .count + 1)) e ∙ put-says h f a (keyNumbers x) (s .count) (j .place) (q .placed) v ins-in (q .within) ins-get
+
+        -- its references can be counted in
+        pub ins-asked : (s .count + 1 ≤ length b) × (s .count + 1 ≤ length u) × Asc numbered (says h f b (s .count + 1)) × Open true (says h f b (s .count + 1)) u (refNumbers x)
+        ins-asked = (
+          omega (arith, ap length e, length-opened a (s .count) (j .place) v (q .within) ins-in, ins-in),
+          omega (arith, ap length w, length-opened t (s .count) (j .place) 0 (q .within) ins-counts, ins-counts),
+          new-asc b (s .count + 1) ins-put,
+          rw (ins-put, w) (insert-open st (s .count) t (y .counted) asc-now met-now (ready-few h f a room s y) (k .told) x (j .place) (q .placed) ins-get ins-counts (q .within)),
+        )
+
+        ins-meets : T (meets numbered refNumbers (put numbered (keyNumbers x) (some x) st) x)
+        unfolding after
+        ins-meets = rw (put-both ins q z (some x)) (put-all? keyed (meets numbered refNumbers (put keyed (keyOf x) (some x) st)) (keyOf x) (some x) st (meets-after ins q z))
+
+        -- an entry more at its place, and its references counted in
+        pub ins-step : (d : List ℕ) (o : Bool) → Notes true (says h f b (s .count + 1)) x u d o → Steps h f a b d room (change ins x) s (record { code = 0; state = record { count = s .count + 1; size = j .size }; before = v })
+        ins-step d o r =
+            let c : d ≡ notedAll true (put numbered (keyNumbers x) (some x) st) (opened t (s .count) (j .place) 0) (refNumbers x) = r .noted (r .met ∙ T-true _ (subst (λ l. T (meets numbered refNumbers l x)) (sym ins-put) ins-meets)) ∙ rw (ins-put, w) in
+            stepped ins q z b d (s .count + 1) v (ap (λ l. says h f l (s .count + 1)) e ∙ ins-says) (sym ins-count) (ap length e ∙ length-opened a (s .count) (j .place) v (q .within) ins-in)
+            (said-told b d (s .count + 1) (put numbered (keyNumbers x) (some x) st) ins-put (ap (take (s .count + 1)) c ∙ insert-told st (s .count) t (y .counted) asc-now met-now (ready-few h f a room s y) (k .told) x (j .place) (q .placed) ins-get ins-counts (q .within) ins-meets))
+            (omega (arith, ap length c, length-noted true (put numbered (keyNumbers x) (some x) st) (refNumbers x) (opened t (s .count) (j .place) 0), length-opened t (s .count) (j .place) 0 (q .within) ins-counts, k .space))
+            (rw ins-none)
 
   -- ---- update
 
@@ -213,10 +278,54 @@ module _ (h f a : List ℕ) (room v : ℕ) (s : State) (y : Ready h f a room s) 
         set-says h f a (keyNumbers (entry h f v)) (s .count) (j .place) (q .placed) (entry h f (getD a (j .place) 0)) (ready-in h f a room s y) (found-in upd q z (passed upd q z .0)) (found upd q z (passed upd q z .0)) v
         ∙ put-both upd q z (some (entry h f v))
 
-    -- another entry at its place
-    pub upd-step : Steps h f a (set a (j .place) v) room (change upd (entry h f v)) s (record { code = 0; state = record { count = s .count; size = j .size }; before = getD a (j .place) 0 })
-    upd-step =
-        stepped upd q z (set a (j .place) v) (s .count) (getD a (j .place) 0) upd-says (sym upd-count) (length-set a (j .place) v) (rw (found-key upd q z (passed upd q z .0)))
+    module _ (t : List ℕ) (k : Counted h f a t (s .count)) where
+      abbrev old : Rec
+      old = entry h f (getD a (j .place) 0)
+
+      upd-get : get numbered (keyNumbers x) st ≡ some old
+      upd-get = found upd q z (passed upd q z .0)
+
+      -- the references of the record that stood there can be counted out
+      pub upd-asked : (s .count ≤ length a) × (s .count ≤ length t) × Asc numbered st × Open false st t (refNumbers old)
+      upd-asked = (
+        ready-in h f a room s y,
+        omega (arith, ready-few h f a room s y, k .space),
+        asc-now,
+        old-open st (s .count) t (y .counted) asc-now met-now (ready-few h f a room s y) (k .told) x (j .place) (q .placed) old upd-get,
+      )
+
+      module _ (u : List ℕ) (o : Bool) (r : Notes false st old t u o) where
+        upd-out : u ≡ notedAll false st t (refNumbers old)
+        upd-out = r .noted (r .met ∙ T-true _ (old-met st (s .count) t (y .counted) asc-now met-now (ready-few h f a room s y) (k .told) x (j .place) (q .placed) old upd-get))
+
+        upd-long : length u ≡ length t
+        upd-long = ap length upd-out ∙ length-noted false st (refNumbers old) t
+
+        upd-put : says h f (set a (j .place) v) (s .count) ≡ put numbered (keyNumbers x) (some x) st
+        upd-put = set-says h f a (keyNumbers x) (s .count) (j .place) (q .placed) old (ready-in h f a room s y) (found-in upd q z (passed upd q z .0)) upd-get v
+
+        -- then those of the new one in
+        pub upd-asked-new : (s .count ≤ length (set a (j .place) v)) × (s .count ≤ length u) × Asc numbered (says h f (set a (j .place) v) (s .count)) × Open true (says h f (set a (j .place) v) (s .count)) u (refNumbers x)
+        upd-asked-new = (
+          omega (arith, length-set a (j .place) v, ready-in h f a room s y),
+          omega (arith, upd-long, ready-few h f a room s y, k .space),
+          new-asc (set a (j .place) v) (s .count) upd-put,
+          rw (upd-put, upd-out) (update-open st (s .count) t (y .counted) asc-now met-now (ready-few h f a room s y) (k .told) x (j .place) (q .placed) old upd-get),
+        )
+
+        upd-meets : T (meets numbered refNumbers (put numbered (keyNumbers x) (some x) st) x)
+        unfolding after
+        upd-meets = rw (put-both upd q z (some x)) (put-all? keyed (meets numbered refNumbers (put keyed (keyOf x) (some x) st)) (keyOf x) (some x) st (meets-after upd q z))
+
+        -- another entry at its place, the old references counted out and the new ones in
+        pub upd-step : (d : List ℕ) (p : Bool) → Notes true (says h f (set a (j .place) v) (s .count)) x u d p
+            → Steps h f a (set a (j .place) v) d room (change upd x) s (record { code = 0; state = record { count = s .count; size = j .size }; before = getD a (j .place) 0 })
+        upd-step d p w =
+            let c : d ≡ notedAll true (put numbered (keyNumbers x) (some x) st) (notedAll false st t (refNumbers old)) (refNumbers x) = w .noted (w .met ∙ T-true _ (subst (λ l. T (meets numbered refNumbers l x)) (sym upd-put) upd-meets)) ∙ rw (upd-put, upd-out) in
+            stepped upd q z (set a (j .place) v) d (s .count) (getD a (j .place) 0) upd-says (sym upd-count) (length-set a (j .place) v)
+            (said-told (set a (j .place) v) d (s .count) (put numbered (keyNumbers x) (some x) st) upd-put (ap (take (s .count)) c ∙ update-told st (s .count) t (y .counted) asc-now met-now (ready-few h f a room s y) (k .told) x (j .place) (q .placed) old upd-get upd-meets))
+            (omega (arith, ap length c, length-noted true (put numbered (keyNumbers x) (some x) st) (refNumbers x) (notedAll false st t (refNumbers old)), length-noted false st (refNumbers old) t, k .space))
+            (rw (found-key upd q z (passed upd q z .0)))
 
   -- ---- delete
 
@@ -247,16 +356,50 @@ module _ (h f a : List ℕ) (room v : ℕ) (s : State) (y : Ready h f a room s) 
         close-says h f a (keyNumbers (entry h f v)) (s .count) (j .place) (q .placed) (entry h f (getD a (j .place) 0)) (ready-in h f a room s y) del-place (found del q z (passed del q z .0))
         ∙ put-both del q z none
 
-    -- closed up over its place
-    pub del-step : (b : List ℕ) → b ≡ closed a (s .count) (j .place) → Steps h f a b room (change del (entry h f v)) s (record { code = 0; state = record { count = s .count - 1; size = j .size }; before = getD a (j .place) 0 })
-    del-step b e =
-        stepped del q z b (s .count - 1) (getD a (j .place) 0) (ap (λ x. says h f x (s .count - 1)) e ∙ del-says) (omega (arith, del-count)) (ap length e ∙ length-closed a (s .count) (j .place) del-place (ready-in h f a room s y)) (rw (found-key del q z (passed del q z .0)))
+    module _ (t : List ℕ) (k : Counted h f a t (s .count)) where
+      abbrev gone : Rec
+      gone = entry h f (getD a (j .place) 0)
 
-pub ruleset inserted = (needs, step-refused, ins-in, ins-place, ins-fits, ins-step)
+      del-get : get numbered (keyNumbers x) st ≡ some gone
+      del-get = found del q z (passed del q z .0)
+
+      -- the references of the record that goes can be counted out
+      pub del-asked : (s .count ≤ length a) × (s .count ≤ length t) × Asc numbered st × Open false st t (refNumbers gone)
+      del-asked = (
+        ready-in h f a room s y,
+        omega (arith, ready-few h f a room s y, k .space),
+        asc-now,
+        old-open st (s .count) t (y .counted) asc-now met-now (ready-few h f a room s y) (k .told) x (j .place) (q .placed) gone del-get,
+      )
+
+      module _ (u : List ℕ) (o : Bool) (r : Notes false st gone t u o) where
+        del-out : u ≡ notedAll false st t (refNumbers gone)
+        del-out = r .noted (r .met ∙ T-true _ (old-met st (s .count) t (y .counted) asc-now met-now (ready-few h f a room s y) (k .told) x (j .place) (q .placed) gone del-get))
+
+        -- the counts are as many as before
+        pub del-counts : s .count ≤ length u
+        del-counts = omega (arith, ap length del-out, length-noted false st (refNumbers gone) t, ready-few h f a room s y, k .space)
+
+        del-put : says h f (closed a (s .count) (j .place)) (s .count - 1) ≡ put numbered (keyNumbers x) none st
+        del-put = close-says h f a (keyNumbers x) (s .count) (j .place) (q .placed) gone (ready-in h f a room s y) del-place del-get
+
+        -- closed up over its place, and over its count
+        pub del-step : (b d : List ℕ) → b ≡ closed a (s .count) (j .place) → d ≡ closed u (s .count) (j .place)
+            → Steps h f a b d room (change del x) s (record { code = 0; state = record { count = s .count - 1; size = j .size }; before = getD a (j .place) 0 })
+        del-step b d e w =
+            let c : d ≡ closed (notedAll false st t (refNumbers gone)) (s .count) (j .place) = w ∙ ap (λ l. closed l (s .count) (j .place)) del-out in
+            let p : says h f b (s .count - 1) ≡ put numbered (keyNumbers x) none st = ap (λ l. says h f l (s .count - 1)) e ∙ del-put in
+            let n : s .count ≤ length (notedAll false st t (refNumbers gone)) = omega (arith, del-counts, ap length del-out) in
+            stepped del q z b d (s .count - 1) (getD a (j .place) 0) (ap (λ l. says h f l (s .count - 1)) e ∙ del-says) (omega (arith, del-count)) (ap length e ∙ length-closed a (s .count) (j .place) del-place (ready-in h f a room s y))
+            (said-told b d (s .count - 1) (put numbered (keyNumbers x) none st) p (ap (take (s .count - 1)) c ∙ delete-told st (s .count) t (y .counted) asc-now met-now (ready-few h f a room s y) (k .told) x (j .place) (q .placed) gone del-get n del-place))
+            (omega (arith, ap length w, length-closed u (s .count) (j .place) del-place del-counts, ap length del-out, length-noted false st (refNumbers gone) t, k .space))
+            (rw (found-key del q z (passed del q z .0)))
+
+pub ruleset inserted = (needs, step-refused, ins-in, ins-place, ins-fits, ins-counts, ins-step)
 
 pub ruleset updated = (needs, step-refused, upd-in, upd-step)
 
-pub ruleset deleted = (needs, step-refused, del-place, del-in, del-all, del-one, del-step)
+pub ruleset deleted = (needs, step-refused, del-place, del-in, del-all, del-one, del-counts, del-step)
 
 -- ---- by change, and by kind
 
@@ -303,13 +446,13 @@ module _ (h f : List ℕ) (at : ℕ) (l : Line) (q : Carries f at l) where
   pub odd-fits : (a : List ℕ) (room : ℕ) (s : State) → Ready h f a room s → Fits w64 (2 * at + 1)
   odd-fits a room s y = record { fits = omega (arith, q .inside, y .fileShort) }
 
-  module _ (a b : List ℕ) (room : ℕ) (s : State) (r : Stepped) where
+  module _ (a b t : List ℕ) (room : ℕ) (s : State) (r : Stepped) where
     -- a kind that is not held carries no sound record
-    pub step-unheld : (k : code.Kind) → l .kind ≡ k → unheld k ≡ true → Steps h f a b room (changeAt f at) s r
+    pub step-unheld : (k : code.Kind) → l .kind ≡ k → unheld k ≡ true → Steps h f a b t room (changeAt f at) s r
     step-unheld k e t = absurd (subst T (ap (λ z. isHeld (role z)) (sym (q .kinded)) ∙ ap (λ z. isHeld (role (kindMeant z))) e ∙ held-is k ∙ ap not t) (fine-held (recOf (lineAt f at)) (q .sound)))
 
     -- the line's change is made
-    pub step-made : (k : code-change.Change) → l .change ≡ k → Steps h f a b room (change (changeMeant k) (entry h f (2 * at + 1))) s r → Steps h f a b room (changeAt f at) s r
-    step-made k e u = subst (λ c. Steps h f a b room c s r) (ap₂ change (ap changeMeant (sym e) ∙ q .changed) filed) u
+    pub step-made : (k : code-change.Change) → l .change ≡ k → Steps h f a b t room (change (changeMeant k) (entry h f (2 * at + 1))) s r → Steps h f a b t room (changeAt f at) s r
+    step-made k e u = subst (λ c. Steps h f a b t room c s r) (ap₂ change (ap changeMeant (sym e) ∙ q .changed) filed) u
 
 pub ruleset stepping = (needs, line-fine, twice-fits, odd-fits, step-unheld, step-made)

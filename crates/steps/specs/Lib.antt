@@ -1,4 +1,3 @@
-pub mod Clear
 pub mod Ready
 pub mod Back
 pub mod Run

@@ -15,8 +15,9 @@ use Rattle.meaning.specs.Holding.{written}
 use Rattle.meaning.specs.Load.{stepTests}
 use Rattle.laws.specs.Body.{fine}
 use Rattle.laws.specs.HoldingReadBack.{always}
-use Rattle.keys.specs.Numbers.{keyList, keyNumbers, numbered}
+use Rattle.keys.specs.Numbers.{keyNumbers, numbered}
 use Rattle.places.specs.Places.{recOf, lineAt, entry, says}
+use Rattle.places.specs.Counts.{Counted}
 use Rattle.layout.specs.Meant.{kindMeant}
 use Rattle.volume.specs.Meant.{changeMeant}
 use Rattle.volume.specs.declared.lines.Line.{Line}
@@ -51,9 +52,8 @@ pub record Ready (h f a : List ℕ) (room : ℕ) (s : State) : Type 0 where
   pub heldShort : length h < 9223372036854775808
   pub fileShort : length f < 9223372036854775808
 
--- the key of an entry's record, its place among the first n, and whether a record stands there
+-- the place of the key of an entry's record among the first n, and whether a record stands there
 pub record Finds (h f a : List ℕ) (n v : ℕ) (r : Found) : Type 0 where
-  pub named : keyList (r .key) ≡ keyNumbers (entry h f v)
   pub placed : r .place ≡ rank numbered (keyNumbers (entry h f v)) (says h f a n)
   pub within : r .place ≤ n
   pub there : r .stands ≡ some? (get keyed (keyOf (entry h f v)) (says h f a n))
@@ -65,16 +65,17 @@ pub record Judges (h f a : List ℕ) (room : ℕ) (c : Change Rec) (s : State) (
   pub within : r .place ≤ s .count
   pub sized : r .code ≡ 0 → r .size ≡ length (written (after keyed (says h f a (s .count)) c))
 
--- the array says the state after the change, ready for the next, and the entry before is of the record that stood at the key, or of the change's own
-pub record Leaves (h f a b : List ℕ) (room : ℕ) (c : Change Rec) (s : State) (r : Stepped) : Type 0 where
+-- the array says the state after the change, ready for the next and counted, and the entry before is of the record that stood at the key, or of the change's own
+pub record Leaves (h f a b t : List ℕ) (room : ℕ) (c : Change Rec) (s : State) (r : Stepped) : Type 0 where
   pub said : says h f b (r .state .count) ≡ after keyed (says h f a (s .count)) c
   pub ready : Ready h f b room (r .state)
+  pub tallied : Counted h f b t (r .state .count)
   pub stood : entry h f (r .before) ≡ Option·getD (get keyed (keyOf (c .rec)) (says h f a (s .count))) (c .rec)
 
 -- a step: its code, and where that is 0 what it leaves
-pub record Steps (h f a b : List ℕ) (room : ℕ) (c : Change Rec) (s : State) (r : Stepped) : Type 0 where
+pub record Steps (h f a b t : List ℕ) (room : ℕ) (c : Change Rec) (s : State) (r : Stepped) : Type 0 where
   pub coded : r .code ≡ codeNumber (judge keyed (stepTests room) (says h f a (s .count)) c)
-  pub left : r .code ≡ 0 → Leaves h f a b room c s r
+  pub left : r .code ≡ 0 → Leaves h f a b t room c s r
 
 -- the line at `at` carries a sound record, and its kind and change are those that were read
 pub record Carries (f : List ℕ) (at : ℕ) (l : Line) : Type 0 where

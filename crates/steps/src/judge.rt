@@ -10,10 +10,9 @@ ghost use Rattle.theory.specs.Decimal.{width};
 ghost use Rattle.meaning.specs.Records.{keyed};
 ghost use Rattle.laws.specs.Body.{fine};
 ghost use Rattle.places.specs.Places.{entry, says};
+ghost use Rattle.places.specs.Counts.{Counted};
 ghost use Rattle.steps.specs.Ready.{Ready, change, Finds, Judges};
 use crate::lengths::entry_length;
-use crate::referred::unreferred;
-use keys::Key;
 use layout::limits::Holding;
 use places::entries::entry_key;
 use places::references::meets;
@@ -32,7 +31,6 @@ pub struct State {
 
 // Where a record's key stands in force or would stand.
 pub struct Found {
-    pub key: Key,
     pub place: usize,
     pub stands: bool,
 }
@@ -60,7 +58,6 @@ pub fn find(h: &[u8], f: &[u8], a: &[u64], n: usize, v: u64) -> Found
     let i = place(h, f, a, n, key);
     let there = stands(h, f, a, n, i, key);
     Found {
-        key,
         place: i,
         stands: there,
     }
@@ -120,8 +117,16 @@ pub fn judge_update(h: &[u8], f: &[u8], a: &[u64], v: u64, s: State, room: usize
 }
 
 // A delete at the key of an entry's record.
-pub fn judge_delete(h: &[u8], f: &[u8], a: &[u64], v: u64, s: State, room: usize) -> Judged
-    requires { ⌜ Ready (now h) (now f) (now a) room s × T (fine (entry (now h) (now f) v)) ⌝ }
+pub fn judge_delete(
+    h: &[u8],
+    f: &[u8],
+    a: &[u64],
+    counts: &[u64],
+    v: u64,
+    s: State,
+    room: usize,
+) -> Judged
+    requires { ⌜ Ready (now h) (now f) (now a) room s × Counted (now h) (now f) (now a) (now counts) (s .count) × T (fine (entry (now h) (now f) v)) ⌝ }
     ensures { λ r. ⌜ Judges (now (h .entry)) (now (f .entry)) (now (a .entry)) room (change del (entry (now (h .entry)) (now (f .entry)) v)) s r ⌝ }
 {
     let count = s.count;
@@ -132,7 +137,7 @@ pub fn judge_delete(h: &[u8], f: &[u8], a: &[u64], v: u64, s: State, room: usize
     if !there {
         return verdict(11, i, size);
     }
-    if !unreferred(h, f, a, count, found.key) {
+    if counts[i] != 0 {
         return verdict(12, i, size);
     }
     let gone = entry_length(h, f, a[i]) + AROUND + width(count as u64);

@@ -4,12 +4,14 @@ ghost use lib.Dec.{T};
 ghost use Rattle.theory.specs.Step.{ins, upd, del};
 ghost use Rattle.laws.specs.Body.{fine};
 ghost use Rattle.places.specs.Places.{entry};
+ghost use Rattle.places.specs.Counts.{Counted};
 ghost use Rattle.steps.specs.Ready.{Ready, change, changeAt, Carries, Steps};
 use crate::judge::State;
 use crate::judge::judge_delete;
 use crate::judge::judge_insert;
 use crate::judge::judge_update;
 use layout::kinds::Kind;
+use places::counts::note;
 use places::moves::close;
 use places::moves::open;
 use volume::lines::Change;
@@ -23,9 +25,17 @@ pub struct Stepped {
 }
 
 // An insert of an entry's record.
-fn insert(h: &[u8], f: &[u8], a: &mut [u64], v: u64, s: State, room: usize) -> Stepped
-    requires { ⌜ Ready (now h) (now f) (now a) room s × T (fine (entry (now h) (now f) v)) ⌝ }
-    ensures { λ r. ⌜ Steps (now (h .entry)) (now (f .entry)) (now (a .entry)) (now (a .exit)) room (change ins (entry (now (h .entry)) (now (f .entry)) v)) s r ⌝ }
+fn insert(
+    h: &[u8],
+    f: &[u8],
+    a: &mut [u64],
+    counts: &mut [u64],
+    v: u64,
+    s: State,
+    room: usize,
+) -> Stepped
+    requires { ⌜ Ready (now h) (now f) (now a) room s × Counted (now h) (now f) (now a) (now counts) (s .count) × T (fine (entry (now h) (now f) v)) ⌝ }
+    ensures { λ r. ⌜ Steps (now (h .entry)) (now (f .entry)) (now (a .entry)) (now (a .exit)) (now (counts .exit)) room (change ins (entry (now (h .entry)) (now (f .entry)) v)) s r ⌝ }
 {
     let judged = judge_insert(h, f, a, v, s, room);
     let code = judged.code;
@@ -39,21 +49,29 @@ fn insert(h: &[u8], f: &[u8], a: &mut [u64], v: u64, s: State, room: usize) -> S
         };
     }
     let count = s.count;
+    let next = count + 1;
     open(&mut *a, count, i, v);
+    open(&mut *counts, count, i, 0);
+    note(h, f, a, &mut *counts, next, v, true);
     Stepped {
         code: 0,
-        state: State {
-            count: count + 1,
-            size,
-        },
+        state: State { count: next, size },
         before: v,
     }
 }
 
 // An update to an entry's record.
-fn update(h: &[u8], f: &[u8], a: &mut [u64], v: u64, s: State, room: usize) -> Stepped
-    requires { ⌜ Ready (now h) (now f) (now a) room s × T (fine (entry (now h) (now f) v)) ⌝ }
-    ensures { λ r. ⌜ Steps (now (h .entry)) (now (f .entry)) (now (a .entry)) (now (a .exit)) room (change upd (entry (now (h .entry)) (now (f .entry)) v)) s r ⌝ }
+fn update(
+    h: &[u8],
+    f: &[u8],
+    a: &mut [u64],
+    counts: &mut [u64],
+    v: u64,
+    s: State,
+    room: usize,
+) -> Stepped
+    requires { ⌜ Ready (now h) (now f) (now a) room s × Counted (now h) (now f) (now a) (now counts) (s .count) × T (fine (entry (now h) (now f) v)) ⌝ }
+    ensures { λ r. ⌜ Steps (now (h .entry)) (now (f .entry)) (now (a .entry)) (now (a .exit)) (now (counts .exit)) room (change upd (entry (now (h .entry)) (now (f .entry)) v)) s r ⌝ }
 {
     let judged = judge_update(h, f, a, v, s, room);
     let code = judged.code;
@@ -68,7 +86,9 @@ fn update(h: &[u8], f: &[u8], a: &mut [u64], v: u64, s: State, room: usize) -> S
     }
     let count = s.count;
     let before = a[i];
+    note(h, f, a, &mut *counts, count, before, false);
     a[i] = v;
+    note(h, f, a, &mut *counts, count, v, true);
     Stepped {
         code: 0,
         state: State { count, size },
@@ -77,11 +97,19 @@ fn update(h: &[u8], f: &[u8], a: &mut [u64], v: u64, s: State, room: usize) -> S
 }
 
 // A delete at the key of an entry's record.
-fn delete(h: &[u8], f: &[u8], a: &mut [u64], v: u64, s: State, room: usize) -> Stepped
-    requires { ⌜ Ready (now h) (now f) (now a) room s × T (fine (entry (now h) (now f) v)) ⌝ }
-    ensures { λ r. ⌜ Steps (now (h .entry)) (now (f .entry)) (now (a .entry)) (now (a .exit)) room (change del (entry (now (h .entry)) (now (f .entry)) v)) s r ⌝ }
+fn delete(
+    h: &[u8],
+    f: &[u8],
+    a: &mut [u64],
+    counts: &mut [u64],
+    v: u64,
+    s: State,
+    room: usize,
+) -> Stepped
+    requires { ⌜ Ready (now h) (now f) (now a) room s × Counted (now h) (now f) (now a) (now counts) (s .count) × T (fine (entry (now h) (now f) v)) ⌝ }
+    ensures { λ r. ⌜ Steps (now (h .entry)) (now (f .entry)) (now (a .entry)) (now (a .exit)) (now (counts .exit)) room (change del (entry (now (h .entry)) (now (f .entry)) v)) s r ⌝ }
 {
-    let judged = judge_delete(h, f, a, v, s, room);
+    let judged = judge_delete(h, f, a, counts, v, s, room);
     let code = judged.code;
     let i = judged.place;
     let size = judged.size;
@@ -93,15 +121,17 @@ fn delete(h: &[u8], f: &[u8], a: &mut [u64], v: u64, s: State, room: usize) -> S
         };
     }
     let count = s.count;
-    let before = a[i];
+    let gone = a[i];
+    note(h, f, a, &mut *counts, count, gone, false);
     close(&mut *a, count, i);
+    close(&mut *counts, count, i);
     Stepped {
         code: 0,
         state: State {
             count: count - 1,
             size,
         },
-        before,
+        before: gone,
     }
 }
 
@@ -123,11 +153,12 @@ pub fn step(
     at: usize,
     line: Line,
     a: &mut [u64],
+    counts: &mut [u64],
     s: State,
     room: usize,
 ) -> Stepped
-    requires { ⌜ Ready (now h) (now f) (now a) room s × Carries (now f) at line ⌝ }
-    ensures { λ r. ⌜ Steps (now (h .entry)) (now (f .entry)) (now (a .entry)) (now (a .exit)) room (changeAt (now (f .entry)) at) s r ⌝ }
+    requires { ⌜ Ready (now h) (now f) (now a) room s × Counted (now h) (now f) (now a) (now counts) (s .count) × Carries (now f) at line ⌝ }
+    ensures { λ r. ⌜ Steps (now (h .entry)) (now (f .entry)) (now (a .entry)) (now (a .exit)) (now (counts .exit)) room (changeAt (now (f .entry)) at) s r ⌝ }
 {
     let kind = line.kind;
     let change = line.change;
@@ -143,8 +174,8 @@ pub fn step(
         Kind::Trailer => return unchanged(s, v),
     }
     match change {
-        Change::Insert => insert(h, f, a, v, s, room),
-        Change::Update => update(h, f, a, v, s, room),
-        Change::Delete => delete(h, f, a, v, s, room),
+        Change::Insert => insert(h, f, a, counts, v, s, room),
+        Change::Update => update(h, f, a, counts, v, s, room),
+        Change::Delete => delete(h, f, a, counts, v, s, room),
     }
 }

@@ -1,7 +1,7 @@
 -- `holding::read::read_holding` meets its contract.
-use Rattle.holding.proofs.ReadLaws.{readings}
-use Rattle.holding.proofs.ReadLaws.{read-room, read-asc, read-fines}
+use Rattle.holding.proofs.ReadLaws.{readings, read-room, read-few, read-asc, read-fines}
 use borrow.Author.Needs.{needs}
+use native.Mathlib.Omega.{arith}
 use Rattle.holding.proofs.read.read_holding.Statement.{statement}
 use Rattle.holding.proofs.read.read_holding.Tie as tie
 
@@ -12,6 +12,7 @@ read-holding-spec =
     (λ c κs. search readings)  -- scan-requires
     (λ c. search readings)  -- same-length
     (λ c. search readings)  -- returns
-    (λ c κs. let s = c .before .before .before .before .before .scan .ensures in let z = c .before .if1 .left in (read-room _ _ _ s z (search needs), read-asc _ _ _ s z, read-fines _ _ _ s z))  -- unmet-requires
+    (λ c κs. let s = c .before .before .before .before .before .before .scan .ensures in let z = c .before .before .if1 .left in (read-room _ _ _ s z (search needs), omega (arith, read-few _ _ _ s z, c .before .before .before .before .before .before .before .before .before .before .before .pre .1), read-few _ _ _ s z, read-asc _ _ _ s z, read-fines _ _ _ s z))  -- unmet-requires
     (λ c. search readings)  -- same-length-2
+    (λ c. search readings)  -- same-length-3
     (λ c. search readings))  -- returns-2

@@ -1,11 +1,10 @@
 -- `holding::unmet::unmet` meets its contract.
-use Rattle.holding.proofs.ReadLaws.{unmets}
-use Rattle.holding.specs.Read.{faultOf}
-use Rattle.meaning.specs.Holding.{referring}
-use Rattle.places.specs.Places.{says}
-use Prim.Native.Nat.{_-_, _+_, _≤_}
+use Rattle.holding.proofs.ReadLaws.{unmets, Counting, unmet-turn}
+use borrow.Author.Needs.{needs}
+use borrow.Author.Tests.{not-false}
+use Prim.Native.Nat.{_-_}
 use mathlib.Core.Path.{_≡_}
-use lib.ListN.{length, drop}
+use lib.ListN.{length}
 use Rattle.holding.proofs.unmet.unmet.Statement.{statement}
 use Rattle.holding.proofs.unmet.unmet.Tie as tie
 
@@ -13,15 +12,18 @@ pub unmet-spec : {M : Type 1} → statement M
 unmet-spec =
     tie.close
     (tie.spec
-    (λ holding starts count i₀ i. (faultOf (referring (says holding holding starts count) (i + 1) (drop i (says holding holding starts count))) ≡ faultOf (referring (says holding holding starts count) 1 (says holding holding starts count))) × (i ≤ count))
-    (λ holding starts count i₀ i. count - i)
+    (λ holding starts counts₀ count i₀ counts i. Counting holding starts count counts i × (length counts ≡ length counts₀))
+    (λ holding starts counts₀ count i₀ counts i. count - i)
+    (λ c κs. search unmets)  -- clear-requires
     (λ c. search unmets)  -- loop-holds
-    (λ c. search unmets)  -- mul-meets
-    (λ c. search unmets)  -- shared-slice-read-meets
-    (λ c κs. search unmets)  -- meets-requires
+    (λ c. search unmets)  -- mul-note
+    (λ c. search unmets)  -- shared-slice-read-note
+    (λ c κs. search unmets)  -- note-requires
     (λ c. search unmets)  -- add-result
+    (λ c. search unmets)  -- same-length
     (λ c. search unmets)  -- returns
     (λ c. search unmets)  -- add-i
     (λ c. search unmets)  -- loop-less
-    (λ c. search unmets)  -- loop-again
+    (λ c. let p = c .before .before .before .before .before .before .before .before .before .before .before .before .before .before .before .pre in (unmet-turn _ _ _ _ _ (c .before .before .before .before .before .before .before .loop .inv .0) (p .0) (p .2) (c .before .before .before .before .before .before .loop-test .taken) (p .3) (p .4) _ _ (c .before .before .before .note .ensures) (not-false _ (c .if1 .left)), search needs))  -- loop-again
+    (λ c. search unmets)  -- same-length-2
     (λ c. search unmets))  -- returns-2

@@ -7,7 +7,8 @@ pub meets-spec : {M : Type 1} → statement M
 meets-spec =
     tie.close
     (tie.spec
-    (λ c κs. search entrymet)  -- meets-at-requires
+    (λ c κs. search entrymet)  -- references-requires
+    (λ c κs. search entrymet)  -- is-met-requires
     (λ c. search entrymet)  -- returns
-    (λ c κs. search entrymet)  -- meets-at-requires-2
+    (λ c κs. search entrymet)  -- is-met-requires-2
     (λ c. search entrymet))  -- returns-2

@@ -1,4 +1,7 @@
 -- `steps::judge::judge_delete` meets its contract.
+use Rattle.steps.proofs.JudgeLaws.{place-in}
+use borrow.Author.Tests.{not-false}
+use borrow.Author.Needs.{needs}
 use Rattle.steps.proofs.JudgeLaws.{deleting}
 use Rattle.steps.proofs.judge.judge_delete.Statement.{statement}
 use Rattle.steps.proofs.judge.judge_delete.Tie as tie
@@ -10,11 +13,12 @@ judge-delete-spec =
     (λ c κs. search deleting)  -- find-requires
     (λ c κs. search deleting)  -- verdict-requires
     (λ c. search deleting)  -- returns
-    (λ c κs. search deleting)  -- unreferred-requires
+    (λ c. search deleting)  -- mul-if2
+    (λ c. search deleting)  -- shared-slice-read-if2
     (λ c κs. search deleting)  -- verdict-requires-2
     (λ c. search deleting)  -- returns-2
     (λ c. search deleting)  -- mul-entry-length
-    (λ c. search deleting)  -- shared-slice-read-entry-length
+    (λ c. let i = place-in _ _ _ _ _ (c .before .before .before .before .before .before .before .before .before .pre .0) _ (c .before .before .before .before .before .before .before .before .before .pre .2) _ (c .before .before .before .before .find .ensures) (not-false _ (c .before .before .before .if1 .left)) in search (needs, i))  -- shared-slice-read-entry-length
     (λ c κs. search deleting)  -- entry-length-requires
     (λ c. search deleting)  -- add-gone
     (λ c κs. search deleting)  -- width-requires
