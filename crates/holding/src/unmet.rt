@@ -19,15 +19,8 @@ pub fn unmet(holding: &[u8], starts: &[u64], counts: &mut [u64], count: usize) -
     clear(&mut *counts, count);
     let mut i = 0;
     while i < count {
-        if !note(
-            holding,
-            holding,
-            starts,
-            &mut *counts,
-            count,
-            starts[i],
-            true,
-        ) {
+        let entry = starts[i];
+        if !note(holding, holding, starts, &mut *counts, count, entry, true) {
             return i + 1;
         }
         i += 1;

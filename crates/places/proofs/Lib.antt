@@ -5,4 +5,5 @@ pub mod MoveLaws
 pub mod LineLaws
 pub mod ReferenceLaws
 pub mod CountLaws
+pub mod CountedLaws
 pub mod NoteLaws

@@ -1,6 +1,6 @@
 -- The laws by which references are looked up and counted: one for each way out.
 use mathlib.Core.Path.{_≡_, refl, sym, ap, _∙_, subst}
-use mathlib.Core.Bool.{Bool, true, false, _&&_}
+use mathlib.Core.Bool.{Bool, true, false}
 use mathlib.Core.Option.{Option, none, some}
 use mathlib.Core.List.{List, [], _∷_, _++_}
 use Prim.Native.Nat.{ℕ, zero, suc, _+_, _-_, _≤_, _<_}
@@ -14,12 +14,12 @@ use lib.Dec.{T}
 use lib.ListN.{length, getD, take, set}
 use lib.Seq.{take-suc-set}
 use Rattle.base.specs.Lists.{some?, zeros}
-use Rattle.base.specs.Tests.{and-r, T-true}
+use Rattle.base.specs.Tests.{and-r}
 use Rattle.theory.specs.Tri.{isEq}
 use Rattle.theory.specs.Lex.{lex}
 use Rattle.theory.specs.Store.{cons?, get}
 use Rattle.theory.specs.Place.{rank}
-use Rattle.theory.specs.Refs.{apart, has, meets}
+use Rattle.theory.specs.Refs.{apart, has}
 use Rattle.meaning.specs.Records.{Rec}
 use Rattle.keys.specs.declared.Key.{Key}
 use Rattle.keys.specs.declared.Referred.{Referred}
@@ -27,7 +27,7 @@ use Rattle.keys.specs.declared.Referred.the-variants.{To, Nothing}
 use Rattle.keys.specs.Numbers.{keyList, referredAs, refNumbers, numbered}
 use Rattle.places.specs.Places.{says, metBy}
 use Rattle.places.specs.declared.references.Named.{Named}
-use Rattle.places.specs.References.{refsAs, RefersAs}
+use Rattle.places.specs.References.{RefersAs}
 use Rattle.places.specs.Counts.{moved, Movable, noted, notedAll, Open, NotesOne, Notes}
 use Rattle.places.proofs.SearchLaws.{stands-in}
 use Rattle.places.proofs.ReferenceLaws.{met-nothing, met-own, met-told, rows-first, rows-second}

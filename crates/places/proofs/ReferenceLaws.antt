@@ -1,8 +1,8 @@
 -- The laws of references: one is met or not, what a record refers to, and whether both are met.
 use mathlib.Core.Path.{_≡_, refl, sym, subst, _∙_}
-use mathlib.Core.Bool.{Bool, true, false, not, _&&_}
+use mathlib.Core.Bool.{Bool, true, false, _&&_}
 use mathlib.Core.Option.{Option, none, some}
-use mathlib.Core.List.{List, [], _∷_}
+use mathlib.Core.List.{List, []}
 use Prim.Native.Nat.{ℕ, _-_, _/_, _%_, _<_}
 use borrow.Author.Needs.{needs}
 use borrow.Author.Tests.{not-true, not-false}
@@ -27,7 +27,7 @@ use Rattle.keys.specs.declared.Referred.{Referred}
 use Rattle.keys.specs.declared.Referred.the-variants.{To, Nothing}
 use Rattle.keys.specs.Numbers.{keyList, referredAs, keyNumbers, refNumbers, refAt, numbered}
 use Rattle.keys.specs.KeyLaws.{refs-are, meets-agree, asc-numbered}
-use Rattle.places.specs.Places.{known, recOf, lineAt, entry, says, metBy}
+use Rattle.places.specs.Places.{known, recOf, lineAt, entry, metBy}
 use Rattle.places.specs.declared.references.Named.{Named}
 use Rattle.places.specs.References.{RefersAs}
 use Rattle.places.proofs.SaysLaws.{entry-held, entry-filed}

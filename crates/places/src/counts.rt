@@ -1,10 +1,10 @@
 // How often the records in force refer to each of them: counts beside the entries, so that a delete need look at one number only.
 ghost use mathlib.Core.Path.{_≡_};
+ghost use mathlib.Core.List.{[]};
 ghost use Prim.Native.Nat.{_≤_};
 ghost use lib.ListN.{length, take};
 ghost use Rattle.base.specs.Lists.{zeros};
 ghost use Rattle.theory.specs.Store.{Asc, cons?};
-ghost use mathlib.Core.List.{[]};
 ghost use Rattle.keys.specs.Numbers.{keyList, referredAs, numbered, refNumbers};
 ghost use Rattle.places.specs.Places.{entry, says};
 ghost use Rattle.places.specs.Counts.{moved, Movable, Open, NotesOne, Notes};

@@ -38,7 +38,8 @@ use Rattle.places.specs.Counts.{tally, byKey, Counted, notedAll, Open, Notes}
 use Rattle.places.proofs.SaysLaws.{entry-odd, put-says, set-says, close-says}
 use Rattle.places.proofs.SearchLaws.{stands-in}
 use Rattle.places.proofs.ReferenceLaws.{asc-told}
-use Rattle.places.proofs.CountLaws.{length-noted, insert-open, insert-told, old-open, old-met, update-open, update-told, delete-told}
+use Rattle.places.proofs.CountLaws.{length-noted}
+use Rattle.places.proofs.CountedLaws.{insert-open, insert-told, old-open, old-met, update-open, update-told, delete-told}
 use Rattle.volume.specs.declared.lines.Change as code-change
 use Rattle.volume.specs.declared.lines.Line.{Line}
 use Rattle.volume.specs.Meant.{changeMeant}

@@ -16,8 +16,8 @@ unmet-spec =
     (λ holding starts counts₀ count i₀ counts i. count - i)
     (λ c κs. search unmets)  -- clear-requires
     (λ c. search unmets)  -- loop-holds
-    (λ c. search unmets)  -- mul-note
-    (λ c. search unmets)  -- shared-slice-read-note
+    (λ c. search unmets)  -- mul-entry
+    (λ c. search unmets)  -- shared-slice-read-entry
     (λ c κs. search unmets)  -- note-requires
     (λ c. search unmets)  -- add-result
     (λ c. search unmets)  -- same-length
