@@ -2,7 +2,6 @@
 use mathlib.Core.Path.{_≡_, refl, ap, _∙_, sym}
 use mathlib.Core.List.{List}
 use Prim.Native.Nat.{ℕ}
-use borrow.Author.Needs.{needs}
 use Rattle.base.specs.Lists.{zeros}
 use Rattle.theory.specs.Answer.{Answer, took, refused}
 use Rattle.meaning.specs.Holding.{written}
