@@ -159,13 +159,13 @@ module _ (text old : List ℕ) (b : Bool) (t : b ≡ leb (length text) (length o
 
 module _ (h f b t u : List ℕ) (room space : ℕ) (r : Loaded) (w : Loads h f b t u space r) where
   -- what the load refuses
-  pub undo-refused : (out work : List ℕ) → (r .answer .code ≡ 0 → ⊥) → out ≡ zeros room → work ≡ zeros space → UndoOutcome h f room space (r .answer) out work
+  pub undo-refused : (a : Six′) (out work : List ℕ) → (r .answer .code ≡ 0 → ⊥) → a ≡ r .answer → out ≡ zeros room → work ≡ zeros space → UndoOutcome h f room space a out work
   unfolding undoFile undone
-  undo-refused out work n o z = go (load space h f) (w .answered)
+  undo-refused a out work n p o z = go (load space h f) (w .answered)
     where
-      go : (x : Answer) → r .answer ≡ answerOf (numbers x) → (r .answer ≡ answerOf (undone room space (undoBytes h f) x .answer)) × (out ≡ undone room space (undoBytes h f) x .output) × (work ≡ undone room space (undoBytes h f) x .work)
-      go (took new i p d) q = absurd (n (ap (λ y. y .code) q))
-      go (refused c l x) q = (q, o, z)
+      go : (x : Answer) → r .answer ≡ answerOf (numbers x) → (a ≡ answerOf (undone room space (undoBytes h f) x .answer)) × (out ≡ undone room space (undoBytes h f) x .output) × (work ≡ undone room space (undoBytes h f) x .work)
+      go (took new i s d) q = absurd (n (ap (λ y. y .code) q))
+      go (refused c l x) q = (p ∙ q, o, z)
 
   module _ (m : r .answer .code ≡ 0) where
     -- there is an entry for each step
