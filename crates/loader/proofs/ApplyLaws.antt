@@ -2,12 +2,12 @@
 use mathlib.Core.Path.{_≡_, refl, ap, _∙_, sym}
 use mathlib.Core.List.{List}
 use Prim.Native.Nat.{ℕ}
-use borrow.Author.Needs.{needs}
 use Rattle.base.specs.Lists.{zeros}
 use Rattle.theory.specs.Answer.{Answer, took, refused}
 use Rattle.meaning.specs.Holding.{written}
 use Rattle.meaning.specs.Load.{load, filled, applied, apply}
 use Rattle.places.specs.Places.{says}
+use Rattle.volume.specs.declared.check.Answer.{Answer as Answer′}
 use Rattle.volume.specs.Answer.{answerOf}
 use Rattle.loader.specs.declared.load.Loaded.{Loaded}
 use Rattle.loader.specs.Loaded.{numbers, Loads}
@@ -24,9 +24,9 @@ module _ (h f b t u : List ℕ) (room : ℕ) (r : Loaded) (w : Loads h f b t u r
   answers = w .answered ∙ ap answerOf (numbers-applied room (load room h f))
 
   -- a refusal
-  pub apply-refused : (out : List ℕ) → (r .answer .code ≡ 0 → ⊥) → out ≡ zeros room → Outcome h f room (r .answer) out
+  pub apply-refused : (a : Answer′) (out : List ℕ) → (r .answer .code ≡ 0 → ⊥) → a ≡ r .answer → out ≡ zeros room → Outcome h f room a out
   unfolding apply
-  apply-refused out n e = (answers, e ∙ go (load room h f) (w .answered))
+  apply-refused a out n p e = (p ∙ answers, e ∙ go (load room h f) (w .answered))
     where
       go : (x : Answer) → r .answer ≡ answerOf (numbers x) → zeros room ≡ applied room x .output
       go (took new i u d) q = absurd (n (ap (λ y. y .code) q))

@@ -30,9 +30,8 @@ use Rattle.places.specs.Counts.{Counted}
 use Rattle.volume.specs.declared.check.Answer.{Answer as Six′}
 use Rattle.volume.specs.Answer.{answerOf}
 use Rattle.holding.specs.declared.read.Held.{Held}
-use Rattle.holding.specs.Read.{faultOf, recordsOf, Listed, HeldIs}
+use Rattle.holding.specs.Read.{faultOf, recordsOf, HeldIs}
 use Rattle.holding.proofs.ReadLaws.{held-sound}
-use Rattle.steps.specs.declared.judge.State.{State}
 use Rattle.steps.specs.declared.run.Ran.{Ran}
 use Rattle.steps.specs.Ready.{Ready}
 use Rattle.steps.specs.Run.{isFile, changesOf, ranAs, Kept, Runs}

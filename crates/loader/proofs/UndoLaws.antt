@@ -1,13 +1,13 @@
 -- The laws of undo: its parts one after another, whether they fit, and what is left at each way out.
-use mathlib.Core.Path.{_≡_, refl, sym, ap, _∙_}
+use mathlib.Core.Path.{_≡_, sym, ap, _∙_}
 use mathlib.Core.Bool.{Bool, true, false}
-use mathlib.Core.List.{List, [], _∷_, _++_}
+use mathlib.Core.List.{List, [], _++_}
 use Prim.Native.Nat.{ℕ, _+_, _-_, _^_, _≤_, _<_}
 use native.Mathlib.Decide.{decLe}
-use native.Mathlib.Nat.{lt-of-not-le, sub-zero}
+use native.Mathlib.Nat.{lt-of-not-le}
 use native.Mathlib.Omega.{arith}
 use borrow.Author.Needs.{needs}
-use borrow.Author.Tests.{not-true, not-false, le-leb, lt-leb, leb-true}
+use borrow.Author.Tests.{le-leb, lt-leb, leb-true}
 use borrow.Rule.Slice.PartMut.{putMid}
 use mir.Syntax.{w64}
 use mir.Val.{Fits}
@@ -159,13 +159,13 @@ module _ (text old : List ℕ) (b : Bool) (t : b ≡ leb (length text) (length o
 
 module _ (h f b t u : List ℕ) (room space : ℕ) (r : Loaded) (w : Loads h f b t u space r) where
   -- what the load refuses
-  pub undo-refused : (out work : List ℕ) → (r .answer .code ≡ 0 → ⊥) → out ≡ zeros room → work ≡ zeros space → UndoOutcome h f room space (r .answer) out work
+  pub undo-refused : (a : Six′) (out work : List ℕ) → (r .answer .code ≡ 0 → ⊥) → a ≡ r .answer → out ≡ zeros room → work ≡ zeros space → UndoOutcome h f room space a out work
   unfolding undoFile undone
-  undo-refused out work n o z = go (load space h f) (w .answered)
+  undo-refused a out work n p o z = go (load space h f) (w .answered)
     where
-      go : (x : Answer) → r .answer ≡ answerOf (numbers x) → (r .answer ≡ answerOf (undone room space (undoBytes h f) x .answer)) × (out ≡ undone room space (undoBytes h f) x .output) × (work ≡ undone room space (undoBytes h f) x .work)
-      go (took new i p d) q = absurd (n (ap (λ y. y .code) q))
-      go (refused c l x) q = (q, o, z)
+      go : (x : Answer) → r .answer ≡ answerOf (numbers x) → (a ≡ answerOf (undone room space (undoBytes h f) x .answer)) × (out ≡ undone room space (undoBytes h f) x .output) × (work ≡ undone room space (undoBytes h f) x .work)
+      go (took new i s d) q = absurd (n (ap (λ y. y .code) q))
+      go (refused c l x) q = (p ∙ q, o, z)
 
   module _ (m : r .answer .code ≡ 0) where
     -- there is an entry for each step

@@ -15,7 +15,7 @@ use Rattle.theory.specs.Answer as theory
 use Rattle.meaning.specs.Records.{Rec, keyed}
 use Rattle.meaning.specs.File.{Sheet, blank}
 use Rattle.meaning.specs.Holding.{Held, sound, unsound, readHolding, written}
-use Rattle.meaning.specs.Load.{six, load, filled, undoBytes, Undone, undone, undoFile}
+use Rattle.meaning.specs.Load.{load, filled, undoBytes, Undone, undone, undoFile}
 use Rattle.laws.specs.Buffers.{work-zeros, undo-output, one-outcome}
 use Rattle.laws.specs.Demand2.{Allowed, afterAll, allowed-takes}
 use Rattle.laws.specs.Demand3.{undo-sound, undo-answers, empty-body}
@@ -56,6 +56,26 @@ refused-nothing old b room space n = go (load space old b) n
     go (took new i u d) m = either (leb (length (undoBytes old b)) room) _ _ refl (refl, refl, refl, refl) m
     go (refused c l f) m = (refl, refl, refl, refl)
 
+-- ---- what was read of a file that is taken
+
+module _ (old b : List ℕ) (lent : ℕ) (a : Allowed old b lent) where
+  takes : Takes lent old b (written (afterAll a))
+  takes = allowed-takes old b lent a
+
+  same-sheet : _≡_ {A = Sheet} (takes .fr, takes .cs) (a .fr, a .cs)
+  same-sheet = ap sheetOf (sym (takes .read) ∙ sound-read b (a .fr) (a .cs) (a .lines))
+
+  same-state : takes .st ≡ a .st
+  same-state = ap stateOf (sym (held-sound old (takes .st) (readHolding old) (takes .held)) ∙ sound-held old (a .st) (a .held))
+
+  -- its undo is a sound file with the same header, metadata and trailer, and its body takes the steps backwards
+  pub undo-says : SoundFile (undoBytes old b) (a .fr) (undo (after keyed) (back keyed) (a .st) (a .cs))
+  undo-says =
+      subst (λ p. SoundFile (undoBytes old b) (p .0) (undo (after keyed) (back keyed) (a .st) (p .1))) same-sheet
+      (subst (λ st. SoundFile (undoBytes old b) (takes .fr) (undo (after keyed) (back keyed) st (takes .cs))) same-state (undo-sound lent old b (written (afterAll a)) takes))
+
+-- ---- what undo leaves
+
 module _ (old b : List ℕ) (room space : ℕ) (r : Answer) (out work : List ℕ) (o : UndoOutcome old b room space r out work) where
   -- the work buffer is all zeros afterwards, whatever happens
   pub work-left : work ≡ zeros space
@@ -75,39 +95,21 @@ module _ (old b : List ℕ) (room space : ℕ) (r : Answer) (out work : List ℕ
   pub only-one-undo : (s : Answer) (put waste : List ℕ) → UndoOutcome old b room space s put waste → (r ≡ s) × (out ≡ put) × (work ≡ waste)
   only-one-undo s put waste p = (one-outcome _ r s (o .0) (p .0), one-outcome _ out put (o .1) (p .1), one-outcome _ work waste (o .2) (p .2))
 
-  -- ---- the undo of a file that is taken with a buffer of some length
-
   module _ (lent : ℕ) (a : Allowed old b lent) where
-    takes : Takes lent old b (written (afterAll a))
-    takes = allowed-takes old b lent a
-
-    -- only 13 and 17 can refuse it
+    -- of a file that is taken with a buffer of some length, only 13 and 17 can refuse the undo
     pub undo-codes : T (eqb (r .code) 0 || (eqb (r .code) 13 || eqb (r .code) 17))
-    undo-codes = rw (o .0) (undo-refusals lent room space old b (written (afterAll a)) takes .codes)
+    undo-codes = rw (o .0) (undo-refusals lent room space old b (written (afterAll a)) (takes old b lent a) .codes)
 
-    -- what was read of the file is its frame and its changes
-    same-sheet : _≡_ {A = Sheet} (takes .fr, takes .cs) (a .fr, a .cs)
-    same-sheet = ap sheetOf (sym (takes .read) ∙ sound-read b (a .fr) (a .cs) (a .lines))
+    -- demand 3: what is left is a file that apply takes, over the holding that it left, with such a buffer, and leaves the old holding
+    pub hands-back : r .code ≡ 0
+        → (u : List ℕ) × ((out ≡ filled room u) × ((s : Answer) (again : List ℕ) → Outcome (written (afterAll a)) u lent s again → (s .code ≡ 0) × (again ≡ filled lent old)))
+    hands-back e =
+        let t = taken lent (written (afterAll a)) (undoBytes old b) old (undo-takes lent old b (written (afterAll a)) (takes old b lent a)) in
+        (undoBytes old b, (undo-leaves e, λ s again p. (ap (λ x. x .code) (p .0) ∙ ap (λ x. x .answer .code) t, p .1 ∙ ap (λ x. x .output) t)))
 
-    -- and of the holding, its records
-    same-state : takes .st ≡ a .st
-    same-state = ap stateOf (sym (held-sound old (takes .st) (readHolding old) (takes .held)) ∙ sound-held old (a .st) (a .held))
-
-    -- the file that it leaves is sound, has the same header, metadata and trailer, and its body takes the steps backwards
-    pub undo-says : SoundFile (undoBytes old b) (a .fr) (undo (after keyed) (back keyed) (a .st) (a .cs))
-    undo-says =
-        subst (λ p. SoundFile (undoBytes old b) (p .0) (undo (after keyed) (back keyed) (a .st) (p .1))) same-sheet
-        (subst (λ st. SoundFile (undoBytes old b) (takes .fr) (undo (after keyed) (back keyed) st (takes .cs))) same-state (undo-sound lent old b (written (afterAll a)) takes))
-
-    -- demand 3: over the holding that apply leaves, apply takes it and leaves the old holding
-    pub hands-back : (s : Answer) (back : List ℕ) → Outcome (written (afterAll a)) (undoBytes old b) lent s back → (s .code ≡ 0) × (back ≡ filled lent old)
-    hands-back s back p =
-        let t = taken lent (written (afterAll a)) (undoBytes old b) old (undo-takes lent old b (written (afterAll a)) takes) in
-        (ap (λ x. x .code) (p .0) ∙ ap (λ x. x .answer .code) t, p .1 ∙ ap (λ x. x .output) t)
-
-    -- a file without body lines is its own undo
+    -- of a file without body lines it is the file itself
     pub empty-undo : a .cs ≡ [] → r .code ≡ 0 → out ≡ filled room b
-    empty-undo e z = undo-leaves z ∙ ap (filled room) (empty-body lent old b (written (afterAll a)) takes (ap (λ p. p .1) same-sheet ∙ e) .1)
+    empty-undo e z = undo-leaves z ∙ ap (filled room) (empty-body lent old b (written (afterAll a)) (takes old b lent a) (ap (λ p. p .1) (same-sheet old b lent a) ∙ e) .1)
 
   -- with a work buffer in which the file is taken, it is written exactly if its output has room for it
   pub undo-exactly : (a : Allowed old b space) → (r .code ≡ 0 → length (undoBytes old b) ≤ room) × (length (undoBytes old b) ≤ room → r .code ≡ 0)

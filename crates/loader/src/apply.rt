@@ -2,6 +2,7 @@
 ghost use mathlib.Core.Path.{_≡_};
 ghost use Prim.Native.Nat.{_≤_};
 ghost use lib.ListN.{length};
+ghost use Rattle.base.specs.Lists.{zeros};
 ghost use Rattle.meaning.specs.Holding.{written};
 ghost use Rattle.meaning.specs.Load.{filled};
 ghost use Rattle.places.specs.Places.{says};
@@ -9,6 +10,14 @@ ghost use Rattle.loader.specs.Outcome.{Outcome};
 use crate::load::load;
 use volume::check::Answer;
 use writer::runs::write_holding;
+
+// A refusal: the output is all zeros.
+pub fn refuse(out: &mut [u8], answer: Answer) -> Answer
+    ensures { λ r. ⌜ (r ≡ answer) × (now (out .exit) ≡ zeros (length (now (out .entry)))) ⌝ }
+{
+    text::put::zeros(&mut *out);
+    answer
+}
 
 // The new holding, then zeros to the end of the output.
 pub fn fill(out: &mut [u8], holding: &[u8], file: &[u8], places: &[u64], count: usize)
@@ -30,8 +39,7 @@ pub fn apply(holding: &[u8], file: &[u8], out: &mut [u8]) -> Answer
     let loaded = load(holding, file, &mut places, &mut steps, &mut before, room);
     let answer = loaded.answer;
     if answer.code != 0 {
-        text::put::zeros(&mut *out);
-        return answer;
+        return refuse(&mut *out, answer);
     }
     fill(&mut *out, holding, file, &places, loaded.count);
     answer

@@ -9,6 +9,7 @@ ghost use Rattle.text.specs.Front.{inFront};
 ghost use Rattle.volume.specs.Answer.{answerOf};
 ghost use Rattle.loader.specs.Loaded.{undoText, FitsUndo, Lent};
 ghost use Rattle.loader.specs.UndoOutcome.{UndoOutcome};
+use crate::apply::refuse;
 use crate::load::load;
 use text::lines::line_end;
 use text::put;
@@ -97,8 +98,7 @@ pub fn undo(holding: &[u8], file: &[u8], out: &mut [u8], work: &mut [u8]) -> Ans
     let loaded = load(holding, file, &mut places, &mut steps, &mut before, space);
     let answer = loaded.answer;
     if answer.code != 0 {
-        put::zeros(&mut *out);
-        return answer;
+        return refuse(&mut *out, answer);
     }
     let n = loaded.steps;
     let end = loaded.end;

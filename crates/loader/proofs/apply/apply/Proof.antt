@@ -12,9 +12,9 @@ apply-spec =
     (λ c. search needs)  -- slice-aggregate-load-2
     (λ c. search needs)  -- slice-aggregate-load-3
     (λ c κs. search needs)  -- load-requires
-    (λ c κs. search needs)  -- zeros-requires
+    (λ c κs. search needs)  -- refuse-requires
     (λ c. search needs)  -- same-length
-    (λ c. apply-refused _ _ _ _ _ _ _ (c .before .before .before .before .before .before .before .before .before .before .load .ensures) _ (c .before .before .before .before .if1 .taken) (c .before .before .zeros .ensures))  -- returns
+    (λ c. apply-refused _ _ _ _ _ _ _ (c .before .before .before .before .before .before .before .before .before .before .load .ensures) _ _ (c .before .before .before .before .if1 .taken) (c .before .before .refuse .ensures .0) (c .before .before .refuse .ensures .1))  -- returns
     (λ c. search needs)  -- slice-aggregate-fill
     (λ c κs. let t = c .before .before .before .before .before .before .before .before .load .ensures .taken (c .before .before .if1 .left) in (t .held, t .fits))  -- fill-requires
     (λ c. search needs)  -- same-length-2

@@ -1,7 +1,6 @@
 -- `loader::undo::put_undo` meets its contract.
-use Rattle.loader.proofs.UndoLaws.{putting}
+use Rattle.loader.proofs.UndoLaws.{putting, put-fits, put-two, put-rest, put-all-fits, put-count, put-done}
 use borrow.Author.Needs.{needs}
-use Rattle.loader.proofs.UndoLaws.{put-fits, put-two, put-rest, put-all-fits, put-count, put-done}
 use Rattle.loader.proofs.undo.put_undo.Statement.{statement}
 use Rattle.loader.proofs.undo.put_undo.Tie as tie
 

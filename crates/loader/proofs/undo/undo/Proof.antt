@@ -14,10 +14,10 @@ undo-spec =
     (λ c. search needs)  -- slice-aggregate-load-2
     (λ c. search needs)  -- slice-aggregate-load-3
     (λ c κs. search needs)  -- load-requires
-    (λ c κs. search needs)  -- zeros-requires-2
+    (λ c κs. search needs)  -- refuse-requires
     (λ c. search needs)  -- same-length
     (λ c. search needs)  -- same-length-2
-    (λ c. let g = c .before .before .before .before .before .before .before .before .before .before .before .before .before .before .before .before .before .before .before .before .before .before .args in undo-refused (g .holding .now) (g .file .now) _ _ _ (length (g .out .now)) (length (g .work .now)) _ (c .before .before .before .before .before .before .before .before .before .before .load .ensures) _ _ (c .before .before .before .before .if1 .taken) (c .before .before .zeros2 .ensures) (c .before .before .before .before .before .before .before .before .before .before .before .before .before .before .before .before .zeros .ensures))  -- returns
+    (λ c. let g = c .before .before .before .before .before .before .before .before .before .before .before .before .before .before .before .before .before .before .before .before .before .before .args in undo-refused (g .holding .now) (g .file .now) _ _ _ (length (g .out .now)) (length (g .work .now)) _ (c .before .before .before .before .before .before .before .before .before .before .load .ensures) _ _ _ (c .before .before .before .before .if1 .taken) (c .before .before .refuse .ensures .0) (c .before .before .refuse .ensures .1) (c .before .before .before .before .before .before .before .before .before .before .before .before .before .before .before .before .zeros .ensures))  -- returns
     (λ c. search needs)  -- slice-aggregate-fill-undo
     (λ c. search needs)  -- slice-aggregate-fill-undo-2
     (λ c κs. let g = c .before .before .before .before .before .before .before .before .before .before .before .before .before .before .before .before .before .before .before .before .before .args in (undo-steps (g .holding .now) (g .file .now) _ _ _ (length (g .out .now)) (length (g .work .now)) _ (c .before .before .before .before .before .before .before .before .before .load .ensures) (c .before .before .before .if1 .left) (search needs), undo-lent (g .holding .now) (g .file .now) _ _ _ (length (g .out .now)) (length (g .work .now)) _ (c .before .before .before .before .before .before .before .before .before .load .ensures) (c .before .before .before .if1 .left) (search needs)))  -- fill-undo-requires

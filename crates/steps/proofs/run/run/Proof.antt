@@ -1,6 +1,5 @@
 -- `steps::run::run` meets its contract.
-use Rattle.steps.proofs.RunLaws.{running}
-use Rattle.steps.proofs.RunLaws.{Going, go-steps, go-before, go-turn, go-stop}
+use Rattle.steps.proofs.RunLaws.{running, Going, go-steps, go-before, go-turn}
 use borrow.Author.Needs.{needs}
 use borrow.Author.Tests.{not-false}
 use lib.ListN.{length}

@@ -1,6 +1,5 @@
 -- `writer::room::back_fits` meets its contract.
-use Rattle.writer.proofs.RoomLaws.{fitting}
-use Rattle.writer.proofs.RoomLaws.{Fitting}
+use Rattle.writer.proofs.RoomLaws.{fitting, Fitting}
 use Rattle.steps.specs.Back.{stepsBack}
 use mathlib.Core.List.{[]}
 use Prim.Native.Nat.{_-_, _≤_}
