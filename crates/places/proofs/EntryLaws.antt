@@ -1,6 +1,6 @@
 -- The laws of the keys of lines and entries.
-use mathlib.Core.Path.{_≡_, ap, _∙_}
-use mathlib.Core.List.{List, []}
+use mathlib.Core.Path.{_≡_, sym, ap, _∙_}
+use mathlib.Core.List.{List, [], _∷_}
 use Prim.Native.Nat.{ℕ, _-_, _/_, _%_, _<_}
 use native.Mathlib.Nat.{sub-zero}
 use native.Mathlib.Omega.{arith}
@@ -9,19 +9,25 @@ use lib.ListN.{length, take, drop, length-drop}
 use lib.Seq.{take-all}
 use Rattle.base.proofs.Walk.{at-end}
 use Rattle.theory.specs.Tri.{Tri}
-use Rattle.theory.specs.Lex.{lex}
+use Rattle.theory.specs.Lex.{cmpN, lex}
+use Rattle.theory.specs.Decimal.{value}
 use Rattle.meaning.specs.Lines.{identifier}
-use Rattle.meaning.specs.Table.{Kind, header, kindOf}
+use Rattle.meaning.specs.Table.{Kind, header, ident, keyNames, kindOf}
 use Rattle.meaning.specs.Records.{contentOf}
 use Rattle.text.specs.Places.{lineLen, lineEnd, contentStart}
 use Rattle.text.proofs.FieldLaws.{identifier-part, content-part}
 use Rattle.layout.specs.declared.kinds.Kind as code
 use Rattle.layout.specs.declared.kinds.KindFound as found
 use Rattle.layout.specs.declared.kinds.KindFound.the-variants.{Known, Unknown}
+use Rattle.layout.specs.declared.records.Layout.{Layout}
 use Rattle.layout.specs.Meant.{kindMeant, kindFound}
-use Rattle.keys.specs.Numbers.{keyNumbers}
+use Rattle.layout.specs.Rows.{padded, laidOut}
+use Rattle.keys.specs.Numbers.{numbersNamed, keyNumbers}
+use Rattle.keys.proofs.RowLaws.{lex-first}
 use Rattle.places.specs.Places.{known, recOf, lineAt, entry}
+use Rattle.places.specs.Fields.{afterFields}
 use Rattle.places.proofs.SaysLaws.{entry-held, entry-filed}
+use Rattle.places.proofs.FieldLaws.{content-three}
 
 module _ (t : List ℕ) (n : ℕ) (r : found.KindFound) (e : n ≡ length (identifier t)) (g : kindFound r ≡ kindOf (take (n - 0) t)) where
   found-is : kindFound r ≡ kindOf (identifier t)
@@ -46,12 +52,6 @@ pub rec-line : (t : List ℕ) (k : Kind) (c : ℕ) → k ≡ known (kindOf (iden
 unfolding recOf
 rec-line t k c e q = rw (e, content-told t c q)
 
--- and so is its key
-pub key-line : (t r : List ℕ) (k : Kind) (c : ℕ) → k ≡ known (kindOf (identifier t)) → c ≡ contentStart t → r ≡ keyNumbers (record { kind = k; content = take (length t - c) (drop c t) }) → r ≡ keyNumbers (recOf t)
-key-line t r k c e q u = u ∙ ap keyNumbers (rec-line t k c e q)
-
-pub ruleset linekey = (needs, key-line)
-
 -- past the end stands an empty line
 pub line-past : (s : List ℕ) (at : ℕ) → length s < at → [] ≡ lineAt s at
 unfolding lineAt lineLen
@@ -64,15 +64,31 @@ line-here s at e q =
     let n : e - at ≡ lineLen (drop at s) = omega arith in
     rw n
 
--- the key of what stands past the end
-pub record-past : (s r : List ℕ) (at : ℕ) → length s < at → r ≡ keyNumbers (recOf []) → r ≡ keyNumbers (recOf (lineAt s at))
-record-past s r at l u = u ∙ ap (λ t. keyNumbers (recOf t)) (line-past s at l)
+-- the record of the line at an offset is of its kind and content
+module _ (s : List ℕ) (at i c : ℕ) (k : Kind) (p : lineAt s i ≡ lineAt s at) (q : k ≡ known (kindOf (identifier (lineAt s i)))) (u : lineAt s c ≡ afterFields 3 (lineAt s i)) where
+  rec-at : record { kind = k; content = lineAt s c } ≡ recOf (lineAt s at)
+  unfolding recOf
+  rec-at = rw (← p, q, u, content-three (lineAt s i))
 
--- the key of a line
-pub record-here : (s r : List ℕ) (at e : ℕ) → e ≡ lineEnd s at → r ≡ keyNumbers (recOf (take (e - at) (drop at s))) → r ≡ keyNumbers (recOf (lineAt s at))
-record-here s r at e q u = u ∙ ap (λ t. keyNumbers (recOf t)) (line-here s at e q)
+  -- and so is its key
+  pub key-line : (r : List ℕ) → r ≡ keyNumbers (record { kind = k; content = lineAt s c }) → r ≡ keyNumbers (recOf (lineAt s at))
+  key-line r e = e ∙ ap keyNumbers rec-at
 
-pub ruleset recordkey = (needs, record-past, record-here)
+  -- to which another is compared
+  pub order-line : (j r : List ℕ) (o : Tri) → r ≡ keyNumbers (record { kind = k; content = lineAt s c }) → o ≡ lex j r → o ≡ lex j (keyNumbers (recOf (lineAt s at)))
+  order-line j r o e w = w ∙ ap (lex j) (key-line r e)
+
+pub ruleset recordkey = (needs, key-line)
+
+-- kinds that differ tell the order
+pub order-kind : (s : List ℕ) (at i : ℕ) (k : Kind) (l : Layout) (x : ℕ) (xs : List ℕ) (o : Tri) → lineAt s i ≡ lineAt s at → k ≡ known (kindOf (identifier (lineAt s i))) → l ≡ laidOut k
+    → (x ≡ l .number → ⊥) → o ≡ cmpN x (l .number) → o ≡ lex (x ∷ xs) (keyNumbers (recOf (lineAt s at)))
+unfolding keyNumbers recOf laidOut
+order-kind s at i k l x xs o p q e n u =
+    let m : l .number ≡ value (ident (known (kindOf (identifier (lineAt s at))))) = ap (λ y. y .number) e ∙ rw (q, p) in
+    lex-first x (value (ident (known (kindOf (identifier (lineAt s at)))))) xs (padded 3 (numbersNamed (recOf (lineAt s at)) (keyNames (recOf (lineAt s at) .kind)))) o (λ z. n (z ∙ sym m)) (u ∙ rw m)
+
+pub ruleset linesorder = (needs, order-line, order-kind)
 
 -- an even entry's key is read in the holding
 pub key-held : (h f r : List ℕ) (v : ℕ) → v % 2 ≡ 0 → r ≡ keyNumbers (recOf (lineAt h (v / 2))) → r ≡ keyNumbers (entry h f v)
@@ -84,8 +100,12 @@ key-filed h f r v e u = u ∙ rw (entry-filed h f v e)
 
 pub ruleset entrykey = (needs, key-held, key-filed)
 
--- keys are compared by their numbers
-pub key-against : (k j x : List ℕ) (o : Tri) → o ≡ lex k j → j ≡ x → o ≡ lex k x
-key-against k j x o e u = e ∙ rw u
+-- a key is compared to an even entry's in the holding
+pub order-held : (h f : List ℕ) (j : List ℕ) (o : Tri) (v : ℕ) → v % 2 ≡ 0 → o ≡ lex j (keyNumbers (recOf (lineAt h (v / 2)))) → o ≡ lex j (keyNumbers (entry h f v))
+order-held h f j o v e u = u ∙ rw (entry-held h f v e)
 
-pub ruleset keyagainst = (needs, key-against)
+-- and to an odd one's in the file
+pub order-filed : (h f : List ℕ) (j : List ℕ) (o : Tri) (v : ℕ) → (v % 2 ≡ 0 → ⊥) → o ≡ lex j (keyNumbers (recOf (lineAt f (v / 2)))) → o ≡ lex j (keyNumbers (entry h f v))
+order-filed h f j o v e u = u ∙ rw (entry-filed h f v e)
+
+pub ruleset keyagainst = (needs, order-held, order-filed)

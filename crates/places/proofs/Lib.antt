@@ -1,3 +1,4 @@
+pub mod FieldLaws
 pub mod SaysLaws
 pub mod EntryLaws
 pub mod SearchLaws

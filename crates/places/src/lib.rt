@@ -3,6 +3,7 @@
 // An entry is twice the offset of its line's start, even for the holding and odd for the file. The array is lent, and its first n
 // entries count. `search` finds where a key stands among them, `moves` makes room and closes up, and laws of proofs/ say that the
 // array then says what `put` of the theory says. The counts beside the entries are moved by the same functions.
+pub mod fields; // the fields of the line at an offset
 pub mod entries; // the key of an entry's record
 pub mod search; // where a key stands
 pub mod moves; // room made, and closed up

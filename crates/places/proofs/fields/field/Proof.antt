@@ -1,0 +1,15 @@
+-- `places::fields::field` meets its contract.
+use Rattle.places.proofs.FieldLaws.{fielding}
+use Rattle.places.proofs.fields.field.Statement.{statement}
+use Rattle.places.proofs.fields.field.Tie as tie
+
+pub field-spec : {M : Type 1} → statement M
+field-spec =
+    tie.close
+    (tie.spec
+    (λ c κs. search fielding)  -- past-fields-requires
+    (λ c κs. search fielding)  -- field-end-requires
+    (λ c. search fielding)  -- sub-result
+    (λ c. search fielding)  -- part-result-start
+    (λ c. search fielding)  -- part-result-end
+    (λ c. search fielding))  -- returns

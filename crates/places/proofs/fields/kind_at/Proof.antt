@@ -1,0 +1,18 @@
+-- `places::fields::kind_at` meets its contract.
+use Rattle.places.proofs.FieldLaws.{kinding}
+use Rattle.places.proofs.fields.kind_at.Statement.{statement}
+use Rattle.places.proofs.fields.kind_at.Tie as tie
+
+pub kind-at-spec : {M : Type 1} → statement M
+kind-at-spec =
+    tie.close
+    (tie.spec
+    (λ c κs. search kinding)  -- field-end-requires
+    (λ c. search kinding)  -- sub-kind-of
+    (λ c. search kinding)  -- part-kind-of-start
+    (λ c. search kinding)  -- part-kind-of-end
+    (λ c κs. search kinding)  -- kind-of-requires
+    (λ c. search kinding)  -- enum-known-kind
+    (λ c. search kinding)  -- enum-told
+    (λ c. search kinding)  -- returns
+    (λ c. search kinding))  -- returns-2
