@@ -1,18 +1,17 @@
 -- The laws of the keys of lines and entries.
-use mathlib.Core.Path.{_≡_, sym, ap, _∙_}
+use mathlib.Core.Path.{_≡_, refl, ap, _∙_}
 use mathlib.Core.List.{List, [], _∷_}
 use Prim.Native.Nat.{ℕ, _-_, _/_, _%_, _<_}
 use native.Mathlib.Nat.{sub-zero}
 use native.Mathlib.Omega.{arith}
 use borrow.Author.Needs.{needs}
-use lib.ListN.{length, take, drop, length-drop}
+use lib.ListN.{length, getD, take, drop, length-drop}
 use lib.Seq.{take-all}
 use Rattle.base.proofs.Walk.{at-end}
 use Rattle.theory.specs.Tri.{Tri}
 use Rattle.theory.specs.Lex.{cmpN, lex}
-use Rattle.theory.specs.Decimal.{value}
 use Rattle.meaning.specs.Lines.{identifier}
-use Rattle.meaning.specs.Table.{Kind, header, ident, keyNames, kindOf}
+use Rattle.meaning.specs.Table.{Kind, header, kindOf}
 use Rattle.meaning.specs.Records.{contentOf}
 use Rattle.text.specs.Places.{lineLen, lineEnd, contentStart}
 use Rattle.text.proofs.FieldLaws.{identifier-part, content-part}
@@ -21,9 +20,10 @@ use Rattle.layout.specs.declared.kinds.KindFound as found
 use Rattle.layout.specs.declared.kinds.KindFound.the-variants.{Known, Unknown}
 use Rattle.layout.specs.declared.records.Layout.{Layout}
 use Rattle.layout.specs.Meant.{kindMeant, kindFound}
-use Rattle.layout.specs.Rows.{padded, laidOut}
-use Rattle.keys.specs.Numbers.{numbersNamed, keyNumbers}
-use Rattle.keys.proofs.RowLaws.{lex-first}
+use Rattle.layout.specs.Rows.{laidOut}
+use Rattle.keys.specs.Numbers.{keyNumbers}
+use Rattle.keys.specs.Places.{numberAt}
+use Rattle.keys.proofs.RowLaws.{lex-first, lex-after, key-is}
 use Rattle.places.specs.Places.{known, recOf, lineAt, entry}
 use Rattle.places.specs.Fields.{afterFields}
 use Rattle.places.proofs.SaysLaws.{entry-held, entry-filed}
@@ -64,31 +64,42 @@ line-here s at e q =
     let n : e - at ≡ lineLen (drop at s) = omega arith in
     rw n
 
--- the record of the line at an offset is of its kind and content
-module _ (s : List ℕ) (at i c : ℕ) (k : Kind) (p : lineAt s i ≡ lineAt s at) (q : k ≡ known (kindOf (identifier (lineAt s i)))) (u : lineAt s c ≡ afterFields 3 (lineAt s i)) where
-  rec-at : record { kind = k; content = lineAt s c } ≡ recOf (lineAt s at)
+module _ (s : List ℕ) (at i : ℕ) (k : Kind) (p : lineAt s i ≡ lineAt s at) (q : k ≡ known (kindOf (identifier (lineAt s i)))) where
+  -- the record of the line at an offset is of its kind, and of what stands after three fields
+  pub rec-at : record { kind = k; content = afterFields 3 (lineAt s i) } ≡ recOf (lineAt s at)
   unfolding recOf
-  rec-at = rw (← p, q, u, content-three (lineAt s i))
+  rec-at = rw (← p, q, content-three (lineAt s i))
 
   -- and so is its key
-  pub key-line : (r : List ℕ) → r ≡ keyNumbers (record { kind = k; content = lineAt s c }) → r ≡ keyNumbers (recOf (lineAt s at))
-  key-line r e = e ∙ ap keyNumbers rec-at
+  pub key-line : (c : ℕ) (r : List ℕ) → lineAt s c ≡ afterFields 3 (lineAt s i) → r ≡ keyNumbers (record { kind = k; content = lineAt s c }) → r ≡ keyNumbers (recOf (lineAt s at))
+  key-line c r u e = e ∙ rw u (ap keyNumbers rec-at)
 
   -- to which another is compared
-  pub order-line : (j r : List ℕ) (o : Tri) → r ≡ keyNumbers (record { kind = k; content = lineAt s c }) → o ≡ lex j r → o ≡ lex j (keyNumbers (recOf (lineAt s at)))
-  order-line j r o e w = w ∙ ap (lex j) (key-line r e)
+  pub order-line : (j : List ℕ) (o : Tri) → o ≡ lex j (keyNumbers (record { kind = k; content = afterFields 3 (lineAt s i) })) → o ≡ lex j (keyNumbers (recOf (lineAt s at)))
+  order-line j o e = e ∙ ap (λ r. lex j (keyNumbers r)) rec-at
 
 pub ruleset recordkey = (needs, key-line)
 
--- kinds that differ tell the order
-pub order-kind : (s : List ℕ) (at i : ℕ) (k : Kind) (l : Layout) (x : ℕ) (xs : List ℕ) (o : Tri) → lineAt s i ≡ lineAt s at → k ≡ known (kindOf (identifier (lineAt s i))) → l ≡ laidOut k
-    → (x ≡ l .number → ⊥) → o ≡ cmpN x (l .number) → o ≡ lex (x ∷ xs) (keyNumbers (recOf (lineAt s at)))
-unfolding keyNumbers recOf laidOut
-order-kind s at i k l x xs o p q e n u =
-    let m : l .number ≡ value (ident (known (kindOf (identifier (lineAt s at))))) = ap (λ y. y .number) e ∙ rw (q, p) in
-    lex-first x (value (ident (known (kindOf (identifier (lineAt s at)))))) xs (padded 3 (numbersNamed (recOf (lineAt s at)) (keyNames (recOf (lineAt s at) .kind)))) o (λ z. n (z ∙ sym m)) (u ∙ rw m)
+pub ruleset lineorder = (needs, order-line)
 
-pub ruleset linesorder = (needs, order-line, order-kind)
+module _ (k : Kind) (c : List ℕ) (l : Layout) (e : l ≡ laidOut k) (x : ℕ) (o : Tri) where
+  -- kinds that differ tell the order
+  pub order-kind : (xs : List ℕ) → (x ≡ l .number → ⊥) → o ≡ cmpN x (l .number) → o ≡ lex (x ∷ xs) (keyNumbers (record { kind = k; content = c }))
+  order-kind xs n u =
+      rw (← key-is k c l (numberAt k c (getD (l .key) 0 0)) (numberAt k c (getD (l .key) 1 0)) (numberAt k c (getD (l .key) 2 0)) e refl refl refl)
+      (lex-first x (l .number) xs (numberAt k c (getD (l .key) 0 0) ∷ numberAt k c (getD (l .key) 1 0) ∷ numberAt k c (getD (l .key) 2 0) ∷ []) o n u)
+
+  -- and so do the first fields that differ
+  pub order-first : (d : List ℕ) (y first : ℕ) (ys : List ℕ) → x ≡ l .number → d ≡ c → first ≡ numberAt k d (getD (l .key) 0 0) → (y ≡ first → ⊥) → o ≡ cmpN y first → o ≡ lex (x ∷ (y ∷ ys)) (keyNumbers (record { kind = k; content = c }))
+  order-first d y first ys m z f n u =
+      rw (← key-is k c l first (numberAt k c (getD (l .key) 1 0)) (numberAt k c (getD (l .key) 2 0)) e (f ∙ rw z) refl refl)
+      (lex-after x (l .number) (y ∷ ys) (first ∷ numberAt k c (getD (l .key) 1 0) ∷ numberAt k c (getD (l .key) 2 0) ∷ []) o m (lex-first y first ys (numberAt k c (getD (l .key) 1 0) ∷ numberAt k c (getD (l .key) 2 0) ∷ []) o n u))
+
+-- else the whole keys do
+pub order-rest : (k : Kind) (c d : List ℕ) (j r : List ℕ) (o : Tri) → d ≡ c → r ≡ keyNumbers (record { kind = k; content = d }) → o ≡ lex j r → o ≡ lex j (keyNumbers (record { kind = k; content = c }))
+order-rest k c d j r o z e u = u ∙ rw (e, z)
+
+pub ruleset atorder = (needs, order-kind, order-first, order-rest)
 
 -- an even entry's key is read in the holding
 pub key-held : (h f r : List ℕ) (v : ℕ) → v % 2 ≡ 0 → r ≡ keyNumbers (recOf (lineAt h (v / 2))) → r ≡ keyNumbers (entry h f v)

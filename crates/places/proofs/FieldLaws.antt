@@ -1,18 +1,17 @@
 -- The laws of the fields of the line at an offset: by which the walks go, and how they stand to the fields that the meaning says.
 use mathlib.Core.Path.{_≡_, refl, sym, ap, _∙_}
-use mathlib.Core.Bool.{Bool, true, false, not, _||_}
+use mathlib.Core.Bool.{Bool, true, false, not}
 use mathlib.Core.Option.{Option, none, some}
-use mathlib.Core.List.{List, [], _∷_, nil≢cons}
+use mathlib.Core.List.{List, [], _∷_}
 use Prim.Native.Nat.{ℕ, zero, suc, _+_, _-_, _≤_, _<_}
-use native.Mathlib.Nat.{add-zero}
-use native.Mathlib.Numerals.{add-one}
 use native.Mathlib.Decide.{decLt}
+use native.Mathlib.Nat.{add-zero}
 use native.Mathlib.Omega.{arith}
 use borrow.Author.Needs.{needs}
-use borrow.Author.Tests.{ne-eqb, eqb-true, lt-ltb, le-ltb}
-use lib.Dec.{T, eqb, ltb, leb·suc-suc}
-use lib.ListN.{length, getD, take, drop, length-take, length-drop}
-use lib.Seq.{take-take, take-nil, drop-drop}
+use borrow.Author.Tests.{not-true, not-false, eq-eqb, ne-eqb, lt-ltb, le-ltb}
+use lib.Dec.{T, eqb, ltb}
+use lib.ListN.{length, getD, take, drop, length-take}
+use lib.Seq.{take-take}
 use Rattle.base.specs.Lists.{pick, all, upTo}
 use Rattle.base.specs.Tests.{and-l, and-r}
 use Rattle.base.specs.ListLaws.{all-map}
@@ -23,14 +22,13 @@ use Rattle.meaning.specs.Records.{contentOf}
 use Rattle.laws.specs.Body.{ident-quiet, kind-out, first-field}
 use Rattle.laws.specs.LinesAndFields.{quiet, noQuote}
 use Rattle.text.specs.Places.{endsHere, lineLen, fieldLen}
-use Rattle.text.proofs.LineLaws.{lineLen-le}
-use Rattle.text.proofs.FieldLaws.{fields-next, after-drop}
+use Rattle.text.proofs.FieldLaws.{sep-other, turn-quote, turn-other, fields-next, after-drop}
 use Rattle.layout.specs.declared.kinds.Kind as code
 use Rattle.layout.specs.declared.kinds.KindFound as found
 use Rattle.layout.specs.declared.kinds.KindFound.the-variants.{Known, Unknown}
 use Rattle.layout.specs.Meant.{kindMeant, kindFound}
 use Rattle.places.specs.Places.{known, lineAt}
-use Rattle.places.specs.Fields.{afterFields}
+use Rattle.places.specs.Fields.{afterFields, firstField}
 
 -- ---- the line at an offset
 
@@ -46,9 +44,9 @@ start-end s at h = line-over s (length s) (omega arith) ∙ sym (line-over s at 
 pub ruleset starts = (needs, start-end)
 
 -- where a CR LF stands a line is at its end
-line-ends : (s : List ℕ) (i : ℕ) → endsHere (drop i s) ≡ true → lineAt s i ≡ []
+line-ends : (s : List ℕ) (i : ℕ) (c : Bool) → c ≡ endsHere (drop i s) → c ≡ true → lineAt s i ≡ []
 unfolding lineAt lineLen
-line-ends s i = go (drop i s)
+line-ends s i c p t = go (drop i s) (sym p ∙ t)
   where
     go : (l : List ℕ) → endsHere l ≡ true → take (lineLen l) l ≡ []
     go [] e = refl
@@ -64,26 +62,172 @@ no-end : (x : ℕ) (r : List ℕ) → (x ≡ 13 → ⊥) → endsHere (x ∷ r) 
 no-end x [] n = refl
 no-end x (y ∷ r) n = rw (ne-eqb x 13 n)
 
-line-byte : (s : List ℕ) (i : ℕ) → i < length s → (getD s i 0 ≡ 13 → ⊥) → lineAt s i ≡ getD s i 0 ∷ lineAt s (i + 1)
+-- so any other is the line's
+pub line-byte : (s : List ℕ) (i : ℕ) → i < length s → (getD s i 0 ≡ 13 → ⊥) → lineAt s i ≡ getD s i 0 ∷ lineAt s (i + 1)
 line-byte s i h n = line-cons s i h (rw (at-cons s i h) (no-end (getD s i 0) (drop (i + 1) s) n))
 
--- m bytes on in the line is the line m bytes on
-line-on : (s : List ℕ) (at m : ℕ) → m ≤ lineLen (drop at s) → drop m (lineAt s at) ≡ lineAt s (at + m)
-unfolding lineAt lineLen
-line-on s at m h = rw (← drop-drop m at s) (go m (drop at s) h)
-  where
-    go : (m : ℕ) (l : List ℕ) → m ≤ lineLen l → drop m (take (lineLen l) l) ≡ take (lineLen (drop m l)) (drop m l)
-    go zero l h = refl
-    go (suc m) [] h = absurd (omega arith)
-    go (suc m) (x ∷ r) h = on (endsHere (x ∷ r)) h (go m r)
-      where
-        on :
-            (b : Bool) → suc m ≤ pick b 0 (suc (lineLen r)) → (m ≤ lineLen r → drop m (take (lineLen r) r) ≡ take (lineLen (drop m r)) (drop m r))
-            → drop (suc m) (take (pick b 0 (suc (lineLen r))) (x ∷ r)) ≡ take (lineLen (drop m r)) (drop m r)
-        on true h e = absurd (omega arith)
-        on false h e = e (omega arith)
+-- ---- one byte of a line, where quoting is q
+
+-- a byte that is passed, after which quoting is q′
+pub record Passes (s : List ℕ) (q q′ : Bool) (i : ℕ) : Type 0 where
+  pub byte : lineAt s i ≡ getD s i 0 ∷ lineAt s (i + 1)
+  pub joins : isSep q (getD s i 0) ≡ false
+  pub turns : turned q (getD s i 0) ≡ q′
+
+module _ (s : List ℕ) (q : Bool) (i : ℕ) (h : i < length s) where
+  -- one above commas and quotes is
+  pub pass-over : 44 < getD s i 0 → Passes s q q i
+  pass-over l = record {
+    byte = line-byte s i h (λ z. absurd (omega arith));
+    joins = sym (sep-other q (getD s i 0) (λ z. absurd (omega arith)));
+    turns = sym (turn-other q (getD s i 0) (λ z. absurd (omega arith)));
+  }
+
+  -- a quoted comma is
+  pass-quoted : getD s i 0 ≡ 44 → q ≡ true → Passes s q q i
+  unfolding isSep
+  pass-quoted c t = record { byte = line-byte s i h (λ z. absurd (omega arith)); joins = rw t; turns = sym (turn-other q (getD s i 0) (λ z. absurd (omega arith))) }
+
+  -- a quote is, and turns quoting
+  pass-quote : getD s i 0 ≡ 34 → Passes s q (not q) i
+  pass-quote c = record { byte = line-byte s i h (λ z. absurd (omega arith)); joins = sym (sep-other q (getD s i 0) (λ z. absurd (omega arith))); turns = sym (turn-quote q (getD s i 0) c) }
+
+  -- another that begins no CR LF is
+  pass-other : (getD s i 0 ≡ 44 → ⊥) → (getD s i 0 ≡ 34 → ⊥) → (c : Bool) → c ≡ endsHere (drop i s) → c ≡ false → Passes s q q i
+  pass-other m n c p t = record { byte = line-cons s i h (sym p ∙ t); joins = sym (sep-other q (getD s i 0) m); turns = sym (turn-other q (getD s i 0) n) }
 
 -- ---- the walk of a field, where quoting is q
+
+-- where it ends
+abbrev pub endIn : List ℕ → Bool → ℕ → ℕ
+endIn s q i = i + fieldLen q (lineAt s i)
+
+module _ (s : List ℕ) (q : Bool) (i x : ℕ) (e : endIn s q i ≡ x) where
+  end-none : lineAt s i ≡ [] → i ≡ x
+  unfolding fieldLen
+  end-none n = sym (add-zero i) ∙ (rw n at e)
+
+  end-pass : (q′ : Bool) → Passes s q q′ i → endIn s q′ (i + 1) ≡ x
+  unfolding fieldLen
+  end-pass q′ p = omega (arith, rw (p .byte, p .joins, p .turns) at e)
+
+  -- the bytes' end ends it
+  pub end-done : length s ≤ i → i ≡ x
+  end-done h = end-none (line-over s i h)
+
+  module _ (h : i < length s) where
+    -- a byte above commas and quotes is passed
+    pub end-over : 44 < getD s i 0 → endIn s q (i + 1) ≡ x
+    end-over l = end-pass q (pass-over s q i h l)
+
+    -- a comma ends it
+    pub end-comma : getD s i 0 ≡ 44 → q ≡ false → i ≡ x
+    unfolding fieldLen isSep
+    end-comma c t = sym (add-zero i) ∙ (rw (line-byte s i h (λ z. absurd (omega arith)), t, eq-eqb (getD s i 0) 44 c) at e)
+
+    -- but not within quotes
+    pub end-quoted : getD s i 0 ≡ 44 → q ≡ true → endIn s q (i + 1) ≡ x
+    end-quoted c t = end-pass q (pass-quoted s q i h c t)
+
+    -- a quote is passed
+    pub end-quote : getD s i 0 ≡ 34 → endIn s (not q) (i + 1) ≡ x
+    end-quote c = end-pass (not q) (pass-quote s q i h c)
+
+    module _ (c : Bool) (p : c ≡ endsHere (drop i s)) where
+      -- a CR LF ends it
+      pub end-ends : c ≡ true → i ≡ x
+      end-ends t = end-none (line-ends s i c p t)
+
+      -- another byte is passed
+      pub end-other : (getD s i 0 ≡ 44 → ⊥) → (getD s i 0 ≡ 34 → ⊥) → c ≡ false → endIn s q (i + 1) ≡ x
+      end-other m n t = end-pass q (pass-other s q i h m n c p t)
+
+pub ruleset within = (needs, not-true, not-false, end-done, end-over, end-comma, end-quoted, end-quote)
+
+-- ---- the walk past some fields, where quoting is q
+
+-- what stands after the field at i, and after as many as are left
+abbrev pub afterIn : List ℕ → Bool → ℕ → ℕ → List ℕ
+afterIn s q left i = afterFields (left - 1) (afterField q (lineAt s i))
+
+-- none is to be passed
+pub after-zero : (s : List ℕ) (at n : ℕ) → n ≡ 0 → lineAt s at ≡ afterFields n (lineAt s at)
+unfolding afterFields
+after-zero s at n e = rw e
+
+-- the walk begins outside quotes
+pub after-start : (s : List ℕ) (at n : ℕ) → (n ≡ 0 → ⊥) → afterIn s false n at ≡ afterFields n (lineAt s at)
+unfolding afterFields
+after-start s at zero h = absurd (h refl)
+after-start s at (suc n) h = let z : suc n - 1 ≡ n = omega arith in rw z
+
+module _ (s : List ℕ) (q : Bool) (left i : ℕ) (x : List ℕ) (e : afterIn s q left i ≡ x) where
+  after-none : lineAt s i ≡ [] → lineAt s i ≡ x
+  unfolding afterField afterFields
+  after-none n = rw n (sym (nothing (left - 1)) ∙ (rw n at e))
+    where
+      nothing : (n : ℕ) → afterFields n [] ≡ []
+      nothing zero = refl
+      nothing (suc n) = nothing n
+
+  after-pass : (q′ : Bool) → Passes s q q′ i → afterIn s q′ left (i + 1) ≡ x
+  unfolding afterField
+  after-pass q′ p = rw (p .byte, p .joins, p .turns) at e
+
+  -- at the bytes' end nothing is left
+  pub after-done : length s ≤ i → lineAt s i ≡ x
+  after-done h = after-none (line-over s i h)
+
+  module _ (h : i < length s) where
+    -- a byte above commas and quotes is passed
+    pub after-over : 44 < getD s i 0 → afterIn s q left (i + 1) ≡ x
+    after-over l = after-pass q (pass-over s q i h l)
+
+    -- a comma within quotes is
+    pub after-quoted : getD s i 0 ≡ 44 → q ≡ true → afterIn s q left (i + 1) ≡ x
+    after-quoted c t = after-pass q (pass-quoted s q i h c t)
+
+    -- a quote is
+    pub after-quote : getD s i 0 ≡ 34 → afterIn s (not q) left (i + 1) ≡ x
+    after-quote c = after-pass (not q) (pass-quote s q i h c)
+
+    module _ (c : Bool) (p : c ≡ endsHere (drop i s)) where
+      -- at a CR LF nothing is left
+      pub after-ends : c ≡ true → lineAt s i ≡ x
+      after-ends t = after-none (line-ends s i c p t)
+
+      -- another byte is passed
+      pub after-other : (getD s i 0 ≡ 44 → ⊥) → (getD s i 0 ≡ 34 → ⊥) → c ≡ false → afterIn s q left (i + 1) ≡ x
+      after-other m n t = after-pass q (pass-other s q i h m n c p t)
+
+  module _ (h : i < length s) (c : getD s i 0 ≡ 44) (t : q ≡ false) where
+    -- a comma outside quotes ends a field
+    after-byte : afterFields (left - 1) (lineAt s (i + 1)) ≡ x
+    unfolding afterField isSep
+    after-byte = rw (line-byte s i h (λ z. absurd (omega arith)), t, eq-eqb (getD s i 0) 44 c) at e
+
+    -- the last
+    pub after-last : left - 1 ≡ 0 → lineAt s (i + 1) ≡ x
+    unfolding afterFields
+    after-last z = rw z at after-byte
+
+    -- or another
+    pub after-comma : (left - 1 ≡ 0 → ⊥) → afterIn s q (left - 1) (i + 1) ≡ x
+    unfolding afterFields
+    after-comma n = rw t (go (left - 1) n after-byte)
+      where
+        go : (m : ℕ) → (m ≡ 0 → ⊥) → afterFields m (lineAt s (i + 1)) ≡ x → afterFields (m - 1) (afterField false (lineAt s (i + 1))) ≡ x
+        go zero n e = absurd (n refl)
+        go (suc m) n e = let z : suc m - 1 ≡ m = omega arith in rw z e
+
+pub ruleset pasts = (needs, after-zero, after-start, after-done, after-over, after-quoted, after-quote, after-last, after-comma)
+
+-- three fields on the content stands
+pub content-three : (t : List ℕ) → afterFields 3 t ≡ contentOf t
+unfolding afterFields contentOf
+content-three t = refl
+
+-- ---- a field
 
 -- a field is no longer than the line
 field-le : (q : Bool) (l : List ℕ) → fieldLen q l ≤ length l
@@ -95,135 +239,18 @@ field-le q (x ∷ r) = go (isSep q x) (field-le (turned q x) r)
     go true h = omega arith
     go false h = omega arith
 
--- a separator is a comma
-sep-comma : (q : Bool) (x : ℕ) → isSep q x ≡ true → x ≡ 44
-unfolding isSep
-sep-comma true x e = let z : _≡_ {A = Bool} false true = e in cc
-sep-comma false x e = eqb-true x 44 e
+-- the first field stands at the front of the bytes
+pub first-here : (s : List ℕ) (at e : ℕ) → e ≡ at + fieldLen false (lineAt s at) → take (e - at) (drop at s) ≡ firstField (lineAt s at)
+unfolding firstField lineAt
+first-here s at e q =
+    let n : e - at ≡ fieldLen false (lineAt s at) = omega arith in
+    rw n (sym (take-take (fieldLen false (lineAt s at)) (lineLen (drop at s)) (drop at s) (omega (arith, field-le false (lineAt s at), length-take (lineLen (drop at s)) (drop at s)))))
 
--- where it ends
-abbrev pub endIn : List ℕ → Bool → ℕ → ℕ
-endIn s q i = i + fieldLen q (lineAt s i)
-
-module _ (s : List ℕ) (q : Bool) (i x : ℕ) (e : endIn s q i ≡ x) where
-  -- the bytes' end ends it
-  pub in-done : length s ≤ i → i ≡ x
-  unfolding fieldLen
-  in-done h = sym (add-zero i) ∙ (rw (line-over s i h) at e)
-
-  module _ (h : i < length s) where
-    -- a byte above commas and quotes is passed
-    pub in-over : 44 < getD s i 0 → endIn s q (i + 1) ≡ x
-    unfolding fieldLen isSep turned
-    in-over l = omega (arith, ap (fieldLen q) (line-byte s i h (λ z. absurd (omega arith))), step q)
-      where
-        step : (q : Bool) → fieldLen q (getD s i 0 ∷ lineAt s (i + 1)) ≡ suc (fieldLen q (lineAt s (i + 1)))
-        step true = rw (ne-eqb (getD s i 0) 34 (λ z. absurd (omega arith)))
-        step false = rw (ne-eqb (getD s i 0) 44 (λ z. absurd (omega arith)), ne-eqb (getD s i 0) 34 (λ z. absurd (omega arith)))
-
-    module _ (b : Bool) (p : b ≡ (isSep q (getD s i 0) || endsHere (drop i s))) where
-      -- a separator ends it, and a CR LF
-      pub in-stop : b ≡ true → i ≡ x
-      unfolding fieldLen
-      in-stop t = sym (add-zero i) ∙ go (isSep q (getD s i 0)) refl (sym p ∙ t)
-        where
-          go : (a : Bool) → isSep q (getD s i 0) ≡ a → (a || endsHere (drop i s)) ≡ true → i + 0 ≡ x
-          go true r u = rw (line-byte s i h (λ z. absurd (omega (arith, sep-comma q (getD s i 0) r))), r) at e
-          go false r u = rw (line-ends s i u) at e
-
-      -- another byte is passed
-      pub in-turn : (q′ : Bool) → b ≡ false → q′ ≡ turned q (getD s i 0) → endIn s q′ (i + 1) ≡ x
-      unfolding fieldLen
-      in-turn q′ t k = rw k (go (isSep q (getD s i 0)) refl (sym p ∙ t))
-        where
-          go : (a : Bool) → isSep q (getD s i 0) ≡ a → (a || endsHere (drop i s)) ≡ false → endIn s (turned q (getD s i 0)) (i + 1) ≡ x
-          go true r u = let z : _≡_ {A = Bool} true false = u in cc
-          go false r u = omega (arith, rw (line-cons s i h u, r) at e)
-
-pub ruleset within = (needs, in-done, in-over, in-stop, in-turn)
-
--- ---- where a field ends
-
--- a separator ends it
-pub stop-sep : (q b c : Bool) → b ≡ q → b ≡ true → true ≡ (q || c)
-stop-sep q b c e t = rw (sym e ∙ t)
-
--- else a CR LF does
-pub stop-ends : (q b c a : Bool) → b ≡ q → b ≡ false → a ≡ c → a ≡ (q || c)
-stop-ends q b c a e t u = rw (sym e ∙ t) u
-
-pub ruleset stops = (needs, stop-sep, stop-ends)
-
--- ---- what stands after a field
-
--- where a field ends there is nothing, or a comma
-at-stop : (q : Bool) (l : List ℕ) (x : ℕ) (r : List ℕ) → drop (fieldLen q l) l ≡ x ∷ r → x ≡ 44
-unfolding fieldLen
-at-stop q [] x r e = absurd (nil≢cons e)
-at-stop q (y ∷ l) x r e = go (isSep q y) refl e (at-stop (turned q y) l x r)
-  where
-    go : (b : Bool) → isSep q y ≡ b → drop (pick b 0 (suc (fieldLen (turned q y) l))) (y ∷ l) ≡ x ∷ r → (drop (fieldLen (turned q y) l) l ≡ x ∷ r → x ≡ 44) → x ≡ 44
-    go true p e ih = sym (ap (λ l. getD l 0 0) e) ∙ sep-comma q y p
-    go false p e ih = ih e
-
-module _ (s : List ℕ) (at e : ℕ) (q : e ≡ at + fieldLen false (lineAt s at)) where
-  -- the line from there on
-  here : drop (fieldLen false (lineAt s at)) (lineAt s at) ≡ lineAt s e
-  unfolding lineAt
-  here = line-on s at (fieldLen false (lineAt s at)) (omega (arith, field-le false (lineAt s at), length-take (lineLen (drop at s)) (drop at s))) ∙ rw (← q)
-
-  -- one byte on is what stands after the field
-  after : afterField false (lineAt s at) ≡ drop 1 (lineAt s e)
-  after = after-drop false (lineAt s at) ∙ rw (← here, drop-drop 1 (fieldLen false (lineAt s at)) (lineAt s at), add-one)
-
-  -- nothing, past the end
-  pub next-over : length s ≤ e → lineAt s e ≡ afterField false (lineAt s at)
-  next-over h = line-over s e h ∙ sym (after ∙ rw (line-over s e h))
-
-  -- what follows a comma
-  pub next-comma : e < length s → getD s e 0 ≡ 44 → lineAt s (e + 1) ≡ afterField false (lineAt s at)
-  next-comma h c = sym (after ∙ rw (line-byte s e h (λ z. absurd (omega arith))))
-
-  -- nothing, at the line's end
-  pub next-none : e < length s → (getD s e 0 ≡ 44 → ⊥) → lineAt s e ≡ afterField false (lineAt s at)
-  next-none h n = go (endsHere (drop e s)) refl
-    where
-      go : (b : Bool) → endsHere (drop e s) ≡ b → lineAt s e ≡ afterField false (lineAt s at)
-      go true t = line-ends s e t ∙ sym (after ∙ rw (line-ends s e t))
-      go false t = absurd (n (at-stop false (lineAt s at) (getD s e 0) (lineAt s (e + 1)) (here ∙ line-cons s e h t)))
-
-pub ruleset nexts = (needs, next-over, next-comma, next-none)
-
--- ---- what stands after n fields
-
--- none is passed at the start
-pub past-start : (s : List ℕ) (at n : ℕ) → afterFields n (lineAt s at) ≡ afterFields n (lineAt s at)
-past-start s at n = refl
-
--- one is passed
-pub past-turn : (s : List ℕ) (i left r : ℕ) (x : List ℕ) → afterFields left (lineAt s i) ≡ x → 0 < left → lineAt s r ≡ afterField false (lineAt s i) → afterFields (left - 1) (lineAt s r) ≡ x
-unfolding afterFields
-past-turn s i zero r x e h q = absurd (omega arith)
-past-turn s i (suc m) r x e h q = let z : suc m - 1 ≡ m = omega arith in rw (z, q) e
-
--- none is left
-pub past-done : (s : List ℕ) (i left : ℕ) (x : List ℕ) → afterFields left (lineAt s i) ≡ x → left ≤ 0 → lineAt s i ≡ x
-unfolding afterFields
-past-done s i zero x e h = e
-past-done s i (suc m) x e h = absurd (omega arith)
-
-pub ruleset pasts = (needs, past-turn, past-done)
-
--- three fields on the content stands
-pub content-three : (t : List ℕ) → afterFields 3 t ≡ contentOf t
-unfolding afterFields contentOf
-content-three t = refl
-
--- ---- a field
+pub ruleset fielding = (needs, first-here)
 
 -- field k is the first of what stands after k fields
-field-after : (k : ℕ) (t : List ℕ) → getD (fieldsOf t) k [] ≡ take (fieldLen false (afterFields k t)) (afterFields k t)
-unfolding afterFields fieldsOf
+pub field-after : (k : ℕ) (t : List ℕ) → getD (fieldsOf t) k [] ≡ firstField (afterFields k t)
+unfolding afterFields fieldsOf firstField
 field-after zero t = ap (λ l. getD l 0 []) (fields-next false t)
 field-after (suc k) t = ap (λ l. getD l (suc k) []) (fields-next false t) ∙ go (decLt (fieldLen false t) (length t)) ∙ field-after k (afterField false t)
   where
@@ -235,22 +262,11 @@ field-after (suc k) t = ap (λ l. getD l (suc k) []) (fields-next false t) ∙ g
     go (yes h) = rw (lt-ltb (fieldLen false t) (length t) h, after-drop false t)
     go (no h) = rw (le-ltb (fieldLen false t) (length t) (omega arith), after-drop false t, at-end t (suc (fieldLen false t)) (omega arith)) (none-there k)
 
--- the first field stands at the front of the bytes
-front : (s : List ℕ) (i : ℕ) → take (fieldLen false (lineAt s i)) (drop i s) ≡ take (fieldLen false (lineAt s i)) (lineAt s i)
-unfolding lineAt
-front s i = sym (take-take (fieldLen false (lineAt s i)) (lineLen (drop i s)) (drop i s) (omega (arith, field-le false (lineAt s i), length-take (lineLen (drop i s)) (drop i s))))
-
--- the bytes of a field
-pub field-here : (s : List ℕ) (at k i e : ℕ) → lineAt s i ≡ afterFields k (lineAt s at) → e ≡ i + fieldLen false (lineAt s i) → take (e - i) (drop i s) ≡ getD (fieldsOf (lineAt s at)) k []
-field-here s at k i e p q = let n : e - i ≡ fieldLen false (lineAt s i) = omega arith in rw n (front s i ∙ rw p (sym (field-after k (lineAt s at))))
-
-pub ruleset fielding = (needs, field-here)
-
 -- ---- the kind
 
 -- a first field that has no quote is the identifier
-quiet-first : (t : List ℕ) → T (all noQuote (take (fieldLen false t) t)) → take (fieldLen false t) t ≡ upTo 44 t
-unfolding upTo fieldLen isSep turned noQuote
+quiet-first : (t : List ℕ) → T (all noQuote (firstField t)) → firstField t ≡ upTo 44 t
+unfolding firstField upTo fieldLen isSep turned noQuote
 quiet-first [] h = refl
 quiet-first (x ∷ r) h = go (eqb x 44) (eqb x 34) refl h (quiet-first r)
   where
@@ -263,25 +279,25 @@ quiet-first (x ∷ r) h = go (eqb x 44) (eqb x 34) refl h (quiet-first r)
     go false false e h ih = ap (λ l. x ∷ l) (ih (and-r (noQuote x) _ h))
 
 -- the kind is known by the first field as by the identifier
-kind-first : (t : List ℕ) → kindOf (take (fieldLen false t) t) ≡ kindOf (identifier t)
-unfolding identifier fieldsOf quiet noQuote
-kind-first t = go (kindOf (identifier t)) (kindOf (take (fieldLen false t) t)) refl refl
+kind-first : (t : List ℕ) → kindOf (firstField t) ≡ kindOf (identifier t)
+unfolding identifier fieldsOf firstField quiet noQuote
+kind-first t = go (kindOf (identifier t)) (kindOf (firstField t)) refl refl
   where
-    go : (o p : Option Kind) → kindOf (identifier t) ≡ o → kindOf (take (fieldLen false t) t) ≡ p → kindOf (take (fieldLen false t) t) ≡ kindOf (identifier t)
-    go (some k) p e f = ap kindOf (first-field t k (take (fieldLen false t) t) _ (kind-out (identifier t) k e) (fields-next false t) ∙ sym (kind-out (identifier t) k e))
-    go none (some k) e f = ap kindOf (quiet-first t (rw (kind-out (take (fieldLen false t) t) k f) (all-map quiet noQuote (λ x. and-r (not (eqb x 44)) (not (eqb x 34))) (ident k) (ident-quiet k))))
+    go : (o p : Option Kind) → kindOf (identifier t) ≡ o → kindOf (firstField t) ≡ p → kindOf (firstField t) ≡ kindOf (identifier t)
+    go (some k) p e f = ap kindOf (first-field t k (firstField t) _ (kind-out (identifier t) k e) (fields-next false t) ∙ sym (kind-out (identifier t) k e))
+    go none (some k) e f = ap kindOf (quiet-first t (rw (kind-out (firstField t) k f) (all-map quiet noQuote (λ x. and-r (not (eqb x 44)) (not (eqb x 34))) (ident k) (ident-quiet k))))
     go none none e f = f ∙ sym e
 
-module _ (s : List ℕ) (at e : ℕ) (r : found.KindFound) (q : e ≡ at + fieldLen false (lineAt s at)) (g : kindFound r ≡ kindOf (take (e - at) (drop at s))) where
-  found-is : kindFound r ≡ kindOf (identifier (lineAt s at))
-  found-is = let n : e - at ≡ fieldLen false (lineAt s at) = omega arith in g ∙ rw (n, front s at) (kind-first (lineAt s at))
+module _ (t f : List ℕ) (r : found.KindFound) (q : f ≡ firstField t) (g : kindFound r ≡ kindOf f) where
+  found-is : kindFound r ≡ kindOf (identifier t)
+  found-is = g ∙ rw q (kind-first t)
 
   -- the kind of the line is its first field's
-  pub kind-known : (k : code.Kind) → r ≡ Known k → kindMeant k ≡ known (kindOf (identifier (lineAt s at)))
+  pub kind-known : (k : code.Kind) → r ≡ Known k → kindMeant k ≡ known (kindOf (identifier t))
   kind-known k u = rw (← found-is, u)
 
   -- an unknown one is taken for a header's
-  pub kind-unknown : r ≡ Unknown → header ≡ known (kindOf (identifier (lineAt s at)))
+  pub kind-unknown : r ≡ Unknown → header ≡ known (kindOf (identifier t))
   kind-unknown u = rw (← found-is, u)
 
 pub ruleset kinding = (needs, kind-known, kind-unknown)

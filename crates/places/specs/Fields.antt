@@ -1,10 +1,31 @@
--- What stands in a line after some of its fields.
-use mathlib.Core.Bool.{false}
-use mathlib.Core.List.{List}
+-- What stands in a line after some of its fields, the field that stands first there, and what it refers to.
+use mathlib.Core.Bool.{Bool, false, _&&_}
+use mathlib.Core.Option.{Option, none, some}
+use mathlib.Core.List.{List, [], _∷_}
 use Prim.Native.Nat.{ℕ, zero, suc}
+use lib.ListN.{take}
+use Rattle.base.specs.Lists.{pick}
 use Rattle.meaning.specs.Lines.{afterField}
+use Rattle.meaning.specs.Forms.{Form, isEmpty}
+use Rattle.meaning.specs.Table.{Kind}
+use Rattle.meaning.specs.Records.{Rec}
+use Rattle.text.specs.Places.{fieldLen}
+use Rattle.keys.specs.Numbers.{numberOf, refAt}
+use Rattle.places.specs.Places.{metBy}
 
 -- what stands after n fields
 unfoldable pub afterFields : ℕ → List ℕ → List ℕ
 afterFields zero t = t
 afterFields (suc n) t = afterFields n (afterField false t)
+
+-- the first field, with its quotes
+unfoldable pub firstField : List ℕ → List ℕ
+firstField t = take (fieldLen false t) t
+
+-- the key of a kind's number that a field refers to; an empty one refers to nothing
+unfoldable pub byField : Form → List ℕ → ℕ → Option (List ℕ)
+byField m f to = pick (isEmpty m f) none (some (to ∷ numberOf m f ∷ 0 ∷ 0 ∷ []))
+
+-- what a record with the key `own` refers to by its kind's two rows is met
+unfoldable pub bothMet : List Rec → List ℕ → Kind → List ℕ → Bool
+bothMet st own k c = metBy st own (refAt k c 0) && metBy st own (refAt k c 1)

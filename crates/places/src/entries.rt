@@ -8,15 +8,13 @@ ghost use Rattle.theory.specs.Lex.{lex};
 ghost use Rattle.text.specs.Order.{triOf};
 ghost use Rattle.layout.specs.Meant.{kindMeant};
 ghost use Rattle.keys.specs.Numbers.{keyList, keyNumbers};
-ghost use Rattle.keys.specs.Places.{numberAt};
 ghost use Rattle.places.specs.Places.{known, recOf, lineAt, entry};
-use crate::fields::field;
+ghost use Rattle.places.specs.Fields.{afterFields};
 use crate::fields::kind_at;
 use crate::fields::line_start;
 use crate::fields::past_fields;
+use crate::numbers::number_at;
 use keys::Key;
-use keys::places::form_at;
-use keys::places::number_of;
 use layout::kinds::Kind;
 use layout::kinds::KindFound;
 use layout::rules::layout;
@@ -32,17 +30,6 @@ pub fn line_kind(line: &[u8]) -> Kind
         KindFound::Known(kind) => kind,
         KindFound::Unknown => Kind::Header,
     }
-}
-
-// The number of the field at a place of a record whose content stands in the line from `content` on; 0 where there is none.
-fn number_at(kind: Kind, s: &[u8], content: usize, place: usize) -> u64
-    requires { ⌜ content ≤ length (now s) ⌝ }
-    ensures { λ r. ⌜ r ≡ numberAt (kindMeant kind) (lineAt (now (s .entry)) content) place ⌝ }
-{
-    if place < 4 {
-        return 0;
-    }
-    number_of(form_at(kind, place - 1), field(s, content, place - 4))
 }
 
 // The key of a record whose content stands in the line from `content` on.
@@ -83,17 +70,31 @@ pub fn entry_key(h: &[u8], f: &[u8], v: u64) -> Key
     record_key(f, at)
 }
 
-// How a key stands to that of the record whose line starts at `at`, whose fields are not read where the kinds tell.
-pub fn against_line(s: &[u8], at: usize, k: Key) -> Order
-    ensures { λ r. ⌜ triOf r ≡ lex (keyList k) (keyNumbers (recOf (lineAt (now (s .entry)) at))) ⌝ }
+// How a key stands to that of a record of a kind in the line from `start` on: no field is read where the kinds tell, and no second
+// field where the first ones do.
+fn against_at(kind: Kind, s: &[u8], start: usize, k: Key) -> Order
+    requires { ⌜ start ≤ length (now s) ⌝ }
+    ensures { λ r. ⌜ triOf r ≡ lex (keyList k) (keyNumbers (record { kind = kindMeant kind; content = afterFields 3 (lineAt (now (s .entry)) start) })) ⌝ }
 {
-    let start = line_start(s, at);
-    let kind = kind_at(s, start);
     let l = layout(kind);
     if k.kind != l.number {
         return numbers(k.kind, l.number);
     }
-    keys::order(k, key_at(kind, s, past_fields(s, start, 3)))
+    let content = past_fields(s, start, 3);
+    let places = l.key;
+    let first = number_at(kind, s, content, places[0]);
+    if k.first != first {
+        return numbers(k.first, first);
+    }
+    keys::order(k, key_at(kind, s, content))
+}
+
+// How a key stands to that of the record whose line starts at `at`.
+pub fn against_line(s: &[u8], at: usize, k: Key) -> Order
+    ensures { λ r. ⌜ triOf r ≡ lex (keyList k) (keyNumbers (recOf (lineAt (now (s .entry)) at))) ⌝ }
+{
+    let start = line_start(s, at);
+    against_at(kind_at(s, start), s, start, k)
 }
 
 // How a key stands to an entry's.

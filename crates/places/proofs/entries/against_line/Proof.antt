@@ -1,5 +1,5 @@
 -- `places::entries::against_line` meets its contract.
-use Rattle.places.proofs.EntryLaws.{linesorder}
+use Rattle.places.proofs.EntryLaws.{lineorder}
 use Rattle.places.proofs.entries.against_line.Statement.{statement}
 use Rattle.places.proofs.entries.against_line.Tie as tie
 
@@ -7,12 +7,7 @@ pub against-line-spec : {M : Type 1} → statement M
 against-line-spec =
     tie.close
     (tie.spec
-    (λ c κs. search linesorder)  -- line-start-requires
-    (λ c κs. search linesorder)  -- kind-at-requires
-    (λ c κs. search linesorder)  -- layout-requires
-    (λ c κs. search linesorder)  -- numbers-requires
-    (λ c. search linesorder)  -- returns
-    (λ c κs. search linesorder)  -- past-fields-requires
-    (λ c κs. search linesorder)  -- key-at-requires
-    (λ c κs. search linesorder)  -- order-requires
-    (λ c. search linesorder))  -- returns-2
+    (λ c κs. search lineorder)  -- line-start-requires
+    (λ c κs. search lineorder)  -- kind-at-requires
+    (λ c κs. search lineorder)  -- against-at-requires
+    (λ c. search lineorder))  -- returns

@@ -1,5 +1,6 @@
 -- `places::fields::field_end` meets its contract.
-use Rattle.places.proofs.FieldLaws.{within, endIn}
+use Rattle.places.proofs.FieldLaws.{within, endIn, end-ends, end-other}
+use borrow.Author.Needs.{needs}
 use mathlib.Core.Path.{_≡_}
 use mathlib.Core.Bool.{false}
 use Prim.Native.Nat.{_+_, _-_, _≤_}
@@ -20,10 +21,16 @@ field-end-spec =
     (λ c. search within)  -- add-i
     (λ c. search within)  -- loop-less
     (λ c. search within)  -- loop-again
-    (λ c κs. search within)  -- is-end-requires
     (λ c. search within)  -- returns
-    (λ c κs. search within)  -- turn-requires
     (λ c. search within)  -- add-i-2
     (λ c. search within)  -- loop-less-2
     (λ c. search within)  -- loop-again-2
-    (λ c. search within))  -- returns-2
+    (λ c. search within)  -- add-i-3
+    (λ c. search within)  -- loop-less-3
+    (λ c. search within)  -- loop-again-3
+    (λ c κs. search within)  -- ends-at-requires
+    (λ c. (end-ends _ _ _ _ (c .before .before .before .before .before .before .before .loop .inv .0) (c .before .before .before .before .before .before .loop-test .taken) _ (c .before .ends-at .ensures) (c .if5 .taken), search needs, search needs))  -- returns-2
+    (λ c. search within)  -- add-i-4
+    (λ c. search within)  -- loop-less-4
+    (λ c. (end-other _ _ _ _ (c .before .before .before .before .before .before .before .loop .inv .0) (c .before .before .before .before .before .before .loop-test .taken) _ (c .before .ends-at .ensures) (c .before .before .before .if2 .left) (c .before .before .if4 .left) (c .if5 .left), search needs, search needs))  -- loop-again-4
+    (λ c. search within))  -- returns-3

@@ -7,10 +7,7 @@ pub kind-at-spec : {M : Type 1} → statement M
 kind-at-spec =
     tie.close
     (tie.spec
-    (λ c κs. search kinding)  -- field-end-requires
-    (λ c. search kinding)  -- sub-kind-of
-    (λ c. search kinding)  -- part-kind-of-start
-    (λ c. search kinding)  -- part-kind-of-end
+    (λ c κs. search kinding)  -- first-field-requires
     (λ c κs. search kinding)  -- kind-of-requires
     (λ c. search kinding)  -- enum-known-kind
     (λ c. search kinding)  -- enum-told

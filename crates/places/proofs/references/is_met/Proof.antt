@@ -10,7 +10,7 @@ is-met-spec =
     (λ c. search onemet)  -- enum-known-to
     (λ c. search onemet)  -- enum-told
     (λ c. search onemet)  -- returns
-    (λ c κs. search onemet)  -- is-same-key-requires
+    (λ c κs. search onemet)  -- is-own-requires
     (λ c. search onemet)  -- returns-2
     (λ c κs. search onemet)  -- place-requires
     (λ c κs. search onemet)  -- stands-requires

@@ -1,5 +1,5 @@
 -- `places::references::meets_at` meets its contract.
-use Rattle.places.proofs.ReferenceLaws.{atmet}
+use Rattle.places.proofs.ReferenceLaws.{linemet}
 use Rattle.places.proofs.references.meets_at.Statement.{statement}
 use Rattle.places.proofs.references.meets_at.Tie as tie
 
@@ -7,14 +7,8 @@ pub meets-at-spec : {M : Type 1} → statement M
 meets-at-spec =
     tie.close
     (tie.spec
-    (λ c. search atmet)  -- sub-line-meets
-    (λ c. search atmet)  -- part-line-meets-start
-    (λ c. search atmet)  -- part-line-meets-end
-    (λ c κs. search atmet)  -- line-meets-requires
-    (λ c. search atmet)  -- returns
-    (λ c κs. search atmet)  -- line-end-requires
-    (λ c. search atmet)  -- sub-line-meets-2
-    (λ c. search atmet)  -- part-line-meets-start-2
-    (λ c. search atmet)  -- part-line-meets-end-2
-    (λ c κs. search atmet)  -- line-meets-requires-2
-    (λ c. search atmet))  -- returns-2
+    (λ c κs. search linemet)  -- line-start-requires
+    (λ c κs. search linemet)  -- kind-at-requires
+    (λ c κs. search linemet)  -- past-fields-requires
+    (λ c κs. search linemet)  -- record-meets-requires
+    (λ c. search linemet))  -- returns

@@ -7,10 +7,9 @@ pub record-meets-spec : {M : Type 1} → statement M
 record-meets-spec =
     tie.close
     (tie.spec
-    (λ c κs. search bothmet)  -- key-of-requires
-    (λ c κs. search bothmet)  -- reference-requires
+    (λ c κs. search bothmet)  -- reference-at-requires
     (λ c κs. search bothmet)  -- is-met-requires
     (λ c. search bothmet)  -- returns
-    (λ c κs. search bothmet)  -- reference-requires-2
+    (λ c κs. search bothmet)  -- reference-at-requires-2
     (λ c κs. search bothmet)  -- is-met-requires-2
     (λ c. search bothmet))  -- returns-2

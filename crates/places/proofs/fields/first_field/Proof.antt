@@ -1,13 +1,12 @@
--- `places::fields::field` meets its contract.
+-- `places::fields::first_field` meets its contract.
 use Rattle.places.proofs.FieldLaws.{fielding}
-use Rattle.places.proofs.fields.field.Statement.{statement}
-use Rattle.places.proofs.fields.field.Tie as tie
+use Rattle.places.proofs.fields.first_field.Statement.{statement}
+use Rattle.places.proofs.fields.first_field.Tie as tie
 
-pub field-spec : {M : Type 1} → statement M
-field-spec =
+pub first-field-spec : {M : Type 1} → statement M
+first-field-spec =
     tie.close
     (tie.spec
-    (λ c κs. search fielding)  -- past-fields-requires
     (λ c κs. search fielding)  -- field-end-requires
     (λ c. search fielding)  -- sub-result
     (λ c. search fielding)  -- part-result-start
