@@ -1,5 +1,5 @@
 -- The laws of the keys of lines and entries.
-use mathlib.Core.Path.{_≡_, refl, ap, _∙_}
+use mathlib.Core.Path.{_≡_, refl, sym, ap, _∙_}
 use mathlib.Core.List.{List, [], _∷_}
 use Prim.Native.Nat.{ℕ, _-_, _/_, _%_, _<_}
 use native.Mathlib.Nat.{sub-zero}
@@ -23,9 +23,9 @@ use Rattle.layout.specs.Meant.{kindMeant, kindFound}
 use Rattle.layout.specs.Rows.{laidOut}
 use Rattle.keys.specs.Numbers.{keyNumbers}
 use Rattle.keys.specs.Places.{numberAt}
-use Rattle.keys.proofs.RowLaws.{lex-first, lex-after, key-is}
+use Rattle.keys.proofs.RowLaws.{lex-first, lex-after, lex-last, key-is}
 use Rattle.places.specs.Places.{known, recOf, lineAt, entry}
-use Rattle.places.specs.Fields.{afterFields}
+use Rattle.places.specs.Fields.{afterFields, restNumbers}
 use Rattle.places.proofs.SaysLaws.{entry-held, entry-filed}
 use Rattle.places.proofs.FieldLaws.{content-three}
 
@@ -82,24 +82,39 @@ pub ruleset recordkey = (needs, key-line)
 
 pub ruleset lineorder = (needs, order-line)
 
+-- the numbers of a key, one by one
+key-numbers : (k : Kind) (c : List ℕ) → keyNumbers (record { kind = k; content = c }) ≡ laidOut k .number ∷ (numberAt k c (getD (laidOut k .key) 0 0) ∷ restNumbers k c)
+unfolding restNumbers
+key-numbers k c = sym (key-is k c (laidOut k) (numberAt k c (getD (laidOut k .key) 0 0)) (numberAt k c (getD (laidOut k .key) 1 0)) (numberAt k c (getD (laidOut k .key) 2 0)) refl refl refl refl)
+
 module _ (k : Kind) (c : List ℕ) (l : Layout) (e : l ≡ laidOut k) (x : ℕ) (o : Tri) where
   -- kinds that differ tell the order
   pub order-kind : (xs : List ℕ) → (x ≡ l .number → ⊥) → o ≡ cmpN x (l .number) → o ≡ lex (x ∷ xs) (keyNumbers (record { kind = k; content = c }))
-  order-kind xs n u =
-      rw (← key-is k c l (numberAt k c (getD (l .key) 0 0)) (numberAt k c (getD (l .key) 1 0)) (numberAt k c (getD (l .key) 2 0)) e refl refl refl)
-      (lex-first x (l .number) xs (numberAt k c (getD (l .key) 0 0) ∷ numberAt k c (getD (l .key) 1 0) ∷ numberAt k c (getD (l .key) 2 0) ∷ []) o n u)
+  order-kind xs n u = rw (key-numbers k c) (lex-first x (laidOut k .number) xs _ o (rw e at n) (rw e at u))
 
-  -- and so do the first fields that differ
-  pub order-first : (d : List ℕ) (y first : ℕ) (ys : List ℕ) → x ≡ l .number → d ≡ c → first ≡ numberAt k d (getD (l .key) 0 0) → (y ≡ first → ⊥) → o ≡ cmpN y first → o ≡ lex (x ∷ (y ∷ ys)) (keyNumbers (record { kind = k; content = c }))
-  order-first d y first ys m z f n u =
-      rw (← key-is k c l first (numberAt k c (getD (l .key) 1 0)) (numberAt k c (getD (l .key) 2 0)) e (f ∙ rw z) refl refl)
-      (lex-after x (l .number) (y ∷ ys) (first ∷ numberAt k c (getD (l .key) 1 0) ∷ numberAt k c (getD (l .key) 2 0) ∷ []) o m (lex-first y first ys (numberAt k c (getD (l .key) 1 0) ∷ numberAt k c (getD (l .key) 2 0) ∷ []) o n u))
+  module _ (d : List ℕ) (y first : ℕ) (ys : List ℕ) (m : x ≡ l .number) (z : d ≡ c) (f : first ≡ numberAt k d (getD (laidOut k .key) 0 0)) where
+    -- and so do the first numbers that differ
+    pub order-first : (y ≡ first → ⊥) → o ≡ cmpN y first → o ≡ lex (x ∷ (y ∷ ys)) (keyNumbers (record { kind = k; content = c }))
+    order-first n u = rw (key-numbers k c, ← z, ← f) (lex-after x (laidOut k .number) (y ∷ ys) _ o (rw e at m) (lex-first y first ys _ o n u))
 
--- else the whole keys do
-pub order-rest : (k : Kind) (c d : List ℕ) (j r : List ℕ) (o : Tri) → d ≡ c → r ≡ keyNumbers (record { kind = k; content = d }) → o ≡ lex j r → o ≡ lex j (keyNumbers (record { kind = k; content = c }))
-order-rest k c d j r o z e u = u ∙ rw (e, z)
+    -- else the others do
+    pub order-rest : y ≡ first → o ≡ lex ys (restNumbers k d) → o ≡ lex (x ∷ (y ∷ ys)) (keyNumbers (record { kind = k; content = c }))
+    order-rest n u = rw (key-numbers k c, ← z, ← f) (lex-after x (laidOut k .number) (y ∷ ys) _ o (rw e at m) (lex-after y first ys _ o n u))
 
 pub ruleset atorder = (needs, order-kind, order-first, order-rest)
+
+module _ (k : Kind) (c : List ℕ) (l : Layout) (e : l ≡ laidOut k) (x y second : ℕ) (o : Tri) (p : second ≡ numberAt k c (getD (l .key) 1 0)) where
+  -- the second numbers tell it where they differ
+  pub rest-second : (x ≡ second → ⊥) → o ≡ cmpN x second → o ≡ lex (x ∷ (y ∷ [])) (restNumbers k c)
+  unfolding restNumbers
+  rest-second n u = rw (← e, ← p) (lex-first x second (y ∷ []) _ o n u)
+
+  -- else the third do
+  pub rest-third : (third : ℕ) → x ≡ second → third ≡ numberAt k c (getD (l .key) 2 0) → o ≡ cmpN y third → o ≡ lex (x ∷ (y ∷ [])) (restNumbers k c)
+  unfolding restNumbers
+  rest-third third n q u = rw (← e, ← p, ← q) (lex-after x second (y ∷ []) (third ∷ []) o n (lex-last y third o u))
+
+pub ruleset restorder = (needs, rest-second, rest-third)
 
 -- an even entry's key is read in the holding
 pub key-held : (h f r : List ℕ) (v : ℕ) → v % 2 ≡ 0 → r ≡ keyNumbers (recOf (lineAt h (v / 2))) → r ≡ keyNumbers (entry h f v)

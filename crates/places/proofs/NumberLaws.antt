@@ -1,6 +1,6 @@
 -- The laws of the number of a field that is read as it is walked.
 use mathlib.Core.Path.{_≡_, refl, sym, ap, _∙_}
-use mathlib.Core.Bool.{Bool, true, false}
+use mathlib.Core.Bool.{Bool, true, false, not, _||_}
 use mathlib.Core.List.{List, [], _∷_}
 use Prim.Native.Nat.{ℕ, zero, suc, _+_, _-_, _*_, _^_, _≤_, _<_}
 use native.Mathlib.Decide.{decLt}
@@ -8,17 +8,19 @@ use native.Mathlib.Nat.{add-zero}
 use native.Mathlib.Omega.{arith}
 use borrow.Author.Needs.{needs}
 use borrow.Author.Tests.{not-true, not-false, eq-eqb, lt-ltb, le-ltb}
-use lib.Dec.{ltb}
+use lib.Dec.{T, eqb, ltb}
 use lib.ListN.{length, getD, take}
 use lib.Seq.{take-nil}
-use Rattle.base.specs.Lists.{pick}
+use Rattle.base.specs.Lists.{pick, zeros}
 use Rattle.theory.specs.Decimal.{value, valueF}
 use Rattle.meaning.specs.Lines.{isSep, fieldsOf}
 use Rattle.meaning.specs.Forms.{Form, isTextual, isEmpty}
-use Rattle.meaning.specs.Table.{Kind}
+use Rattle.meaning.specs.Table.{Kind, kinds, fields, keyNames, placeFrom}
+use Rattle.laws.specs.Kinds.{every}
 use Rattle.text.specs.Places.{fieldLen}
 use Rattle.text.proofs.NumberLaws.{worth-turn, worth-fits, ten-fits}
-use Rattle.layout.specs.Rows.{rowOf}
+use Rattle.layout.specs.declared.records.Layout.{Layout}
+use Rattle.layout.specs.Rows.{rowOf, placesOf, padded, laidOut}
 use Rattle.keys.specs.Numbers.{digitsIn, numberOf}
 use Rattle.keys.specs.Places.{numberAt, emptyAt}
 use Rattle.keys.proofs.PlaceLaws.{number-text, number-plain, number-none, number-there, empty-there}
@@ -107,3 +109,28 @@ module _ (k : Kind) (s : List ℕ) (c p i : ℕ) (m : Form) (h : 4 ≤ p) (u : m
   empty-placed b e = empty-there k (lineAt s c) p m (firstField (lineAt s i)) h u field-placed b e
 
 pub ruleset placing = (needs, number-none, number-placed)
+
+-- ---- the first number of a key
+
+-- no kind's key begins with a text in field 4
+first-plain : (k : Kind) → getD (laidOut k .key) 0 0 ≡ 4 → isTextual (rowOf k 3 .0) ≡ false
+unfolding kinds laidOut placesOf padded zeros placeFrom fields keyNames rowOf isTextual
+first-plain k e = go (eqb (getD (laidOut k .key) 0 0) 4) (isTextual (rowOf k 3 .0)) (eq-eqb (getD (laidOut k .key) 0 0) 4 e) (every (λ k. not (eqb (getD (laidOut k .key) 0 0) 4) || not (isTextual (rowOf k 3 .0))) tt k)
+  where
+    go : (a b : Bool) → a ≡ true → T (not a || not b) → b ≡ false
+    go true true e t = absurd t
+    go true false e t = refl
+    go false b e t = let z : _≡_ {A = Bool} false true = e in cc
+
+module _ (k : Kind) (s : List ℕ) (c n : ℕ) (l : Layout) (e : l ≡ laidOut k) where
+  -- it is the value there
+  pub first-value : getD (l .key) 0 0 ≡ 4 → n ≡ value (take 16 (firstField (lineAt s c))) → n ≡ numberAt k (lineAt s c) (getD (laidOut k .key) 0 0)
+  first-value p q =
+      let r : getD (laidOut k .key) 0 0 ≡ 4 = rw (← e) p in
+      rw r (number-placed k s c 4 c (rowOf k 3 .0) (omega arith) refl (unfold afterFields in refl) n (number-plain (rowOf k 3 .0) (firstField (lineAt s c)) (isTextual (rowOf k 3 .0)) refl n (first-plain k r) q))
+
+  -- or what stands at another place
+  pub first-there : n ≡ numberAt k (lineAt s c) (getD (l .key) 0 0) → n ≡ numberAt k (lineAt s c) (getD (laidOut k .key) 0 0)
+  first-there q = q ∙ rw e
+
+pub ruleset firsts = (needs, first-value, first-there)

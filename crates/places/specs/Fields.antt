@@ -2,15 +2,18 @@
 use mathlib.Core.Bool.{Bool, false, _&&_}
 use mathlib.Core.Option.{Option, none, some}
 use mathlib.Core.List.{List, [], _∷_}
-use Prim.Native.Nat.{ℕ, zero, suc}
-use lib.ListN.{take}
+use Prim.Native.Nat.{ℕ, zero, suc, _+_, _-_}
+use lib.Dec.{eqb, leb, ltb}
+use lib.ListN.{length, getD, take}
 use Rattle.base.specs.Lists.{pick}
 use Rattle.meaning.specs.Lines.{afterField}
 use Rattle.meaning.specs.Forms.{Form, isEmpty}
 use Rattle.meaning.specs.Table.{Kind}
 use Rattle.meaning.specs.Records.{Rec}
 use Rattle.text.specs.Places.{fieldLen}
+use Rattle.layout.specs.Rows.{laidOut}
 use Rattle.keys.specs.Numbers.{numberOf, refAt}
+use Rattle.keys.specs.Places.{numberAt}
 use Rattle.places.specs.Places.{metBy}
 
 -- what stands after n fields
@@ -21,6 +24,22 @@ afterFields (suc n) t = afterFields n (afterField false t)
 -- the first field, with its quotes
 unfoldable pub firstField : List ℕ → List ℕ
 firstField t = take (fieldLen false t) t
+
+-- the line at an offset begins as a held one does: two bytes before a comma, and one between quotes before another
+unfoldable pub headed : List ℕ → ℕ → Bool
+headed s at =
+    leb 7 (length s - at)
+    && (ltb 44 (getD s at 0)
+    && (ltb 44 (getD s (at + 1) 0)
+    && (eqb (getD s (at + 2) 0) 44
+    && (eqb (getD s (at + 3) 0) 34
+    && (ltb 44 (getD s (at + 4) 0)
+    && (eqb (getD s (at + 5) 0) 34
+    && eqb (getD s (at + 6) 0) 44))))))
+
+-- the second and third numbers of the key of a kind's content
+unfoldable pub restNumbers : Kind → List ℕ → List ℕ
+restNumbers k c = numberAt k c (getD (laidOut k .key) 1 0) ∷ numberAt k c (getD (laidOut k .key) 2 0) ∷ []
 
 -- the key of a kind's number that a field refers to; an empty one refers to nothing
 unfoldable pub byField : Form → List ℕ → ℕ → Option (List ℕ)

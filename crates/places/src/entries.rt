@@ -1,5 +1,6 @@
 // The key of the record that a line carries, and of an entry's.
 ghost use mathlib.Core.Path.{_≡_};
+ghost use mathlib.Core.List.{[], _∷_};
 ghost use Prim.Native.Nat.{_≤_};
 ghost use lib.ListN.{length};
 ghost use Rattle.meaning.specs.Lines.{identifier};
@@ -9,10 +10,11 @@ ghost use Rattle.text.specs.Order.{triOf};
 ghost use Rattle.layout.specs.Meant.{kindMeant};
 ghost use Rattle.keys.specs.Numbers.{keyList, keyNumbers};
 ghost use Rattle.places.specs.Places.{known, recOf, lineAt, entry};
-ghost use Rattle.places.specs.Fields.{afterFields};
+ghost use Rattle.places.specs.Fields.{afterFields, restNumbers};
+use crate::fields::content_at;
 use crate::fields::kind_at;
 use crate::fields::line_start;
-use crate::fields::past_fields;
+use crate::numbers::first_number;
 use crate::numbers::number_at;
 use keys::Key;
 use layout::kinds::Kind;
@@ -56,7 +58,7 @@ pub fn record_key(s: &[u8], at: usize) -> Key
 {
     let start = line_start(s, at);
     let kind = kind_at(s, start);
-    key_at(kind, s, past_fields(s, start, 3))
+    key_at(kind, s, content_at(s, start))
 }
 
 // The key of an entry's record.
@@ -70,6 +72,20 @@ pub fn entry_key(h: &[u8], f: &[u8], v: u64) -> Key
     record_key(f, at)
 }
 
+// How the second and third numbers of a key stand to those of a record whose content stands in the line from `content` on.
+fn rest_against(kind: Kind, s: &[u8], content: usize, k: Key) -> Order
+    requires { ⌜ content ≤ length (now s) ⌝ }
+    ensures { λ r. ⌜ triOf r ≡ lex (k .second ∷ (k .third ∷ [])) (restNumbers (kindMeant kind) (lineAt (now (s .entry)) content)) ⌝ }
+{
+    let l = layout(kind);
+    let places = l.key;
+    let second = number_at(kind, s, content, places[1]);
+    if k.second != second {
+        return numbers(k.second, second);
+    }
+    numbers(k.third, number_at(kind, s, content, places[2]))
+}
+
 // How a key stands to that of a record of a kind in the line from `start` on: no field is read where the kinds tell, and no second
 // field where the first ones do.
 fn against_at(kind: Kind, s: &[u8], start: usize, k: Key) -> Order
@@ -80,13 +96,12 @@ fn against_at(kind: Kind, s: &[u8], start: usize, k: Key) -> Order
     if k.kind != l.number {
         return numbers(k.kind, l.number);
     }
-    let content = past_fields(s, start, 3);
-    let places = l.key;
-    let first = number_at(kind, s, content, places[0]);
+    let content = content_at(s, start);
+    let first = first_number(kind, s, content);
     if k.first != first {
         return numbers(k.first, first);
     }
-    keys::order(k, key_at(kind, s, content))
+    rest_against(kind, s, content, k)
 }
 
 // How a key stands to that of the record whose line starts at `at`.

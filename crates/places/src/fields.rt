@@ -8,7 +8,7 @@ ghost use Rattle.meaning.specs.Table.{kindOf};
 ghost use Rattle.text.specs.Places.{fieldLen};
 ghost use Rattle.layout.specs.Meant.{kindMeant};
 ghost use Rattle.places.specs.Places.{known, lineAt};
-ghost use Rattle.places.specs.Fields.{afterFields, firstField};
+ghost use Rattle.places.specs.Fields.{afterFields, firstField, headed};
 use layout::kinds::Kind;
 use layout::kinds::KindFound;
 use text::lines::ends_at;
@@ -96,6 +96,46 @@ pub fn past_fields(s: &[u8], at: usize, n: usize) -> usize
         i += 1;
     }
     i
+}
+
+// Whether the line at `at` begins as a held one does: two bytes before a comma, and one between quotes before another.
+fn is_headed(s: &[u8], at: usize) -> bool
+    requires { ⌜ at ≤ length (now s) ⌝ }
+    ensures { λ r. ⌜ r ≡ headed (now (s .entry)) at ⌝ }
+{
+    if s.len() - at < 7 {
+        return false;
+    }
+    if s[at] <= 44 {
+        return false;
+    }
+    if s[at + 1] <= 44 {
+        return false;
+    }
+    if s[at + 2] != 44 {
+        return false;
+    }
+    if s[at + 3] != 34 {
+        return false;
+    }
+    if s[at + 4] <= 44 {
+        return false;
+    }
+    if s[at + 5] != 34 {
+        return false;
+    }
+    s[at + 6] == 44
+}
+
+// Where the content of the line at `at` starts: what stands after its third field.
+pub fn content_at(s: &[u8], at: usize) -> usize
+    requires { ⌜ at ≤ length (now s) ⌝ }
+    ensures { λ r. ⌜ (lineAt (now (s .entry)) r ≡ afterFields 3 (lineAt (now (s .entry)) at)) × (r ≤ length (now (s .entry))) ⌝ }
+{
+    if is_headed(s, at) {
+        return past_fields(s, at + 7, 1);
+    }
+    past_fields(s, at, 3)
 }
 
 // The field at `at`, with its quotes.

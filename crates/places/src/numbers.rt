@@ -3,11 +3,12 @@ ghost use mathlib.Core.Path.{_≡_};
 ghost use mathlib.Core.List.{[]};
 ghost use Prim.Native.Nat.{_+_, _-_, _≤_};
 ghost use lib.Dec.{ltb};
-ghost use lib.ListN.{length, take};
+ghost use lib.ListN.{length, getD, take};
 ghost use Rattle.base.specs.Lists.{pick};
 ghost use Rattle.theory.specs.Decimal.{value};
 ghost use Rattle.form.specs.Meant.{meant};
 ghost use Rattle.layout.specs.Meant.{kindMeant};
+ghost use Rattle.layout.specs.Rows.{laidOut};
 ghost use Rattle.keys.specs.Numbers.{numberOf};
 ghost use Rattle.keys.specs.Places.{numberAt};
 ghost use Rattle.places.specs.Places.{lineAt};
@@ -19,7 +20,15 @@ use keys::places::form_at;
 use keys::places::plain_number;
 use keys::places::text_number;
 use layout::kinds::Kind;
-use text::numbers::digit;
+use layout::rules::layout;
+
+// The value of a byte that stands no lower than the digits do.
+fn digit_above(b: u8) -> u64
+    requires { ⌜ 48 ≤ b ⌝ }
+    ensures { λ r. ⌜ (r ≡ b - 48) × (r ≤ 207) ⌝ }
+{
+    b as u64 - 48
+}
 
 // How many bytes from `at` on are a number's at most.
 fn room(s: &[u8], at: usize) -> usize
@@ -49,7 +58,7 @@ fn value_at(s: &[u8], at: usize) -> u64
             }
             return plain_number(first_field(s, at));
         }
-        v = v * 10 + digit(b);
+        v = v * 10 + digit_above(b);
         k += 1;
     }
     v
@@ -64,6 +73,21 @@ pub fn number_here(form: Form, s: &[u8], at: usize) -> u64
         return text_number(first_field(s, at));
     }
     value_at(s, at)
+}
+
+// The first number of the key of a record whose content stands in the line from `content` on. No kind's key begins with a text in
+// field 4, so that its form is not looked up there.
+pub fn first_number(kind: Kind, s: &[u8], content: usize) -> u64
+    requires { ⌜ content ≤ length (now s) ⌝ }
+    ensures { λ r. ⌜ r ≡ numberAt (kindMeant kind) (lineAt (now (s .entry)) content) (getD (laidOut (kindMeant kind) .key) 0 0) ⌝ }
+{
+    let l = layout(kind);
+    let places = l.key;
+    let place = places[0];
+    if place == 4 {
+        return value_at(s, content);
+    }
+    number_at(kind, s, content, place)
 }
 
 // The number of the field at a place of a record whose content stands in the line from `content` on; 0 where there is none.

@@ -16,6 +16,7 @@ ghost use Rattle.keys.specs.Numbers.{keyList, keyNumbers, referredAs, refAt, nu
 ghost use Rattle.places.specs.Places.{recOf, lineAt, entry, says, metBy};
 ghost use Rattle.places.specs.Fields.{firstField, byField, bothMet};
 use crate::entries::against_line;
+use crate::fields::content_at;
 use crate::fields::first_field;
 use crate::fields::kind_at;
 use crate::fields::line_start;
@@ -123,7 +124,7 @@ fn meets_at(h: &[u8], f: &[u8], a: &[u64], n: usize, s: &[u8], at: usize) -> boo
 {
     let start = line_start(s, at);
     let kind = kind_at(s, start);
-    record_meets(h, f, a, n, s, at, kind, past_fields(s, start, 3))
+    record_meets(h, f, a, n, s, at, kind, content_at(s, start))
 }
 
 // Whether the references of an entry's record are met among the first n entries, which are those of sound records in key order.

@@ -10,11 +10,9 @@ against-at-spec =
     (λ c κs. search atorder)  -- layout-requires
     (λ c κs. search atorder)  -- numbers-requires
     (λ c. search atorder)  -- returns
-    (λ c κs. search atorder)  -- past-fields-requires
-    (λ c. search atorder)  -- array-read-number-at
-    (λ c κs. search atorder)  -- number-at-requires
+    (λ c κs. search atorder)  -- content-at-requires
+    (λ c κs. search atorder)  -- first-number-requires
     (λ c κs. search atorder)  -- numbers-requires-2
     (λ c. search atorder)  -- returns-2
-    (λ c κs. search atorder)  -- key-at-requires
-    (λ c κs. search atorder)  -- order-requires
+    (λ c κs. search atorder)  -- rest-against-requires
     (λ c. search atorder))  -- returns-3

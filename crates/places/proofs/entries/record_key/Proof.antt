@@ -9,6 +9,6 @@ record-key-spec =
     (tie.spec
     (λ c κs. search recordkey)  -- line-start-requires
     (λ c κs. search recordkey)  -- kind-at-requires
-    (λ c κs. search recordkey)  -- past-fields-requires
+    (λ c κs. search recordkey)  -- content-at-requires
     (λ c κs. search recordkey)  -- key-at-requires
     (λ c. search recordkey))  -- returns

@@ -24,7 +24,7 @@ value-at-spec =
     (λ c κs. search valuing)  -- plain-number-requires
     (λ c. search valuing)  -- returns-2
     (λ c. search valuing)  -- mul-v
-    (λ c κs. search valuing)  -- digit-requires
+    (λ c κs. search valuing)  -- digit-above-requires
     (λ c. search valuing)  -- add-v
     (λ c. search valuing)  -- add-k
     (λ c. search valuing)  -- loop-less

@@ -9,6 +9,6 @@ meets-at-spec =
     (tie.spec
     (λ c κs. search linemet)  -- line-start-requires
     (λ c κs. search linemet)  -- kind-at-requires
-    (λ c κs. search linemet)  -- past-fields-requires
+    (λ c κs. search linemet)  -- content-at-requires
     (λ c κs. search linemet)  -- record-meets-requires
     (λ c. search linemet))  -- returns
