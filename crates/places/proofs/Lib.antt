@@ -1,4 +1,5 @@
 pub mod FieldLaws
+pub mod HeadLaws
 pub mod NumberLaws
 pub mod SaysLaws
 pub mod EntryLaws

@@ -1,13 +1,13 @@
 -- The laws of the number of a field that is read as it is walked.
-use mathlib.Core.Path.{_≡_, refl, sym, ap, _∙_}
+use mathlib.Core.Path.{_≡_, refl, sym, _∙_}
 use mathlib.Core.Bool.{Bool, true, false, not, _||_}
-use mathlib.Core.List.{List, [], _∷_}
-use Prim.Native.Nat.{ℕ, zero, suc, _+_, _-_, _*_, _^_, _≤_, _<_}
+use mathlib.Core.List.{List, []}
+use Prim.Native.Nat.{ℕ, suc, _+_, _-_, _*_, _≤_, _<_}
 use native.Mathlib.Decide.{decLt}
 use native.Mathlib.Nat.{add-zero}
 use native.Mathlib.Omega.{arith}
 use borrow.Author.Needs.{needs}
-use borrow.Author.Tests.{not-true, not-false, eq-eqb, lt-ltb, le-ltb}
+use borrow.Author.Tests.{eq-eqb, lt-ltb, le-ltb}
 use lib.Dec.{T, eqb, ltb}
 use lib.ListN.{length, getD, take}
 use lib.Seq.{take-nil}
@@ -26,7 +26,7 @@ use Rattle.keys.specs.Places.{numberAt, emptyAt}
 use Rattle.keys.proofs.PlaceLaws.{number-text, number-plain, number-none, number-there, empty-there}
 use Rattle.places.specs.Places.{lineAt}
 use Rattle.places.specs.Fields.{afterFields, firstField}
-use Rattle.places.proofs.FieldLaws.{Passes, pass-over, line-over, line-byte, field-after}
+use Rattle.places.proofs.FieldLaws.{pass-over, line-over, line-byte, field-after}
 
 -- ---- room
 

@@ -29,7 +29,7 @@ use Rattle.keys.specs.Numbers.{numberOf, keyList, referredAs, keyNumbers, refNu
 use Rattle.keys.specs.KeyLaws.{refs-are, meets-agree, asc-numbered}
 use Rattle.keys.proofs.PlaceLaws.{empty-none}
 use Rattle.keys.proofs.RowLaws.{ref-beyond, ref-none, ref-some}
-use Rattle.places.specs.Places.{known, recOf, lineAt, entry, says, metBy}
+use Rattle.places.specs.Places.{known, recOf, lineAt, entry, metBy}
 use Rattle.places.specs.Fields.{afterFields, firstField, byField, bothMet}
 use Rattle.places.proofs.SaysLaws.{entry-held, entry-filed}
 use Rattle.places.proofs.NumberLaws.{number-placed, empty-placed}

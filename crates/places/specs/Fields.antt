@@ -25,17 +25,13 @@ afterFields (suc n) t = afterFields n (afterField false t)
 unfoldable pub firstField : List ℕ → List ℕ
 firstField t = take (fieldLen false t) t
 
--- the line at an offset begins as a held one does: two bytes before a comma, and one between quotes before another
-unfoldable pub headed : List ℕ → ℕ → Bool
-headed s at =
-    leb 7 (length s - at)
-    && (ltb 44 (getD s at 0)
-    && (ltb 44 (getD s (at + 1) 0)
-    && (eqb (getD s (at + 2) 0) 44
-    && (eqb (getD s (at + 3) 0) 34
-    && (ltb 44 (getD s (at + 4) 0)
-    && (eqb (getD s (at + 5) 0) 34
-    && eqb (getD s (at + 6) 0) 44))))))
+-- the line at an offset begins with two bytes before a comma
+unfoldable pub paired : List ℕ → ℕ → Bool
+paired s at = leb 3 (length s - at) && (ltb 44 (getD s at 0) && (ltb 44 (getD s (at + 1) 0) && eqb (getD s (at + 2) 0) 44))
+
+-- and one between quotes before another follows, as in a held line
+unfoldable pub lettered : List ℕ → ℕ → Bool
+lettered s at = leb 7 (length s - at) && (eqb (getD s (at + 3) 0) 34 && (ltb 44 (getD s (at + 4) 0) && (eqb (getD s (at + 5) 0) 34 && eqb (getD s (at + 6) 0) 44)))
 
 -- the second and third numbers of the key of a kind's content
 unfoldable pub restNumbers : Kind → List ℕ → List ℕ

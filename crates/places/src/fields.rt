@@ -3,14 +3,9 @@ ghost use mathlib.Core.Path.{_≡_};
 ghost use mathlib.Core.Bool.{false};
 ghost use Prim.Native.Nat.{_+_, _≤_};
 ghost use lib.ListN.{length};
-ghost use Rattle.meaning.specs.Lines.{identifier};
-ghost use Rattle.meaning.specs.Table.{kindOf};
 ghost use Rattle.text.specs.Places.{fieldLen};
-ghost use Rattle.layout.specs.Meant.{kindMeant};
-ghost use Rattle.places.specs.Places.{known, lineAt};
-ghost use Rattle.places.specs.Fields.{afterFields, firstField, headed};
-use layout::kinds::Kind;
-use layout::kinds::KindFound;
+ghost use Rattle.places.specs.Places.{lineAt};
+ghost use Rattle.places.specs.Fields.{afterFields, firstField};
 use text::lines::ends_at;
 
 // Where the line at `at` starts: past the end stands an empty line.
@@ -98,46 +93,6 @@ pub fn past_fields(s: &[u8], at: usize, n: usize) -> usize
     i
 }
 
-// Whether the line at `at` begins as a held one does: two bytes before a comma, and one between quotes before another.
-fn is_headed(s: &[u8], at: usize) -> bool
-    requires { ⌜ at ≤ length (now s) ⌝ }
-    ensures { λ r. ⌜ r ≡ headed (now (s .entry)) at ⌝ }
-{
-    if s.len() - at < 7 {
-        return false;
-    }
-    if s[at] <= 44 {
-        return false;
-    }
-    if s[at + 1] <= 44 {
-        return false;
-    }
-    if s[at + 2] != 44 {
-        return false;
-    }
-    if s[at + 3] != 34 {
-        return false;
-    }
-    if s[at + 4] <= 44 {
-        return false;
-    }
-    if s[at + 5] != 34 {
-        return false;
-    }
-    s[at + 6] == 44
-}
-
-// Where the content of the line at `at` starts: what stands after its third field.
-pub fn content_at(s: &[u8], at: usize) -> usize
-    requires { ⌜ at ≤ length (now s) ⌝ }
-    ensures { λ r. ⌜ (lineAt (now (s .entry)) r ≡ afterFields 3 (lineAt (now (s .entry)) at)) × (r ≤ length (now (s .entry))) ⌝ }
-{
-    if is_headed(s, at) {
-        return past_fields(s, at + 7, 1);
-    }
-    past_fields(s, at, 3)
-}
-
 // The field at `at`, with its quotes.
 pub fn first_field(s: &[u8], at: usize) -> &[u8]
     requires { ⌜ at ≤ length (now s) ⌝ }
@@ -145,15 +100,4 @@ pub fn first_field(s: &[u8], at: usize) -> &[u8]
 {
     let end = field_end(s, at);
     &s[at..end]
-}
-
-// The kind of the line at `at`; an unknown one is taken for a header's.
-pub fn kind_at(s: &[u8], at: usize) -> Kind
-    requires { ⌜ at ≤ length (now s) ⌝ }
-    ensures { λ r. ⌜ kindMeant r ≡ known (kindOf (identifier (lineAt (now (s .entry)) at))) ⌝ }
-{
-    match layout::check::kind_of(first_field(s, at)) {
-        KindFound::Known(kind) => kind,
-        KindFound::Unknown => Kind::Header,
-    }
 }

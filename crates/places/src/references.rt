@@ -16,11 +16,11 @@ ghost use Rattle.keys.specs.Numbers.{keyList, keyNumbers, referredAs, refAt, nu
 ghost use Rattle.places.specs.Places.{recOf, lineAt, entry, says, metBy};
 ghost use Rattle.places.specs.Fields.{firstField, byField, bothMet};
 use crate::entries::against_line;
-use crate::fields::content_at;
 use crate::fields::first_field;
-use crate::fields::kind_at;
 use crate::fields::line_start;
 use crate::fields::past_fields;
+use crate::heads::content_at;
+use crate::heads::kind_at;
 use crate::numbers::number_here;
 use crate::search::place;
 use crate::search::stands;
@@ -49,7 +49,7 @@ fn reference_by(form: Form, s: &[u8], at: usize, to: u64) -> Referred
 }
 
 // What the table's row j makes a record refer to whose content stands in the line from `content` on.
-fn reference_at(kind: Kind, s: &[u8], content: usize, j: usize) -> Referred
+pub fn reference_at(kind: Kind, s: &[u8], content: usize, j: usize) -> Referred
     requires { ⌜ content ≤ length (now s) ⌝ }
     ensures { λ r. ⌜ referredAs r ≡ refAt (kindMeant kind) (lineAt (now (s .entry)) content) j ⌝ }
 {

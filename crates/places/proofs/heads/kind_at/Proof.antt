@@ -1,13 +1,13 @@
--- `places::fields::kind_at` meets its contract.
-use Rattle.places.proofs.FieldLaws.{kinding}
-use Rattle.places.proofs.fields.kind_at.Statement.{statement}
-use Rattle.places.proofs.fields.kind_at.Tie as tie
+-- `places::heads::kind_at` meets its contract.
+use Rattle.places.proofs.HeadLaws.{kinding}
+use Rattle.places.proofs.heads.kind_at.Statement.{statement}
+use Rattle.places.proofs.heads.kind_at.Tie as tie
 
 pub kind-at-spec : {M : Type 1} → statement M
 kind-at-spec =
     tie.close
     (tie.spec
-    (λ c κs. search kinding)  -- first-field-requires
+    (λ c κs. search kinding)  -- identifier-at-requires
     (λ c κs. search kinding)  -- kind-of-requires
     (λ c. search kinding)  -- enum-known-kind
     (λ c. search kinding)  -- enum-told

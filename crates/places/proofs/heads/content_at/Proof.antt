@@ -1,7 +1,7 @@
--- `places::fields::content_at` meets its contract.
-use Rattle.places.proofs.FieldLaws.{heading}
-use Rattle.places.proofs.fields.content_at.Statement.{statement}
-use Rattle.places.proofs.fields.content_at.Tie as tie
+-- `places::heads::content_at` meets its contract.
+use Rattle.places.proofs.HeadLaws.{heading}
+use Rattle.places.proofs.heads.content_at.Statement.{statement}
+use Rattle.places.proofs.heads.content_at.Tie as tie
 
 pub content-at-spec : {M : Type 1} → statement M
 content-at-spec =
