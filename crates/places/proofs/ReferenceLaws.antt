@@ -3,7 +3,7 @@ use mathlib.Core.Path.{_≡_, refl, sym, ap, _∙_}
 use mathlib.Core.Bool.{Bool, true, false, _&&_}
 use mathlib.Core.Option.{Option, none, some}
 use mathlib.Core.List.{List, [], _∷_}
-use Prim.Native.Nat.{ℕ, _-_, _/_, _%_, _≤_, _<_}
+use Prim.Native.Nat.{ℕ, _-_, _/_, _%_, _≤_}
 use borrow.Author.Needs.{needs}
 use borrow.Author.Tests.{not-true, not-false}
 use lib.Dec.{T}
@@ -27,8 +27,7 @@ use Rattle.keys.specs.declared.Referred.{Referred}
 use Rattle.keys.specs.declared.Referred.the-variants.{To, Nothing}
 use Rattle.keys.specs.Numbers.{numberOf, keyList, referredAs, keyNumbers, refNumbers, refAt, numbered}
 use Rattle.keys.specs.KeyLaws.{refs-are, meets-agree, asc-numbered}
-use Rattle.keys.proofs.PlaceLaws.{empty-none}
-use Rattle.keys.proofs.RowLaws.{ref-beyond, ref-none, ref-some}
+use Rattle.keys.proofs.RowLaws.{ref-beyond, ref-low, ref-none, ref-some}
 use Rattle.places.specs.Places.{known, recOf, lineAt, entry, metBy}
 use Rattle.places.specs.Fields.{afterFields, firstField, byField, bothMet}
 use Rattle.places.proofs.SaysLaws.{entry-held, entry-filed}
@@ -51,11 +50,7 @@ module _ (m : Form) (f : List ℕ) (to : ℕ) (g : List ℕ) (z : g ≡ f) (b : 
 pub ruleset byfield = (needs, not-true, not-false, by-none, by-some)
 
 module _ (k : Kind) (s : List ℕ) (c j : ℕ) (l : Layout) (e : l ≡ laidOut k) (h : j ≤ 1) where
-  -- where there is no such row there is no field
-  pub at-low : getD (l .by) j 0 < 4 → none ≡ refAt k (lineAt s c) j
-  at-low p = ref-none k (lineAt s c) j l e h true (empty-none k (lineAt s c) (getD (l .by) j 0) p) refl
-
-  -- else the field at its place says it
+  -- the field at its place says it
   pub at-field : (m : Form) (i : ℕ) (o : Option (List ℕ)) → 4 ≤ getD (l .by) j 0 → m ≡ rowOf k (getD (l .by) j 0 - 1) .0 → lineAt s i ≡ afterFields (getD (l .by) j 0 - 4) (lineAt s c)
       → o ≡ byField m (firstField (lineAt s i)) (getD (l .to) j 0) → o ≡ refAt k (lineAt s c) j
   unfolding byField
@@ -68,7 +63,7 @@ module _ (k : Kind) (s : List ℕ) (c j : ℕ) (l : Layout) (e : l ≡ laidOut k
       go true b = ref-none k (lineAt s c) j l e h true (empty-placed k s c place i m p u w true (sym b)) refl
       go false b = ref-some k (lineAt s c) j l e h false (empty-placed k s c place i m p u w false (sym b)) (numberOf m (firstField (lineAt s i))) refl (number-placed k s c place i m p u w (numberOf m (firstField (lineAt s i))) refl)
 
-pub ruleset rowat = (needs, ref-beyond, at-low, at-field)
+pub ruleset rowat = (needs, ref-beyond, ref-low, at-field)
 
 -- a key is a record's own where they are compared so
 pub own-told : (x y : List ℕ) (o p : Order) (b : Bool) → triOf o ≡ lex x y → o ≡ p → b ≡ isEq (triOf p) → b ≡ isEq (lex x y)
