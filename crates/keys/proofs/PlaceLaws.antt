@@ -165,4 +165,4 @@ module _ (k : Kind) (c : List ℕ) (p : ℕ) where
     unfolding emptyAt fieldAt
     empty-there b e = rw (le-ltb p 4 h, ← u, ← v) e
 
-pub ruleset there = (needs, number-none, empty-none, number-there, empty-there)
+pub ruleset there = (needs, number-none, number-there)

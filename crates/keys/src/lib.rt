@@ -8,10 +8,12 @@ ghost use Rattle.theory.specs.Lex.{lex};
 ghost use Rattle.text.specs.Order.{triOf};
 ghost use Rattle.layout.specs.Meant.{kindMeant};
 ghost use Rattle.keys.specs.Numbers.{keyNumbers, refAt, keyList, referredAs};
-use crate::places::is_empty_at;
+use crate::places::form_at;
 use crate::places::number_at;
+use crate::places::number_of;
 use layout::kinds::Kind;
 use layout::rules::layout;
+use text::fields::field;
 use text::order::Order;
 use text::order::numbers;
 
@@ -74,13 +76,18 @@ pub fn reference(kind: Kind, content: &[u8], j: usize) -> Referred
     let l = layout(kind);
     let places = l.by;
     let place = places[j];
-    if is_empty_at(kind, content, place) {
+    if place < 4 {
+        return Referred::Nothing;
+    }
+    let form = form_at(kind, place - 1);
+    let f = field(content, place - 4);
+    if form::is_empty(form, f) {
         return Referred::Nothing;
     }
     let kinds = l.to;
     Referred::To(Key {
         kind: kinds[j],
-        first: number_at(kind, content, place),
+        first: number_of(form, f),
         second: 0,
         third: 0,
     })

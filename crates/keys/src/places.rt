@@ -6,7 +6,7 @@ ghost use Rattle.form.specs.Meant.{meant};
 ghost use Rattle.layout.specs.Meant.{kindMeant};
 ghost use Rattle.layout.specs.Rows.{rowOf};
 ghost use Rattle.keys.specs.Numbers.{digitsIn, numberOf};
-ghost use Rattle.keys.specs.Places.{numberAt, emptyAt};
+ghost use Rattle.keys.specs.Places.{numberAt};
 use form::Form;
 use layout::kinds::Kind;
 use layout::rules::form_of;
@@ -76,14 +76,4 @@ pub fn number_at(kind: Kind, content: &[u8], place: usize) -> u64
         return 0;
     }
     number_of(form_at(kind, place - 1), field(content, place - 4))
-}
-
-// Whether a content's field at a place is empty, or there is none.
-pub fn is_empty_at(kind: Kind, content: &[u8], place: usize) -> bool
-    ensures { λ r. ⌜ r ≡ emptyAt (kindMeant kind) (now (content .entry)) place ⌝ }
-{
-    if place < 4 {
-        return true;
-    }
-    form::is_empty(form_at(kind, place - 1), field(content, place - 4))
 }

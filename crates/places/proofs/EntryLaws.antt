@@ -1,15 +1,15 @@
 -- The laws of the keys of lines and entries.
-use mathlib.Core.Path.{_≡_, ap, _∙_}
-use mathlib.Core.List.{List, []}
+use mathlib.Core.Path.{_≡_, refl, sym, ap, _∙_}
+use mathlib.Core.List.{List, [], _∷_}
 use Prim.Native.Nat.{ℕ, _-_, _/_, _%_, _<_}
 use native.Mathlib.Nat.{sub-zero}
 use native.Mathlib.Omega.{arith}
 use borrow.Author.Needs.{needs}
-use lib.ListN.{length, take, drop, length-drop}
+use lib.ListN.{length, getD, take, drop, length-drop}
 use lib.Seq.{take-all}
 use Rattle.base.proofs.Walk.{at-end}
 use Rattle.theory.specs.Tri.{Tri}
-use Rattle.theory.specs.Lex.{lex}
+use Rattle.theory.specs.Lex.{cmpN, lex}
 use Rattle.meaning.specs.Lines.{identifier}
 use Rattle.meaning.specs.Table.{Kind, header, kindOf}
 use Rattle.meaning.specs.Records.{contentOf}
@@ -18,10 +18,16 @@ use Rattle.text.proofs.FieldLaws.{identifier-part, content-part}
 use Rattle.layout.specs.declared.kinds.Kind as code
 use Rattle.layout.specs.declared.kinds.KindFound as found
 use Rattle.layout.specs.declared.kinds.KindFound.the-variants.{Known, Unknown}
+use Rattle.layout.specs.declared.records.Layout.{Layout}
 use Rattle.layout.specs.Meant.{kindMeant, kindFound}
+use Rattle.layout.specs.Rows.{laidOut}
 use Rattle.keys.specs.Numbers.{keyNumbers}
+use Rattle.keys.specs.Places.{numberAt}
+use Rattle.keys.proofs.RowLaws.{lex-first, lex-after, lex-last, key-is}
 use Rattle.places.specs.Places.{known, recOf, lineAt, entry}
+use Rattle.places.specs.Fields.{afterFields, restNumbers}
 use Rattle.places.proofs.SaysLaws.{entry-held, entry-filed}
+use Rattle.places.proofs.FieldLaws.{content-three}
 
 module _ (t : List ℕ) (n : ℕ) (r : found.KindFound) (e : n ≡ length (identifier t)) (g : kindFound r ≡ kindOf (take (n - 0) t)) where
   found-is : kindFound r ≡ kindOf (identifier t)
@@ -46,12 +52,6 @@ pub rec-line : (t : List ℕ) (k : Kind) (c : ℕ) → k ≡ known (kindOf (iden
 unfolding recOf
 rec-line t k c e q = rw (e, content-told t c q)
 
--- and so is its key
-pub key-line : (t r : List ℕ) (k : Kind) (c : ℕ) → k ≡ known (kindOf (identifier t)) → c ≡ contentStart t → r ≡ keyNumbers (record { kind = k; content = take (length t - c) (drop c t) }) → r ≡ keyNumbers (recOf t)
-key-line t r k c e q u = u ∙ ap keyNumbers (rec-line t k c e q)
-
-pub ruleset linekey = (needs, key-line)
-
 -- past the end stands an empty line
 pub line-past : (s : List ℕ) (at : ℕ) → length s < at → [] ≡ lineAt s at
 unfolding lineAt lineLen
@@ -64,15 +64,57 @@ line-here s at e q =
     let n : e - at ≡ lineLen (drop at s) = omega arith in
     rw n
 
--- the key of what stands past the end
-pub record-past : (s r : List ℕ) (at : ℕ) → length s < at → r ≡ keyNumbers (recOf []) → r ≡ keyNumbers (recOf (lineAt s at))
-record-past s r at l u = u ∙ ap (λ t. keyNumbers (recOf t)) (line-past s at l)
+module _ (s : List ℕ) (at i : ℕ) (k : Kind) (p : lineAt s i ≡ lineAt s at) (q : k ≡ known (kindOf (identifier (lineAt s i)))) where
+  -- the record of the line at an offset is of its kind, and of what stands after three fields
+  pub rec-at : record { kind = k; content = afterFields 3 (lineAt s i) } ≡ recOf (lineAt s at)
+  unfolding recOf
+  rec-at = rw (← p, q, content-three (lineAt s i))
 
--- the key of a line
-pub record-here : (s r : List ℕ) (at e : ℕ) → e ≡ lineEnd s at → r ≡ keyNumbers (recOf (take (e - at) (drop at s))) → r ≡ keyNumbers (recOf (lineAt s at))
-record-here s r at e q u = u ∙ ap (λ t. keyNumbers (recOf t)) (line-here s at e q)
+  -- and so is its key
+  pub key-line : (c : ℕ) (r : List ℕ) → lineAt s c ≡ afterFields 3 (lineAt s i) → r ≡ keyNumbers (record { kind = k; content = lineAt s c }) → r ≡ keyNumbers (recOf (lineAt s at))
+  key-line c r u e = e ∙ rw u (ap keyNumbers rec-at)
 
-pub ruleset recordkey = (needs, record-past, record-here)
+  -- to which another is compared
+  pub order-line : (j : List ℕ) (o : Tri) → o ≡ lex j (keyNumbers (record { kind = k; content = afterFields 3 (lineAt s i) })) → o ≡ lex j (keyNumbers (recOf (lineAt s at)))
+  order-line j o e = e ∙ ap (λ r. lex j (keyNumbers r)) rec-at
+
+pub ruleset recordkey = (needs, key-line)
+
+pub ruleset lineorder = (needs, order-line)
+
+-- the numbers of a key, one by one
+key-numbers : (k : Kind) (c : List ℕ) → keyNumbers (record { kind = k; content = c }) ≡ laidOut k .number ∷ (numberAt k c (getD (laidOut k .key) 0 0) ∷ restNumbers k c)
+unfolding restNumbers
+key-numbers k c = sym (key-is k c (laidOut k) (numberAt k c (getD (laidOut k .key) 0 0)) (numberAt k c (getD (laidOut k .key) 1 0)) (numberAt k c (getD (laidOut k .key) 2 0)) refl refl refl refl)
+
+module _ (k : Kind) (c : List ℕ) (l : Layout) (e : l ≡ laidOut k) (x : ℕ) (o : Tri) where
+  -- kinds that differ tell the order
+  pub order-kind : (xs : List ℕ) → (x ≡ l .number → ⊥) → o ≡ cmpN x (l .number) → o ≡ lex (x ∷ xs) (keyNumbers (record { kind = k; content = c }))
+  order-kind xs n u = rw (key-numbers k c) (lex-first x (laidOut k .number) xs _ o (rw e at n) (rw e at u))
+
+  module _ (d : List ℕ) (y first : ℕ) (ys : List ℕ) (m : x ≡ l .number) (z : d ≡ c) (f : first ≡ numberAt k d (getD (laidOut k .key) 0 0)) where
+    -- and so do the first numbers that differ
+    pub order-first : (y ≡ first → ⊥) → o ≡ cmpN y first → o ≡ lex (x ∷ (y ∷ ys)) (keyNumbers (record { kind = k; content = c }))
+    order-first n u = rw (key-numbers k c, ← z, ← f) (lex-after x (laidOut k .number) (y ∷ ys) _ o (rw e at m) (lex-first y first ys _ o n u))
+
+    -- else the others do
+    pub order-rest : y ≡ first → o ≡ lex ys (restNumbers k d) → o ≡ lex (x ∷ (y ∷ ys)) (keyNumbers (record { kind = k; content = c }))
+    order-rest n u = rw (key-numbers k c, ← z, ← f) (lex-after x (laidOut k .number) (y ∷ ys) _ o (rw e at m) (lex-after y first ys _ o n u))
+
+pub ruleset atorder = (needs, order-kind, order-first, order-rest)
+
+module _ (k : Kind) (c : List ℕ) (l : Layout) (e : l ≡ laidOut k) (x y second : ℕ) (o : Tri) (p : second ≡ numberAt k c (getD (l .key) 1 0)) where
+  -- the second numbers tell it where they differ
+  pub rest-second : (x ≡ second → ⊥) → o ≡ cmpN x second → o ≡ lex (x ∷ (y ∷ [])) (restNumbers k c)
+  unfolding restNumbers
+  rest-second n u = rw (← e, ← p) (lex-first x second (y ∷ []) _ o n u)
+
+  -- else the third do
+  pub rest-third : (third : ℕ) → x ≡ second → third ≡ numberAt k c (getD (l .key) 2 0) → o ≡ cmpN y third → o ≡ lex (x ∷ (y ∷ [])) (restNumbers k c)
+  unfolding restNumbers
+  rest-third third n q u = rw (← e, ← p, ← q) (lex-after x second (y ∷ []) (third ∷ []) o n (lex-last y third o u))
+
+pub ruleset restorder = (needs, rest-second, rest-third)
 
 -- an even entry's key is read in the holding
 pub key-held : (h f r : List ℕ) (v : ℕ) → v % 2 ≡ 0 → r ≡ keyNumbers (recOf (lineAt h (v / 2))) → r ≡ keyNumbers (entry h f v)
@@ -84,8 +126,12 @@ key-filed h f r v e u = u ∙ rw (entry-filed h f v e)
 
 pub ruleset entrykey = (needs, key-held, key-filed)
 
--- keys are compared by their numbers
-pub key-against : (k j x : List ℕ) (o : Tri) → o ≡ lex k j → j ≡ x → o ≡ lex k x
-key-against k j x o e u = e ∙ rw u
+-- a key is compared to an even entry's in the holding
+pub order-held : (h f : List ℕ) (j : List ℕ) (o : Tri) (v : ℕ) → v % 2 ≡ 0 → o ≡ lex j (keyNumbers (recOf (lineAt h (v / 2)))) → o ≡ lex j (keyNumbers (entry h f v))
+order-held h f j o v e u = u ∙ rw (entry-held h f v e)
 
-pub ruleset keyagainst = (needs, key-against)
+-- and to an odd one's in the file
+pub order-filed : (h f : List ℕ) (j : List ℕ) (o : Tri) (v : ℕ) → (v % 2 ≡ 0 → ⊥) → o ≡ lex j (keyNumbers (recOf (lineAt f (v / 2)))) → o ≡ lex j (keyNumbers (entry h f v))
+order-filed h f j o v e u = u ∙ rw (entry-filed h f v e)
+
+pub ruleset keyagainst = (needs, order-held, order-filed)

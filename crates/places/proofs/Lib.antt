@@ -1,3 +1,6 @@
+pub mod FieldLaws
+pub mod HeadLaws
+pub mod NumberLaws
 pub mod SaysLaws
 pub mod EntryLaws
 pub mod SearchLaws

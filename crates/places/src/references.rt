@@ -10,15 +10,67 @@ ghost use Rattle.theory.specs.Store.{Asc};
 ghost use Rattle.theory.specs.Refs.{meets};
 ghost use Rattle.meaning.specs.Records.{keyed, refsOf};
 ghost use Rattle.laws.specs.Body.{fine};
-ghost use Rattle.keys.specs.Numbers.{keyList, referredAs, numbered};
+ghost use Rattle.form.specs.Meant.{meant};
+ghost use Rattle.layout.specs.Meant.{kindMeant};
+ghost use Rattle.keys.specs.Numbers.{keyList, referredAs, refAt, numbered};
 ghost use Rattle.places.specs.Places.{recOf, lineAt, entry, says, metBy};
+ghost use Rattle.places.specs.Fields.{firstField, byField};
 ghost use Rattle.places.specs.References.{RefersAs};
-use crate::entries::line_kind;
+use crate::entries::key_at;
+use crate::fields::first_field;
+use crate::fields::line_start;
+use crate::fields::past_fields;
+use crate::heads::content_at;
+use crate::heads::kind_at;
+use crate::numbers::number_here;
 use crate::search::place;
 use crate::search::stands;
+use form::Form;
 use keys::Key;
 use keys::Referred;
+use keys::places::form_at;
+use layout::kinds::Kind;
+use layout::rules::layout;
 use text::order::Order;
+
+// What the field at `at`, of that form, makes a record refer to of a kind's number.
+fn reference_by(form: Form, s: &[u8], at: usize, to: u64) -> Referred
+    requires { ⌜ at ≤ length (now s) ⌝ }
+    ensures { λ r. ⌜ referredAs r ≡ byField (meant form) (firstField (lineAt (now (s .entry)) at)) to ⌝ }
+{
+    if form::is_empty(form, first_field(s, at)) {
+        return Referred::Nothing;
+    }
+    Referred::To(Key {
+        kind: to,
+        first: number_here(form, s, at),
+        second: 0,
+        third: 0,
+    })
+}
+
+// What the table's row j makes a record refer to whose content stands in the line from `content` on.
+fn reference_at(kind: Kind, s: &[u8], content: usize, j: usize) -> Referred
+    requires { ⌜ content ≤ length (now s) ⌝ }
+    ensures { λ r. ⌜ referredAs r ≡ refAt (kindMeant kind) (lineAt (now (s .entry)) content) j ⌝ }
+{
+    if 1 < j {
+        return Referred::Nothing;
+    }
+    let l = layout(kind);
+    let places = l.by;
+    let place = places[j];
+    if place < 4 {
+        return Referred::Nothing;
+    }
+    let kinds = l.to;
+    reference_by(
+        form_at(kind, place - 1),
+        s,
+        past_fields(s, content, place - 4),
+        kinds[j],
+    )
+}
 
 // A record's own key, and what its two rows of the table make it refer to.
 pub struct Named {
@@ -27,29 +79,18 @@ pub struct Named {
     pub second: Referred,
 }
 
-// What the record that a line carries refers to.
-fn line_references(line: &[u8]) -> Named
-    ensures { λ r. ⌜ RefersAs (recOf (now (line .entry))) r ⌝ }
-{
-    let kind = line_kind(line);
-    let start = text::fields::content_start(line);
-    let content = &line[start..];
-    Named {
-        own: keys::key_of(kind, content),
-        first: keys::reference(kind, content, 0),
-        second: keys::reference(kind, content, 1),
-    }
-}
-
 // What the record whose line starts at `at` refers to.
 fn references_at(s: &[u8], at: usize) -> Named
     ensures { λ r. ⌜ RefersAs (recOf (lineAt (now (s .entry)) at)) r ⌝ }
 {
-    if s.len() < at {
-        return line_references(&s[0..0]);
+    let start = line_start(s, at);
+    let kind = kind_at(s, start);
+    let content = content_at(s, start);
+    Named {
+        own: key_at(kind, s, content),
+        first: reference_at(kind, s, content, 0),
+        second: reference_at(kind, s, content, 1),
     }
-    let end = text::lines::line_end(s, at);
-    line_references(&s[at..end])
 }
 
 // What an entry's record refers to.

@@ -11,9 +11,13 @@ reference-spec =
     (λ c κs. search referring)  -- layout-requires
     (λ c. search referring)  -- mul-place
     (λ c. search referring)  -- array-read-place
-    (λ c κs. search referring)  -- is-empty-at-requires
     (λ c. search referring)  -- returns-2
-    (λ c. search referring)  -- mul-t9
-    (λ c. search referring)  -- array-read-t16
-    (λ c κs. search referring)  -- number-at-requires
-    (λ c. search referring))  -- returns-3
+    (λ c. search referring)  -- sub-form-at
+    (λ c κs. search referring)  -- form-at-requires
+    (λ c κs. search referring)  -- field-requires
+    (λ c κs. search referring)  -- is-empty-requires
+    (λ c. search referring)  -- returns-3
+    (λ c. search referring)  -- mul-t14
+    (λ c. search referring)  -- array-read-t18
+    (λ c κs. search referring)  -- number-of-requires
+    (λ c. search referring))  -- returns-4

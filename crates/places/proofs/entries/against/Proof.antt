@@ -7,6 +7,7 @@ pub against-spec : {M : Type 1} → statement M
 against-spec =
     tie.close
     (tie.spec
-    (λ c κs. search keyagainst)  -- entry-key-requires
-    (λ c κs. search keyagainst)  -- order-requires
-    (λ c. search keyagainst))  -- returns
+    (λ c κs. search keyagainst)  -- against-line-requires
+    (λ c. search keyagainst)  -- returns
+    (λ c κs. search keyagainst)  -- against-line-requires-2
+    (λ c. search keyagainst))  -- returns-2

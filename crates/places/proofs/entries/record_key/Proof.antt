@@ -7,14 +7,8 @@ pub record-key-spec : {M : Type 1} → statement M
 record-key-spec =
     tie.close
     (tie.spec
-    (λ c. search recordkey)  -- sub-line-key
-    (λ c. search recordkey)  -- part-line-key-start
-    (λ c. search recordkey)  -- part-line-key-end
-    (λ c κs. search recordkey)  -- line-key-requires
-    (λ c. search recordkey)  -- returns
-    (λ c κs. search recordkey)  -- line-end-requires
-    (λ c. search recordkey)  -- sub-line-key-2
-    (λ c. search recordkey)  -- part-line-key-start-2
-    (λ c. search recordkey)  -- part-line-key-end-2
-    (λ c κs. search recordkey)  -- line-key-requires-2
-    (λ c. search recordkey))  -- returns-2
+    (λ c κs. search recordkey)  -- line-start-requires
+    (λ c κs. search recordkey)  -- kind-at-requires
+    (λ c κs. search recordkey)  -- content-at-requires
+    (λ c κs. search recordkey)  -- key-at-requires
+    (λ c. search recordkey))  -- returns

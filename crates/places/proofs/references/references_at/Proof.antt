@@ -7,14 +7,10 @@ pub references-at-spec : {M : Type 1} → statement M
 references-at-spec =
     tie.close
     (tie.spec
-    (λ c. search atrefers)  -- sub-line-references
-    (λ c. search atrefers)  -- part-line-references-start
-    (λ c. search atrefers)  -- part-line-references-end
-    (λ c κs. search atrefers)  -- line-references-requires
-    (λ c. search atrefers)  -- returns
-    (λ c κs. search atrefers)  -- line-end-requires
-    (λ c. search atrefers)  -- sub-line-references-2
-    (λ c. search atrefers)  -- part-line-references-start-2
-    (λ c. search atrefers)  -- part-line-references-end-2
-    (λ c κs. search atrefers)  -- line-references-requires-2
-    (λ c. search atrefers))  -- returns-2
+    (λ c κs. search atrefers)  -- line-start-requires
+    (λ c κs. search atrefers)  -- kind-at-requires
+    (λ c κs. search atrefers)  -- content-at-requires
+    (λ c κs. search atrefers)  -- key-at-requires
+    (λ c κs. search atrefers)  -- reference-at-requires
+    (λ c κs. search atrefers)  -- reference-at-requires-2
+    (λ c. search atrefers))  -- returns
