@@ -39,8 +39,17 @@ unfolding checkFile checked
 checked-file b e = go (readFile b) refl (file-codes b) e
   where
     go : (r : Read Sheet) → readFile b ≡ r → ReadIn r → checked r .code ≡ 0 → SomeFile b
-    go (fault c l f) q i z = absurd (unfold among fileCodes in (rw z at i))
+    go (fault c l f) q i z = absurd (unfold among in (rw z at i))
     go (file s) q i z = record { frame = s .0; changes = s .1; sounds = read-sound b (s .0) (s .1) q }
+
+-- a refusal counts nothing
+pub refused-counts : (b : List ℕ) → (checkFile b .code ≡ 0 → ⊥) → (checkFile b .inserts ≡ 0) × (checkFile b .updates ≡ 0) × (checkFile b .deletes ≡ 0)
+unfolding checkFile checked
+refused-counts b n = go (readFile b) n
+  where
+    go : (r : Read Sheet) → (checked r .code ≡ 0 → ⊥) → (checked r .inserts ≡ 0) × (checked r .updates ≡ 0) × (checked r .deletes ≡ 0)
+    go (fault c l f) n = (refl, refl, refl)
+    go (file s) n = absurd (n refl)
 
 -- files that agree in their first lines get the same answer, where the first fault is at one of those
 pub same-answer : (b c : List ℕ) (ls ms ns : List Line) → linesOf b ≡ ls ++ ms → linesOf c ≡ ls ++ ns → (checkFile b .code ≡ 0 → ⊥) → checkFile b .line ≤ length ls → checkFile c ≡ checkFile b

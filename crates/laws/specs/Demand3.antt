@@ -1,7 +1,8 @@
 -- Demand 3: the undo of a taken file is a sound file, is itself taken and gives the old holding back; and so for any run of files, last first.
 use mathlib.Core.Path.{_≡_, refl, sym, ap, _∙_, subst}
+use mathlib.Core.Bool.{Bool, true, false}
 use mathlib.Core.List.{List, [], _∷_, _++_, reverse}
-use Prim.Native.Nat.{ℕ, _+_}
+use Prim.Native.Nat.{ℕ, _+_, _≤_}
 use native.Mathlib.Omega.{arith}
 use lib.Dec.{T, leb}
 use lib.ListN.{length}
@@ -15,14 +16,14 @@ use Rattle.theory.specs.RunLaws.{fine-undo}
 use Rattle.meaning.specs.Records.{Rec, keyed, changeTexts}
 use Rattle.meaning.specs.File.{Frame, readFile, writeFile}
 use Rattle.meaning.specs.Holding.{readHolding, written}
-use Rattle.meaning.specs.Load.{load, undoBytes, six, filled, checked, checkFile, apply, undone, undoFile, undoSheet, undoHeld}
+use Rattle.meaning.specs.Load.{load, undoBytes, six, filled, checked, checkFile, apply, Undone, undone, undoFile, undoSheet, undoHeld}
 use Rattle.laws.specs.LinesAndFields.{endsAll, unlines, lines-join, unlines-ends}
 use Rattle.laws.specs.Body.{fine}
 use Rattle.laws.specs.SoundHolding.{held-sound}
 use Rattle.laws.specs.SoundFile.{SaysChanges, SoundFile, read-sound}
 use Rattle.laws.specs.FileReadBack.{suits, file-reads, file-says}
 use Rattle.laws.specs.Takes.{Takes, load-took, taken, undo-takes, met-old}
-use Rattle.laws.specs.Demand2.{allowed-takes, done-allowed}
+use Rattle.laws.specs.Demand2.{allowed-takes, done-allowed, takes-more}
 
 -- ---- the undo's bytes
 
@@ -107,6 +108,16 @@ pub undo-answers : (room space : ℕ) (old b new : List ℕ) (a : Takes space ol
     (record { answer = six 17 0 0 0 0 0; output = zeros room; work = zeros space })
 unfolding undoFile undone
 undo-answers room space old b new a = rw (load-took space old b new a)
+
+-- with a work buffer as long as the output of apply or longer: 17 exactly if the undo is longer than its output
+pub undo-only-17 : (room out space : ℕ) (old b new : List ℕ) → Takes room old b new → room ≤ space
+    → undoFile old b out space .answer .code ≡ pick (leb (length (undoBytes old b)) out) 0 17
+undo-only-17 room out space old b new a h =
+    ap (λ x. x .answer .code) (undo-answers out space old b new (takes-more old b new room space h a)) ∙ go (leb (length (undoBytes old b)) out) _ _
+  where
+    go : (c : Bool) (x y : Undone) → pick c x y .answer .code ≡ pick c (x .answer .code) (y .answer .code)
+    go true x y = refl
+    go false x y = refl
 
 -- ---- a run of files
 
