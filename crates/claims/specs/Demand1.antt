@@ -1,19 +1,19 @@
 -- Demand 1: each refusal has a number, a line and a field, and the output then holds nothing but zeros.
 -- That every input is met without a fault, and that each operation finishes, is no theorem: it is what a proved function without `requires` is.
-use mathlib.Core.Path.{_≡_, ap, _∙_}
+use mathlib.Core.Path.{_≡_, sym, ap, _∙_}
 use mathlib.Core.List.{List, []}
 use Prim.Native.Nat.{ℕ, _≤_}
 use denote.Ref.{RefT}
 use lib.Dec.{T}
 use lib.ListN.{length, take, drop}
 use Rattle.base.specs.Lists.{zeros}
-use Rattle.meaning.specs.Holding.{written}
 use Rattle.meaning.specs.Load.{Three, filled, checkFile, checkHolding, undoBytes}
 use Rattle.meaning.specs.Enquiries.{Found, find, inForce, fieldOf}
 use Rattle.laws.specs.Rows.{Row, given, checkRows, holdingRows, applyRows, undoRows, findRows, forceRows, fieldRows, FoundIn, check-given, holding-given, apply-given, undo-given, find-given, force-given, field-given}
 use Rattle.laws.specs.Checks.{refused-counts}
 use Rattle.laws.specs.Demand2.{refused-zeros}
-use Rattle.laws.specs.Buffers.{work-zeros, undo-output, undo-refused-zeros, filled-length}
+use Rattle.laws.specs.Demand3.{undo-done}
+use Rattle.laws.specs.Buffers.{work-zeros, undo-output, undo-refused-zeros}
 use Rattle.volume.specs.Answer.{answerOf}
 use Rattle.volume.specs.declared.check.Answer.{Answer}
 use Rattle.holding.specs.Verdict.{verdictOf}
@@ -38,6 +38,13 @@ pub undo-refused : (old file : List ℕ) (room space : ℕ) (r : Answer) (out wo
 undo-refused old file room space r out work o n =
     let z = undo-refused-zeros old file room space (λ e. n (ap (λ x. x .code) (o .0) ∙ e)) in
     (o .1 ∙ z .0, ap (λ x. x .inserts) (o .0) ∙ z .1, ap (λ x. x .updates) (o .0) ∙ z .2, ap (λ x. x .deletes) (o .0) ∙ z .3)
+
+-- on success the output holds the undo, then zeros to its end; apply's is demand 2's `new-holding`
+pub undo-filled : (old file : List ℕ) (room space : ℕ) (r : Answer) (out work : List ℕ) → UndoOutcome old file room space r out work → r .code ≡ 0
+    → (out ≡ filled room (undoBytes old file)) × (length (undoBytes old file) ≤ room)
+undo-filled old file room space r out work o e =
+    let z = sym (ap (λ x. x .code) (o .0)) ∙ e in
+    (o .1 ∙ undo-output old file room space z, undo-done old file room space z .3)
 
 -- the work buffer is all zeros afterwards, on success as on refusal
 pub work-is-zeros : (old file : List ℕ) (room space : ℕ) (r : Answer) (out work : List ℕ) → UndoOutcome old file room space r out work → work ≡ zeros space

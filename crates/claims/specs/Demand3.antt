@@ -1,23 +1,23 @@
 -- Demand 3, of what apply and undo answer and leave: any run of files that are taken can be handed back, last first, to the holding that it began with.
 -- The holdings are demand 2's: what stands before the zeros of an output is what demand 2 says (`left-is`).
-use mathlib.Core.Path.{_≡_, refl, sym, ap, _∙_, subst}
+use mathlib.Core.Path.{_≡_, sym, ap, _∙_, subst}
 use mathlib.Core.Bool.{Bool, true, false, _||_}
 use mathlib.Core.List.{List, [], _∷_}
 use Prim.Native.Nat.{ℕ, zero, suc, _≤_, _-_}
 use lib.Dec.{T, leb, eqb}
 use lib.ListN.{length}
 use Rattle.base.specs.Lists.{pick}
-use Rattle.theory.specs.Step.{Change}
-use Rattle.theory.specs.Answer.{Read, fault, file}
-use Rattle.meaning.specs.Records.{Rec, joined, changeTexts}
+use Rattle.theory.specs.Step.{ins, upd, del, Change}
+use Rattle.theory.specs.Answer.{Read, fault, file, count}
+use Rattle.meaning.specs.Records.{Rec, joined}
 use Rattle.meaning.specs.File.{Frame, Sheet, writeFile}
 use Rattle.meaning.specs.Holding.{written}
 use Rattle.meaning.specs.Load.{six, filled, checkFile, apply, undoBytes, undoFile}
 use Rattle.laws.specs.SoundFile.{SoundFile, sound-read, read-sound}
 use Rattle.laws.specs.FileRefusals.{among}
 use Rattle.laws.specs.Takes.{Takes, taken, undo-takes, met-old}
-use Rattle.laws.specs.Demand2.{Allowed, afterAll, allowed-takes, allowed-done, takes-more}
-use Rattle.laws.specs.Demand3.{stepsBack, undo-is, undo-sound, undo-checks, undo-only-17, empty-body}
+use Rattle.laws.specs.Demand2.{Allowed, afterAll, allowed-takes, takes-more}
+use Rattle.laws.specs.Demand3.{stepsBack, undo-is, undo-sound, undo-checks, undo-done, undo-only-17, empty-body}
 use Rattle.laws.specs.UndoRefusals.{undo-refusals}
 use Rattle.laws.specs.Buffers.{undo-output}
 use Rattle.volume.specs.Answer.{answerOf}
@@ -98,6 +98,15 @@ module _ (old : List ℕ) (n : Night old) where
   refused-with-17 room space r out work h o = ap (λ x. x .code) (o .0) ∙ undo-only-17 (n .room) room space old (n .file) (left n) takes h
 
   module _ (u : Undo old n) where
+    -- undo counts the file's body lines, as apply did
+    pub undo-counted : u .answer ≡ n .answer
+    undo-counted =
+        let t = takes in
+        let w = undo-done old (n .file) (u .room) (u .space) (sym (ap (λ x. x .code) (u .outcome .0)) ∙ u .made) in
+        let e : w .1 .cs ≡ t .cs = ap changes (sym (w .1 .read) ∙ t .read) in
+        let a = n .outcome .0 ∙ ap (λ x. answerOf (x .answer)) (taken (n .room) old (n .file) (left n) t) in
+        u .outcome .0 ∙ ap answerOf (w .2) ∙ ap (λ cs. answerOf (six 0 0 0 (count ins cs) (count upd cs) (count del cs))) e ∙ sym a
+
     undo-bytes : undoOf u ≡ undoBytes old (n .file)
     unfolding writeFile
     undo-bytes =

@@ -1,23 +1,20 @@
 -- The two checks by their answers: 0 just where every line is allowed in its place, and a fault that nothing after it can change.
-use mathlib.Core.Path.{_≡_, refl, sym, ap, _∙_, subst}
-use mathlib.Core.Bool.{Bool, true, false}
-use mathlib.Core.List.{List, [], _∷_, _++_}
-use Prim.Native.Nat.{ℕ, suc, _+_, _≤_, _<_}
+use mathlib.Core.Path.{_≡_, refl, sym, ap, _∙_}
+use mathlib.Core.List.{List, _++_}
+use Prim.Native.Nat.{ℕ, _+_, _≤_}
 use native.Mathlib.Omega.{arith}
-use native.Mathlib.Numerals.{one-add}
-use lib.Dec.{T, eqb}
 use lib.ListN.{length}
-use Rattle.theory.specs.Step.{Op, ins, upd, del, Change}
+use Rattle.theory.specs.Step.{ins, upd, del, Change}
 use Rattle.theory.specs.Answer.{Read, fault, file, count}
 use Rattle.meaning.specs.Lines.{Line, linesOf}
 use Rattle.meaning.specs.Records.{Rec}
-use Rattle.meaning.specs.File.{Frame, Sheet, Place, atStart, readFrom, readFile}
+use Rattle.meaning.specs.File.{Frame, Sheet, atStart, readFrom, readFile}
 use Rattle.meaning.specs.Holding.{Held, sound, unsound, readHolding, written}
-use Rattle.meaning.specs.Load.{Six, six, three, checked, checkFile, heldNumbers, checkHolding}
-use Rattle.laws.specs.LinesAndFields.{endsAll, unlines, lines-join, unlines-ends}
+use Rattle.meaning.specs.Load.{six, three, checked, checkFile, heldNumbers, checkHolding}
+use Rattle.laws.specs.LinesAndFields.{unlines, lines-join, unlines-ends}
 use Rattle.laws.specs.SoundHolding.{SoundHolding, sound-held, held-is-sound}
 use Rattle.laws.specs.SoundFile.{SoundFile, sound-read, read-sound}
-use Rattle.laws.specs.FileRefusals.{ReadIn, among, fileCodes, file-codes}
+use Rattle.laws.specs.FileRefusals.{ReadIn, among, file-codes}
 use Rattle.laws.specs.FirstFault.{SameFault, nothing-after}
 
 -- ---- a file

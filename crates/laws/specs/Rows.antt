@@ -1,5 +1,5 @@
 -- Paper 01, 'Numbers given back': the codes that each operation can give, with the line and the field that go with each; and that it gives no others.
-use mathlib.Core.Path.{_≡_, refl, sym, ap, _∙_}
+use mathlib.Core.Path.{_≡_, refl, ap, _∙_}
 use mathlib.Core.Bool.{Bool, true, false, _&&_, _||_}
 use mathlib.Core.Option.{Option, none, some}
 use mathlib.Core.List.{List, [], _∷_, _++_}
@@ -23,7 +23,7 @@ use Rattle.meaning.specs.Load.{Six, three, fits, stepTests, outcome, fromStart,
 use Rattle.meaning.specs.Enquiries.{Found, refusal, spanned, partOf, heldAt, heldPart, findIn, findKind, find, lastNaming, named, inForcePart, inForceFile, inForceHeld, inForceKind, inForce, fieldPart, fieldIn, fieldOf, first, second}
 use Rattle.laws.specs.LinesAndFields.{endsAll}
 use Rattle.laws.specs.LinePart.{noLine}
-use Rattle.laws.specs.SoundFile.{SaysChanges, SoundFile, read-sound}
+use Rattle.laws.specs.SoundFile.{SaysChanges, read-sound}
 use Rattle.laws.specs.FileRefusals.{endNumber, shaped, ReadShaped, file-shape, among}
 use Rattle.laws.specs.FirstFault.{FaultAt, file-fault-at}
 use Rattle.laws.specs.HoldingRefusals.{HeldAt, holding-fault-at}
