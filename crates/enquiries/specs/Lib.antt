@@ -1,4 +1,3 @@
 pub mod Handed
 pub mod Found
 pub mod Naming
-pub mod Outcome

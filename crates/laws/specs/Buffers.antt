@@ -39,6 +39,24 @@ undo-output old b out space e = go (load space old b) (load-in space old b) e
     go (took new i u d) n e = fit (leb (length (undoBytes old b)) out) _ _ _ refl refl e
     go (refused c l f) n e = absurd (unfold among in subst (λ z. T (among z loadCodes)) e n)
 
+-- a refusal of undo leaves zeros, and the three counts are 0
+pub undo-refused-zeros : (old b : List ℕ) (out space : ℕ) → (undoFile old b out space .answer .code ≡ 0 → ⊥)
+    → (undoFile old b out space .output ≡ zeros out) × (undoFile old b out space .answer .inserts ≡ 0) × (undoFile old b out space .answer .updates ≡ 0)
+    × (undoFile old b out space .answer .deletes ≡ 0)
+unfolding undoFile undone
+undo-refused-zeros old b out space n = go (load space old b) n
+  where
+    Left : Undone → Type 0
+    Left x = (x .answer .code ≡ 0 → ⊥) → (x .output ≡ zeros out) × (x .answer .inserts ≡ 0) × (x .answer .updates ≡ 0) × (x .answer .deletes ≡ 0)
+
+    either : (c : Bool) (x y : Undone) → Left x → Left y → Left (pick c x y)
+    either true x y p q = p
+    either false x y p q = q
+
+    go : (x : Answer) → Left (undone out space (undoBytes old b) x)
+    go (took new i u d) = either (leb (length (undoBytes old b)) out) _ _ (λ n. absurd (n refl)) (λ n. (refl, refl, refl, refl))
+    go (refused c l f) = λ n. (refl, refl, refl, refl)
+
 length-zeros : (n : ℕ) → length (zeros n) ≡ n
 unfolding zeros
 length-zeros zero = refl

@@ -1,23 +1,20 @@
 -- The two checks by their answers: 0 just where every line is allowed in its place, and a fault that nothing after it can change.
-use mathlib.Core.Path.{_≡_, refl, sym, ap, _∙_, subst}
-use mathlib.Core.Bool.{Bool, true, false}
-use mathlib.Core.List.{List, [], _∷_, _++_}
-use Prim.Native.Nat.{ℕ, suc, _+_, _≤_, _<_}
+use mathlib.Core.Path.{_≡_, refl, sym, ap, _∙_}
+use mathlib.Core.List.{List, _++_}
+use Prim.Native.Nat.{ℕ, _+_, _≤_}
 use native.Mathlib.Omega.{arith}
-use native.Mathlib.Numerals.{one-add}
-use lib.Dec.{T, eqb}
 use lib.ListN.{length}
-use Rattle.theory.specs.Step.{Op, ins, upd, del, Change}
+use Rattle.theory.specs.Step.{ins, upd, del, Change}
 use Rattle.theory.specs.Answer.{Read, fault, file, count}
 use Rattle.meaning.specs.Lines.{Line, linesOf}
 use Rattle.meaning.specs.Records.{Rec}
-use Rattle.meaning.specs.File.{Frame, Sheet, Place, atStart, readFrom, readFile}
+use Rattle.meaning.specs.File.{Frame, Sheet, atStart, readFrom, readFile}
 use Rattle.meaning.specs.Holding.{Held, sound, unsound, readHolding, written}
-use Rattle.meaning.specs.Load.{Six, six, three, checked, checkFile, heldNumbers, checkHolding}
-use Rattle.laws.specs.LinesAndFields.{endsAll, unlines, lines-join, unlines-ends}
+use Rattle.meaning.specs.Load.{six, three, checked, checkFile, heldNumbers, checkHolding}
+use Rattle.laws.specs.LinesAndFields.{unlines, lines-join, unlines-ends}
 use Rattle.laws.specs.SoundHolding.{SoundHolding, sound-held, held-is-sound}
 use Rattle.laws.specs.SoundFile.{SoundFile, sound-read, read-sound}
-use Rattle.laws.specs.FileRefusals.{ReadIn, among, fileCodes, file-codes}
+use Rattle.laws.specs.FileRefusals.{ReadIn, among, file-codes}
 use Rattle.laws.specs.FirstFault.{SameFault, nothing-after}
 
 -- ---- a file
@@ -39,8 +36,17 @@ unfolding checkFile checked
 checked-file b e = go (readFile b) refl (file-codes b) e
   where
     go : (r : Read Sheet) → readFile b ≡ r → ReadIn r → checked r .code ≡ 0 → SomeFile b
-    go (fault c l f) q i z = absurd (unfold among fileCodes in (rw z at i))
+    go (fault c l f) q i z = absurd (unfold among in (rw z at i))
     go (file s) q i z = record { frame = s .0; changes = s .1; sounds = read-sound b (s .0) (s .1) q }
+
+-- a refusal counts nothing
+pub refused-counts : (b : List ℕ) → (checkFile b .code ≡ 0 → ⊥) → (checkFile b .inserts ≡ 0) × (checkFile b .updates ≡ 0) × (checkFile b .deletes ≡ 0)
+unfolding checkFile checked
+refused-counts b n = go (readFile b) n
+  where
+    go : (r : Read Sheet) → (checked r .code ≡ 0 → ⊥) → (checked r .inserts ≡ 0) × (checked r .updates ≡ 0) × (checked r .deletes ≡ 0)
+    go (fault c l f) n = (refl, refl, refl)
+    go (file s) n = absurd (n refl)
 
 -- files that agree in their first lines get the same answer, where the first fault is at one of those
 pub same-answer : (b c : List ℕ) (ls ms ns : List Line) → linesOf b ≡ ls ++ ms → linesOf c ≡ ls ++ ns → (checkFile b .code ≡ 0 → ⊥) → checkFile b .line ≤ length ls → checkFile c ≡ checkFile b

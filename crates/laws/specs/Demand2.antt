@@ -1,14 +1,16 @@
 -- Demand 2: a file is taken exactly if the holding is sound and every line and step is allowed; what apply leaves then, and when it refuses.
-use mathlib.Core.Path.{_≡_, refl, ap, subst}
+use mathlib.Core.Path.{_≡_, refl, sym, ap, subst}
+use mathlib.Core.Logic.{_↔_}
 use mathlib.Core.Bool.{true}
 use mathlib.Core.Option.{none}
 use mathlib.Core.List.{List, [], _∷_, _++_}
-use Prim.Native.Nat.{ℕ}
-use lib.Dec.{T, leb}
+use Prim.Native.Nat.{ℕ, _≤_}
+use native.Mathlib.Omega.{arith}
+use lib.Dec.{T, leb, leb→le, le→leb}
 use lib.ListN.{length}
 use Rattle.base.specs.Lists.{zeros}
 use Rattle.base.specs.Tests.{and-in, and-l, and-r}
-use Rattle.theory.specs.Store.{get}
+use Rattle.theory.specs.Store.{get, Asc}
 use Rattle.theory.specs.Refs.{met}
 use Rattle.theory.specs.Step.{ins, upd, del, Change, allowed, at, after, judge}
 use Rattle.theory.specs.Trail.{final, Each, Through}
@@ -25,17 +27,21 @@ use Rattle.laws.specs.HoldingReadBack.{always, heldRecords}
 use Rattle.laws.specs.SoundHolding.{SoundHolding, held-sound, sound-held, held-is-sound}
 use Rattle.laws.specs.SoundFile.{SoundFile, sound-read, read-sound}
 use Rattle.laws.specs.FileRefusals.{among}
+use Rattle.laws.specs.Checks.{held-only}
 use Rattle.laws.specs.LoadRefusals.{loadCodes, AnswerIn, load-in}
 use Rattle.laws.specs.Takes.{late, Takes, taken, TookSays, took-takes, good-old, new-held}
 
 -- ---- steps, without running them
 
--- a step is allowed: insert needs its key absent, update and delete need it present; and afterwards there are at most 8,192 records, every reference is met,
--- and the holding is not longer than its buffer
-pub record StepAllowed (room : ℕ) (st : List Rec) (c : Change Rec) : Type 0 where
+-- a step is lawful: insert needs its key absent, update and delete need it present; and afterwards there are at most 8,192 records and every reference is met
+pub record StepLawful (st : List Rec) (c : Change Rec) : Type 0 where
   pub keyed? : T (allowed (c .op) (get keyed (at keyed c) st))
   pub fewRecords : T (few (after keyed st c))
   pub references : T (met keyed refsOf (after keyed st c))
+
+-- a step is allowed: it is lawful, and afterwards the holding is not longer than its buffer
+pub record StepAllowed (room : ℕ) (st : List Rec) (c : Change Rec) : Type 0 where
+  pub lawful : StepLawful st c
   pub roomy : T (fits room (after keyed st c))
 
 -- each step is allowed where the steps before it lead
@@ -47,7 +53,8 @@ unfolding fits
 allowed-ok room st c s =
     let st2 = after keyed st c in
     let r = and-in (leb (length (written st2)) room) true (s .roomy) tt in
-    judge-ok keyed (always ++ late room) st c (s .keyed?) (and-in (few st2) _ (s .fewRecords) (and-in (met keyed refsOf st2) _ (s .references) r))
+    let l = s .lawful in
+    judge-ok keyed (always ++ late room) st c (l .keyed?) (and-in (few st2) _ (l .fewRecords) (and-in (met keyed refsOf st2) _ (l .references) r))
 
 ok-allowed : (room : ℕ) (st : List Rec) (c : Change Rec) → judge keyed (always ++ late room) st c ≡ none → StepAllowed room st c
 unfolding fits
@@ -57,9 +64,7 @@ ok-allowed room st c e =
     let q = and-r (few st2) _ (a .1) in
     let r = and-r (met keyed refsOf st2) _ q in
     record {
-      keyed? = a .0;
-      fewRecords = and-l (few st2) _ (a .1);
-      references = and-l (met keyed refsOf st2) _ q;
+      lawful = record { keyed? = a .0; fewRecords = and-l (few st2) _ (a .1); references = and-l (met keyed refsOf st2) _ q };
       roomy = and-l (leb (length (written st2)) room) true r;
     }
 
@@ -133,6 +138,87 @@ done-allowed old b room e = go (load room old b) (took-takes room old b) (load-i
 pub taken-exactly : (old b : List ℕ) (room : ℕ) → (apply old b room .answer .code ≡ 0 → Allowed old b room) × (Allowed old b room → apply old b room .answer .code ≡ 0)
 taken-exactly old b room = (done-allowed old b room, λ a. ap (λ x. x .answer .code) (allowed-done old b room a))
 
+-- ---- a sound holding and buffers with room at every step are given
+
+-- every line of the file is allowed at its place, and every step is lawful over the records st
+pub record Lawful (st : List Rec) (b : List ℕ) : Type 0 where
+  pub fr : Frame
+  pub cs : List (Change Rec)
+  pub lines : SoundFile b fr cs
+  pub steps : Each (after keyed) StepLawful st cs
+
+-- there is room before the first step and after each
+abbrev pub Roomy : ℕ → List Rec → List ℕ → Type 0
+Roomy room st b = (fr : Frame) (cs : List (Change Rec)) → SoundFile b fr cs → Through (after keyed) (λ s. T (fits room s)) st cs
+
+steps-lawful : (room : ℕ) (st : List Rec) (cs : List (Change Rec)) → StepsAllowed room st cs → Each (after keyed) StepLawful st cs
+steps-lawful room st [] s = tt
+steps-lawful room st (c ∷ cs) s = (s .0 .lawful, steps-lawful room (after keyed st c) cs (s .1))
+
+through-first : (room : ℕ) (st : List Rec) (cs : List (Change Rec)) → Through (after keyed) (λ s. T (fits room s)) st cs → T (fits room st)
+through-first room st [] r = r
+through-first room st (c ∷ cs) r = r .0
+
+lawful-steps : (room : ℕ) (st : List Rec) (cs : List (Change Rec)) → Each (after keyed) StepLawful st cs → Through (after keyed) (λ s. T (fits room s)) st cs
+    → StepsAllowed room st cs
+lawful-steps room st [] s r = tt
+lawful-steps room st (c ∷ cs) s r =
+    let st2 = after keyed st c in
+    (record { lawful = s .0; roomy = through-first room st2 cs (r .1) }, lawful-steps room st2 cs (s .1) (r .1))
+
+-- then a file is taken exactly if every line and every step is lawful
+pub lawful-exactly : (old b : List ℕ) (room : ℕ) (st : List Rec) → SoundHolding old st → Roomy room st b → (apply old b room .answer .code ≡ 0) ↔ Lawful st b
+lawful-exactly old b room st h r = (
+  λ e.
+      let a = done-allowed old b room e in
+      let q = subst (λ s. StepsAllowed room s (a .cs)) (held-only old (a .st) st (a .held) h) (a .steps) in
+      record { fr = a .fr; cs = a .cs; lines = a .lines; steps = steps-lawful room st (a .cs) q },
+  λ l.
+      let t = r (l .fr) (l .cs) (l .lines) in
+      taken-exactly old b room .1
+      (record {
+        st = st;
+        fr = l .fr;
+        cs = l .cs;
+        held = h;
+        lines = l .lines;
+        starts = through-first room st (l .cs) t;
+        steps = lawful-steps room st (l .cs) (l .steps) t;
+      }),
+)
+
+-- ---- a longer buffer
+
+fits-more : (room space : ℕ) (st : List Rec) → room ≤ space → T (fits room st) → T (fits space st)
+unfolding fits
+fits-more room space st h t = le→leb (length (written st)) space (omega (arith, h, leb→le (length (written st)) room t))
+
+steps-more : (room space : ℕ) (st : List Rec) (cs : List (Change Rec)) → room ≤ space → StepsAllowed room st cs → StepsAllowed space st cs
+steps-more room space st [] h s = tt
+steps-more room space st (c ∷ cs) h s =
+    let st2 = after keyed st c in
+    (record { lawful = s .0 .lawful; roomy = fits-more room space st2 h (s .0 .roomy) }, steps-more room space st2 cs h (s .1))
+
+-- what is allowed is allowed with a longer buffer, and comes to the same records
+pub allowed-more : (old b : List ℕ) (room space : ℕ) → room ≤ space → Allowed old b room → Allowed old b space
+allowed-more old b room space h a = record {
+  st = a .st;
+  fr = a .fr;
+  cs = a .cs;
+  held = a .held;
+  lines = a .lines;
+  starts = fits-more room space (a .st) h (a .starts);
+  steps = steps-more room space (a .st) (a .cs) h (a .steps);
+}
+
+-- a file that is taken is taken with a longer buffer, and gives the same holding
+pub takes-more : (old b new : List ℕ) (room space : ℕ) → room ≤ space → Takes room old b new → Takes space old b new
+unfolding takes-allowed allowed-more
+takes-more old b new room space h a =
+    subst (Takes space old b) (sym (a .made)) (allowed-takes old b space (allowed-more old b room space h (takes-allowed old b new room a)))
+
+-- ---- a refusal
+
 -- a refusal leaves zeros, and the three counts are 0
 pub refused-zeros : (old b : List ℕ) (room : ℕ) → (apply old b room .answer .code ≡ 0 → ⊥)
     → (apply old b room .output ≡ zeros room) × (apply old b room .answer .inserts ≡ 0) × (apply old b room .answer .updates ≡ 0) × (apply old b room .answer .deletes ≡ 0)
@@ -146,15 +232,39 @@ refused-zeros old b room n = go (load room old b) n
 
 -- ---- what follows for the new holding
 
+-- records that may stand at any time: each key once and in order, every reference met, at most 8,192, and not longer than the buffer
+pub record Whole (room : ℕ) (st : List Rec) : Type 0 where
+  pub ascending : Asc keyed st
+  pub references : T (met keyed refsOf st)
+  pub fewRecords : T (few st)
+  pub roomy : T (fits room st)
+
+good-whole : (room : ℕ) (st : List Rec) → Good keyed (always ++ late room) st → Whole room st
+unfolding fits
+good-whole room st g =
+    let q = and-r (few st) _ (g .pass) in
+    record {
+      ascending = g .asc;
+      references = and-l (met keyed refsOf st) _ q;
+      fewRecords = and-l (few st) _ (g .pass);
+      roomy = and-l (leb (length (written st)) room) true (and-r (met keyed refsOf st) _ q);
+    }
+
+through-map : (P Q : List Rec → Type 0) → ((s : List Rec) → P s → Q s) → (st : List Rec) (cs : List (Change Rec)) → Through (after keyed) P st cs → Through (after keyed) Q st cs
+through-map P Q f st [] t = f st t
+through-map P Q f st (c ∷ cs) t = (f st (t .0), through-map P Q f (after keyed st c) cs (t .1))
+
 module _ (old b : List ℕ) (room : ℕ) (a : Allowed old b room) where
   -- the file is taken
   abbrev pub takes : Takes room old b (written (afterAll a))
   takes = allowed-takes old b room a
 
   -- at every state of the run each key stands once and in order, every reference is met, and there is room
-  pub at-every-state : Through (after keyed) (Good keyed (always ++ late room)) (a .st) (a .cs)
+  pub at-every-state : Through (after keyed) (Whole room) (a .st) (a .cs)
   unfolding allowed-takes
-  at-every-state = good-through keyed (always ++ late room) (a .st) (a .cs) (good-old room old b (written (afterAll a)) takes) (takes .takes)
+  at-every-state =
+      through-map (Good keyed (always ++ late room)) (Whole room) (good-whole room) (a .st) (a .cs)
+      (good-through keyed (always ++ late room) (a .st) (a .cs) (good-old room old b (written (afterAll a)) takes) (takes .takes))
 
   -- at a key stands what the last line naming it says
   pub last-line : (k : List ℕ) → get keyed k (afterAll a) ≡ last keyed k (a .cs) (get keyed k (a .st))

@@ -1,9 +1,10 @@
 -- Demand 3: the undo of a taken file is a sound file, is itself taken and gives the old holding back; and so for any run of files, last first.
 use mathlib.Core.Path.{_≡_, refl, sym, ap, _∙_, subst}
+use mathlib.Core.Bool.{Bool, true, false}
 use mathlib.Core.List.{List, [], _∷_, _++_, reverse}
-use Prim.Native.Nat.{ℕ, _+_}
+use Prim.Native.Nat.{ℕ, _+_, _≤_}
 use native.Mathlib.Omega.{arith}
-use lib.Dec.{T, leb}
+use lib.Dec.{T, leb, leb→le}
 use lib.ListN.{length}
 use Rattle.base.specs.Lists.{pick, zeros}
 use Rattle.theory.specs.Fold.{sum}
@@ -15,14 +16,16 @@ use Rattle.theory.specs.RunLaws.{fine-undo}
 use Rattle.meaning.specs.Records.{Rec, keyed, changeTexts}
 use Rattle.meaning.specs.File.{Frame, readFile, writeFile}
 use Rattle.meaning.specs.Holding.{readHolding, written}
-use Rattle.meaning.specs.Load.{load, undoBytes, six, filled, checked, checkFile, apply, undone, undoFile, undoSheet, undoHeld}
+use Rattle.meaning.specs.Load.{load, undoBytes, six, filled, checked, checkFile, apply, Undone, undone, undoFile, undoSheet, undoHeld}
 use Rattle.laws.specs.LinesAndFields.{endsAll, unlines, lines-join, unlines-ends}
 use Rattle.laws.specs.Body.{fine}
 use Rattle.laws.specs.SoundHolding.{held-sound}
 use Rattle.laws.specs.SoundFile.{SaysChanges, SoundFile, read-sound}
+use Rattle.laws.specs.FileRefusals.{among}
+use Rattle.laws.specs.LoadRefusals.{loadCodes, AnswerIn, load-in}
 use Rattle.laws.specs.FileReadBack.{suits, file-reads, file-says}
-use Rattle.laws.specs.Takes.{Takes, load-took, taken, undo-takes, met-old}
-use Rattle.laws.specs.Demand2.{allowed-takes, done-allowed}
+use Rattle.laws.specs.Takes.{Takes, load-took, taken, TookSays, took-takes, undo-takes, met-old}
+use Rattle.laws.specs.Demand2.{allowed-takes, done-allowed, takes-more}
 
 -- ---- the undo's bytes
 
@@ -107,6 +110,41 @@ pub undo-answers : (room space : ℕ) (old b new : List ℕ) (a : Takes space ol
     (record { answer = six 17 0 0 0 0 0; output = zeros room; work = zeros space })
 unfolding undoFile undone
 undo-answers room space old b new a = rw (load-took space old b new a)
+
+-- undo answers 0 only where the file would be taken with a buffer as long as the work buffer
+undo-taken : (old b : List ℕ) (out space : ℕ) → undoFile old b out space .answer .code ≡ 0 → (new : List ℕ) × Takes space old b new
+unfolding undoFile undone
+undo-taken old b out space e = go (load space old b) (took-takes space old b) (load-in space old b) e
+  where
+    go : (x : Answer) → TookSays space old b x → AnswerIn x → undone out space (undoBytes old b) x .answer .code ≡ 0 → (new : List ℕ) × Takes space old b new
+    go (took new i u d) t n e = (new, t)
+    go (refused c l f) t n e = absurd (unfold among in subst (λ z. T (among z loadCodes)) e n)
+
+-- then it counts the file's body lines, and the undo fits its output
+pub undo-done : (old b : List ℕ) (out space : ℕ) → undoFile old b out space .answer .code ≡ 0
+    → (new : List ℕ)
+    × (a : Takes space old b new)
+    × (undoFile old b out space .answer ≡ six 0 0 0 (count ins (a .cs)) (count upd (a .cs)) (count del (a .cs)))
+    × (length (undoBytes old b) ≤ out)
+undo-done old b out space e =
+    let w = undo-taken old b out space e in
+    let q = go (leb (length (undoBytes old b)) out) refl _ _ (undo-answers out space old b (w .0) (w .1)) refl in
+    (w .0, w .1, q .0, q .1)
+  where
+    go : (c : Bool) → leb (length (undoBytes old b)) out ≡ c → (x y : Undone) → undoFile old b out space ≡ pick c x y → y .answer .code ≡ 17
+        → (undoFile old b out space .answer ≡ x .answer) × (length (undoBytes old b) ≤ out)
+    go true l x y q z = (ap (λ u. u .answer) q, leb→le (length (undoBytes old b)) out (rw l tt))
+    go false l x y q z = absurd (omega (arith, e, ap (λ u. u .answer .code) q, z))
+
+-- with a work buffer as long as the output of apply or longer: 17 exactly if the undo is longer than its output
+pub undo-only-17 : (room out space : ℕ) (old b new : List ℕ) → Takes room old b new → room ≤ space
+    → undoFile old b out space .answer .code ≡ pick (leb (length (undoBytes old b)) out) 0 17
+undo-only-17 room out space old b new a h =
+    ap (λ x. x .answer .code) (undo-answers out space old b new (takes-more old b new room space h a)) ∙ go (leb (length (undoBytes old b)) out) _ _
+  where
+    go : (c : Bool) (x y : Undone) → pick c x y .answer .code ≡ pick c (x .answer .code) (y .answer .code)
+    go true x y = refl
+    go false x y = refl
 
 -- ---- a run of files
 

@@ -1,24 +1,26 @@
 -- What each refusal of the file check looks like, as paper 01's table has it: its code is 1 to 9, and its field is the code's.
 use mathlib.Core.Path.{_≡_, refl}
-use mathlib.Core.Bool.{Bool, true, false, not, _&&_, _||_}
+use mathlib.Core.Bool.{Bool, true, false, false≢true, not, _&&_, _||_}
 use mathlib.Core.Option.{Option, none, some}
 use mathlib.Core.List.{List, [], _∷_}
 use Prim.Native.Nat.{ℕ, suc}
+use Prim.Native.String.{String}
 use native.Mathlib.Omega.{arith}
-use lib.Dec.{T, leb, eqb, le→leb}
+use lib.Dec.{T, leb, eqb, eqb→eq, le→leb}
+use lib.Text.{eqt}
 use Rattle.base.specs.Lists.{pick, ask}
 use Rattle.theory.specs.Answer.{Read, fault, file}
 use Rattle.meaning.specs.Lines.{fieldsOf, identifier, Line, linesOf, endsWell}
-use Rattle.meaning.specs.Table.{Kind, kinds, Role, headerLine, bodyLine, metadataLine, trailerLine, role, Field, fields, kindOf, placeFrom, proOrder, recordCount, endDate}
-use Rattle.meaning.specs.Sound.{Fault, soundField, forms, fieldFault, formFault}
+use Rattle.meaning.specs.Table.{Kind, kinds, Role, headerLine, bodyLine, metadataLine, trailerLine, role, Field, fields, kindOf, named, placeFrom, proOrder, recordCount, startDate, endDate}
+use Rattle.meaning.specs.Sound.{Fault, soundField, forms, datesAgree, fieldFault, formFault}
 use Rattle.meaning.specs.File.{Place, next, countFault, Judged, bad, good, lineFault, verdict, judgeKind, judgeText, judgeLine, Sheet, adds, bodyAfter, atStart, inBody, afterMetadata, afterTrailer, atEnd, onLine, readFrom, readFile}
 use Rattle.laws.specs.Kinds.{every, isRole}
 
 -- ---- the shape of a fault
 
--- END_DATE's own number in each kind, 0 where a kind has none
+-- END_DATE's own number in each kind that has one
 unfoldable pub endNumber : ℕ → Bool
-endNumber f = eqb f 13 || (eqb f 9 || (eqb f 14 || eqb f 0))
+endNumber f = eqb f 13 || (eqb f 9 || eqb f 14)
 
 -- code and field: 1, 3, 4 and 9 with no field, 2 with field 1, 5 with a field, 6 with END_DATE, 7 and 8 with field 3
 unfoldable pub shaped : Fault → Bool
@@ -59,9 +61,39 @@ forms-shaped n [] fs rest r = r
 forms-shaped n (d ∷ ds) [] rest r = r
 forms-shaped n (d ∷ ds) (f ∷ fs) rest r = ask-shaped (soundField d f) (5, suc n) (forms (suc (suc n)) ds fs rest) (five n) (forms-shaped (suc n) ds fs rest r)
 
-six-shaped : (k : Kind) → T (shaped (6, placeFrom 1 endDate (fields k)))
-unfolding kinds shaped endNumber placeFrom fields
-six-shaped k = every (λ k. shaped (6, placeFrom 1 endDate (fields k))) tt k
+-- a kind that has no field of that name has no bytes of it
+none-named : (n : ℕ) (s : String) (ds : List Field) (fs : List (List ℕ)) → placeFrom (suc n) s ds ≡ 0 → named s ds fs ≡ []
+unfolding placeFrom named
+none-named n s [] fs e = refl
+none-named n s (d ∷ ds) [] e = refl
+none-named n s (d ∷ ds) (f ∷ fs) e = go (eqt s (d .name)) (none-named (suc n) s ds fs) e
+  where
+    go : (c : Bool) → (placeFrom (suc (suc n)) s ds ≡ 0 → named s ds fs ≡ []) → pick c (suc n) (placeFrom (suc (suc n)) s ds) ≡ 0 → pick c f (named s ds fs) ≡ []
+    go true i e = absurd (omega (arith, e))
+    go false i e = i e
+
+end-or-none : (k : Kind) → T (endNumber (placeFrom 1 endDate (fields k)) || eqb (placeFrom 1 endDate (fields k)) 0)
+unfolding kinds endNumber placeFrom fields
+end-or-none k = every (λ k. endNumber (placeFrom 1 endDate (fields k)) || eqb (placeFrom 1 endDate (fields k)) 0) tt k
+
+-- 6 names END_DATE: a kind that has none isn't given it
+six-shaped : (k : Kind) (fs : List (List ℕ)) (rest : Option Fault) → Shaped rest
+    → Shaped (ask (datesAgree (named startDate (fields k) fs) (named endDate (fields k) fs)) (6, placeFrom 1 endDate (fields k)) rest)
+unfolding shaped ask datesAgree
+six-shaped k fs rest r = go (endNumber (placeFrom 1 endDate (fields k))) refl (end-or-none k)
+  where
+    agree : Bool
+    agree = datesAgree (named startDate (fields k) fs) (named endDate (fields k) fs)
+
+    or-here : (a b : Bool) → a ≡ true → T (a || b)
+    or-here true b e = tt
+    or-here false b e = absurd (false≢true e)
+
+    go : (c : Bool) → endNumber (placeFrom 1 endDate (fields k)) ≡ c → T (c || eqb (placeFrom 1 endDate (fields k)) 0) → Shaped (ask agree (6, placeFrom 1 endDate (fields k)) rest)
+    go true e t = ask-shaped agree (6, placeFrom 1 endDate (fields k)) rest (or-here _ _ e) r
+    go false e t =
+        let z : named endDate (fields k) fs ≡ [] = none-named 0 endDate (fields k) fs (eqb→eq _ 0 t) in
+        rw z r
 
 seven-shaped : (k : Kind) → role k ≡ bodyLine → T (shaped (7, placeFrom 1 proOrder (fields k)))
 unfolding kinds shaped placeFrom fields role isRole
@@ -84,7 +116,7 @@ line-shaped k n t =
     ask-shaped _ (9, 0) _ tt
     (ask-shaped _ (4, 0) _ tt
     (forms-shaped 0 (fields k) (fieldsOf t) _
-    (ask-shaped _ (6, placeFrom 1 endDate (fields k)) _ (six-shaped k) (count-shaped (role k) n k t refl))))
+    (six-shaped k (fieldsOf t) _ (count-shaped (role k) n k t refl))))
 
 -- the same of the judgement of a line
 abbrev BadShaped : Judged → Type 0

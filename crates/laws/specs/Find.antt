@@ -1,7 +1,7 @@
 -- Find, exactly: it answers 0 just where a sound holding has a record of that kind and number, and hands back that record's held line.
 use mathlib.Core.Path.{_≡_, refl, sym, ap, _∙_, subst}
 use mathlib.Core.Bool.{Bool, true, false, not}
-use mathlib.Core.Option.{Option, none, some}
+use mathlib.Core.Option.{Option, none, some, Option·some-injective}
 use mathlib.Core.List.{List, [], _∷_, _++_}
 use Prim.Native.Nat.{ℕ, suc, _+_, _<_}
 use native.Mathlib.Nat.{add-zero}
@@ -111,6 +111,23 @@ place-line old st pre r post i h e d =
     let t : length pre < length ls = subst (λ x. length pre < length x) (sym l) (line-there 1 pre r post) in
     let a : getD ls (length pre) noLine ≡ ends (changeText (1 + length pre) (insertOf r)) = ap (λ x. getD x (length pre) noLine) l ∙ line-at 1 pre r post in
     rw d (part-is first old (length pre) t ∙ ap (λ x. x .text) a ∙ ap (λ m. changeText m (insertOf r)) (one-add (length pre)))
+
+-- a record that stands at a key has a line of the holding: the record's content, numbered as that line
+pub record-line : (b : List ℕ) (st : List Rec) (k : List ℕ) (r : Rec) → SoundHolding b st → get keyed k st ≡ some r
+    → (i : ℕ) × (getD (linesOf b) i noLine ≡ ends (changeText (suc i) (insertOf r)))
+record-line b st k r h g = go (heldAt k 0 st) (held-looks k st (h .ascending))
+  where
+    go : (o : Option ℕ) → Looks k st o → (i : ℕ) × (getD (linesOf b) i noLine ≡ ends (changeText (suc i) (insertOf r)))
+    go none l = absurd (some≢none (sym g ∙ l))
+    go (some i) l =
+        let e : l .1 ≡ r = Option·some-injective (l .1) r (sym (l .5) ∙ g) in
+        let a = h .lines ∙ ap (λ x. endsAll (changeTexts 1 (inserts x))) (l .3) in (
+          length (l .0),
+          ap (λ x. getD x (length (l .0)) noLine) a
+              ∙ line-at 1 (l .0) (l .1) (l .2)
+              ∙ ap (λ m. ends (changeText m (insertOf (l .1)))) (one-add (length (l .0)))
+              ∙ ap (λ x. ends (changeText (suc (length (l .0))) (insertOf x))) e,
+        )
 
 -- ---- find
 

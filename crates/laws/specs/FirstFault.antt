@@ -16,31 +16,31 @@ use Rattle.laws.specs.SoundFile.{SaysChanges, body-accepted}
 
 -- ---- where a fault stands
 
--- a fault stands at one of the lines, or at the line after the last
+-- a fault stands at one of the lines; 3 alone may stand at the line after the last
 abbrev pub FaultAt : ℕ → ℕ → Read Sheet → Type 0
-FaultAt i m (fault c l f) = (i ≤ l) × (l ≤ i + m)
+FaultAt i m (fault c l f) = (i ≤ l) × (l ≤ i + m) × (l ≡ i + m → c ≡ 3)
 FaultAt i m (file s) = Unit {0}
 
 at-adds : (i m : ℕ) (o : Role) (k : Kind) (t : List ℕ) (r : Read Sheet) → FaultAt (suc i) m r → FaultAt i (suc m) (adds o k t r)
 unfolding adds
-at-adds i m o k t (fault c l f) h = (omega (arith, h .0), omega (arith, h .1))
+at-adds i m o k t (fault c l f) h = (omega (arith, h .0), omega (arith, h .1), λ e. h .2 (omega (arith, e)))
 at-adds i m o k t (file s) h = tt
 
 at-line : (i m : ℕ) (t : List ℕ) (go : Kind → Place → Read Sheet) → ((k : Kind) (q : Place) → FaultAt (suc i) m (go k q)) → (j : Judged) → FaultAt i (suc m) (onLine i t j go)
 unfolding onLine
-at-line i m t go h (bad f) = (omega arith, omega arith)
+at-line i m t go h (bad f) = (omega arith, omega arith, λ e. absurd (omega (arith, e)))
 at-line i m t go h (good k q) = at-adds i m (role k) k t (go k q) (h k q)
 
 fault-at : (i : ℕ) (p : Place) (n : ℕ) (ls : List Line) → FaultAt i (length ls) (readFrom i p n ls)
 unfolding readFrom atEnd
-fault-at i atStart n [] = (omega arith, omega arith)
-fault-at i inBody n [] = (omega arith, omega arith)
-fault-at i afterMetadata n [] = (omega arith, omega arith)
+fault-at i atStart n [] = (omega arith, omega arith, λ e. refl)
+fault-at i inBody n [] = (omega arith, omega arith, λ e. refl)
+fault-at i afterMetadata n [] = (omega arith, omega arith, λ e. refl)
 fault-at i afterTrailer n [] = tt
 fault-at i p n (l ∷ ls) =
     at-line i (length ls) (l .text) (λ k q. readFrom (suc i) q (bodyAfter (role k) n) ls) (λ k q. fault-at (suc i) q (bodyAfter (role k) n) ls) (judgeLine p n l)
 
--- a file's fault is at one of its lines, or at the line after its last
+-- a file's fault is at one of its lines; 3 may be at the line after its last
 pub file-fault-at : (b : List ℕ) → FaultAt 1 (length (linesOf b)) (readFile b)
 unfolding readFile
 file-fault-at b = fault-at 1 atStart 0 (linesOf b)

@@ -28,7 +28,7 @@ use Rattle.writer.proofs.LineLaws.{front-same, front-room, front-last, last-roo
 use Rattle.text.proofs.PutLaws.{front-then}
 use Rattle.loader.specs.declared.load.Loaded.{Loaded}
 use Rattle.loader.specs.Loaded.{numbers, undoText, FitsUndo, Lent, Loads}
-use Rattle.loader.specs.UndoOutcome.{UndoOutcome}
+use Rattle.loader.specs.Outcome.{UndoOutcome}
 use Rattle.loader.proofs.FillLaws.{fill-rest}
 
 -- ---- three parts

@@ -1,3 +1,2 @@
 pub mod Loaded
 pub mod Outcome
-pub mod UndoOutcome

@@ -8,7 +8,7 @@ ghost use Rattle.meaning.specs.Load.{six, filled};
 ghost use Rattle.text.specs.Front.{inFront};
 ghost use Rattle.volume.specs.Answer.{answerOf};
 ghost use Rattle.loader.specs.Loaded.{undoText, FitsUndo, Lent};
-ghost use Rattle.loader.specs.UndoOutcome.{UndoOutcome};
+ghost use Rattle.loader.specs.Outcome.{UndoOutcome};
 use crate::apply::refuse;
 use crate::load::load;
 use text::lines::line_end;

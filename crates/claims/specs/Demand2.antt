@@ -1,0 +1,79 @@
+-- Demand 2, of the numbers that apply answers and the bytes that it leaves.
+use mathlib.Core.Path.{_≡_, sym, ap, _∙_}
+use mathlib.Core.Logic.{_↔_}
+use mathlib.Core.Option.{some}
+use mathlib.Core.List.{List}
+use Prim.Native.Nat.{ℕ, suc, _≤_}
+use lib.Dec.{T}
+use lib.ListN.{length, getD}
+use Rattle.theory.specs.Answer.{count}
+use Rattle.theory.specs.Store.{get}
+use Rattle.theory.specs.Step.{ins, upd, del, after}
+use Rattle.theory.specs.Trail.{Through}
+use Rattle.theory.specs.Run.{last, free}
+use Rattle.meaning.specs.Lines.{linesOf}
+use Rattle.meaning.specs.Records.{Rec, keyed, changeText}
+use Rattle.meaning.specs.Holding.{written}
+use Rattle.meaning.specs.Load.{three, filled, checkHolding}
+use Rattle.laws.specs.LinesAndFields.{ends}
+use Rattle.laws.specs.LinePart.{noLine}
+use Rattle.laws.specs.HoldingReadBack.{insertOf}
+use Rattle.laws.specs.SoundHolding.{SoundHolding}
+use Rattle.laws.specs.Checks.{holding-checked}
+use Rattle.laws.specs.Takes.{new-fits}
+use Rattle.laws.specs.Find.{record-line}
+use Rattle.laws.specs.Demand2.{Allowed, afterAll, Lawful, Roomy, Whole, lawful-exactly, taken-exactly, allowed-takes, allowed-done, at-every-state, last-line, unnamed, new-sound}
+use Rattle.volume.specs.Answer.{answerOf}
+use Rattle.volume.specs.declared.check.Answer.{Answer}
+use Rattle.holding.specs.Verdict.{verdictOf}
+use Rattle.holding.specs.declared.check.Verdict.{Verdict}
+use Rattle.loader.specs.Outcome.{Outcome}
+
+module _ (old file : List ℕ) (room : ℕ) (r : Answer) (out : List ℕ) (o : Outcome old file room r out) where
+  -- given a sound holding and buffers with room at every step, a file is taken exactly if every line and every step is allowed
+  pub taken-if : (st : List Rec) → SoundHolding old st → Roomy room st file → (r .code ≡ 0) ↔ Lawful st file
+  taken-if st h w =
+      let t = lawful-exactly old file room st h w in
+      (λ e. t .0 (sym (ap (λ x. x .code) (o .0)) ∙ e), λ l. ap (λ x. x .code) (o .0) ∙ t .1 l)
+
+  -- the same with nothing given: taken exactly if the holding is sound, every line is allowed at its place, and every step is allowed and has room
+  pub taken-only : (r .code ≡ 0) ↔ Allowed old file room
+  taken-only =
+      let t = taken-exactly old file room in
+      (λ e. t .0 (sym (ap (λ x. x .code) (o .0)) ∙ e), λ a. ap (λ x. x .code) (o .0) ∙ t .1 a)
+
+  module _ (a : Allowed old file room) where
+    -- the new holding is the old one with the file's inserts, updates and deletes made in their order, and zeros follow it
+    pub new-holding : (out ≡ filled room (written (afterAll a))) × (length (written (afterAll a)) ≤ room)
+    new-holding = (o .1 ∙ ap (λ x. x .output) (allowed-done old file room a), new-fits room old file _ (allowed-takes old file room a))
+
+    -- each counted in the answer
+    pub counted : (r .inserts ≡ count ins (a .cs)) × (r .updates ≡ count upd (a .cs)) × (r .deletes ≡ count del (a .cs))
+    counted =
+        let e = o .0 ∙ ap (λ x. answerOf (x .answer)) (allowed-done old file room a) in
+        (ap (λ x. x .inserts) e, ap (λ x. x .updates) e, ap (λ x. x .deletes) e)
+
+    -- each key once, each reference met after each step
+    pub after-each-step : Through (after keyed) (Whole room) (a .st) (a .cs)
+    after-each-step = at-every-state old file room a
+
+    -- the record at a key is what the last line naming it says
+    pub last-says : (k : List ℕ) → get keyed k (afterAll a) ≡ last keyed k (a .cs) (get keyed k (a .st))
+    last-says k = last-line old file room a k
+
+    -- a key that no line names keeps its content byte for byte
+    pub unnamed-kept : (k : List ℕ) → T (free keyed k (a .cs)) → get keyed k (afterAll a) ≡ get keyed k (a .st)
+    unnamed-kept k f = unnamed old file room a k f
+
+    -- each record that no line named is unchanged but for its running number: its line in the old holding and its line in the new one
+    pub unnamed-line : (k : List ℕ) (x : Rec) → T (free keyed k (a .cs)) → get keyed k (a .st) ≡ some x
+        → ((m : ℕ) × (getD (linesOf old) m noLine ≡ ends (changeText (suc m) (insertOf x))))
+        × ((n : ℕ) × (getD (linesOf (written (afterAll a))) n noLine ≡ ends (changeText (suc n) (insertOf x))))
+    unnamed-line k x f g = (
+      record-line old (a .st) k x (a .held) g,
+      record-line (written (afterAll a)) (afterAll a) k x (new-sound old file room a) (unnamed-kept k f ∙ g),
+    )
+
+    -- the new holding is sound: check_holding answers 0
+    pub new-checks : (v : Verdict) → v ≡ verdictOf (checkHolding (written (afterAll a))) → v ≡ verdictOf (three 0 0 0)
+    new-checks v e = e ∙ ap verdictOf (holding-checked _ (afterAll a) (new-sound old file room a))

@@ -1,0 +1,372 @@
+-- Paper 01, 'Numbers given back': the codes that each operation can give, with the line and the field that go with each; and that it gives no others.
+use mathlib.Core.Path.{_≡_, refl, ap, _∙_}
+use mathlib.Core.Bool.{Bool, true, false, _&&_, _||_}
+use mathlib.Core.Option.{Option, none, some}
+use mathlib.Core.List.{List, [], _∷_, _++_}
+use Prim.Native.Nat.{ℕ, suc, _+_, _-_, _≤_, _<_}
+use native.Mathlib.Decide.{decLe}
+use native.Mathlib.Omega.{arith}
+use lib.Dec.{T, leb, eqb, le→leb}
+use lib.ListN.{length, length-append, getD, take}
+use Rattle.base.specs.Lists.{pick}
+use Rattle.base.specs.Tests.{and-in, T-true}
+use Rattle.theory.specs.Decimal.{value}
+use Rattle.theory.specs.Step.{Op, ins, upd, del, Change}
+use Rattle.theory.specs.Run.{Out, done, stop, run}
+use Rattle.theory.specs.Answer.{Read, fault, file, Answer, took, refused}
+use Rattle.meaning.specs.Lines.{linesOf, fieldsOf, oddQuotes}
+use Rattle.meaning.specs.Table.{Kind, ident, enquiries, numberedAmong}
+use Rattle.meaning.specs.Records.{Rec, keyed}
+use Rattle.meaning.specs.File.{Sheet, readFile}
+use Rattle.meaning.specs.Holding.{Held, sound, unsound, readHolding}
+use Rattle.meaning.specs.Load.{Six, three, fits, stepTests, outcome, fromStart, onFile, onHolding, load, checked, checkFile, heldNumbers, checkHolding, applied, apply, undoBytes, Undone, undone, undoFile}
+use Rattle.meaning.specs.Enquiries.{Found, refusal, spanned, partOf, heldAt, heldPart, findIn, findKind, find, lastNaming, named, inForcePart, inForceFile, inForceHeld, inForceKind, inForce, fieldPart, fieldIn, fieldOf, first, second}
+use Rattle.laws.specs.LinesAndFields.{endsAll}
+use Rattle.laws.specs.LinePart.{noLine}
+use Rattle.laws.specs.SoundFile.{SaysChanges, read-sound}
+use Rattle.laws.specs.FileRefusals.{endNumber, shaped, ReadShaped, file-shape, among}
+use Rattle.laws.specs.FirstFault.{FaultAt, file-fault-at}
+use Rattle.laws.specs.HoldingRefusals.{HeldAt, holding-fault-at}
+use Rattle.laws.specs.LoadRefusals.{stepCodes, OutIn, run-in}
+
+-- ---- rows
+
+-- a code, and the lines and fields that go with it
+pub record Row : Type 0 where
+  pub code : ℕ
+  pub line : ℕ → Bool
+  pub field : ℕ → Bool
+
+-- the three numbers are as the row has them
+abbrev pub fitting : Row → ℕ → ℕ → ℕ → Bool
+fitting r c l f = eqb c (r .code) && (r .line l && r .field f)
+
+-- they stand in one of the rows
+unfoldable pub given : List Row → ℕ → ℕ → ℕ → Bool
+given [] c l f = false
+given (r ∷ rs) c l f = fitting r c l f || given rs c l f
+
+-- 0 means none
+abbrev pub nought : ℕ → Bool
+nought n = eqb n 0
+
+-- a line from a to b
+abbrev pub within : ℕ → ℕ → ℕ → Bool
+within a b l = leb a l && leb l b
+
+-- a row as a line of the table
+abbrev pub row : ℕ → (ℕ → Bool) → (ℕ → Bool) → Row
+row c line field = record { code = c; line = line; field = field }
+
+-- codes with no field, each at one of the same lines
+abbrev pub rows : (ℕ → Bool) → List ℕ → List Row
+rows line [] = []
+rows line (c ∷ cs) = row c line nought ∷ rows line cs
+
+-- ---- the table, by what is asked
+
+-- a file of n lines: a file that ends before its trailer gets 3 at the line after its last
+unfoldable pub fileRows : ℕ → List Row
+fileRows n =
+    row 1 (within 1 n) nought
+    ∷ row 2 (within 1 n) (λ f. eqb f 1)
+    ∷ row 3 (within 1 (suc n)) nought
+    ∷ row 4 (within 1 n) nought
+    ∷ row 5 (within 1 n) (leb 1)
+    ∷ row 6 (within 1 n) endNumber
+    ∷ row 7 (within 1 n) (λ f. eqb f 3)
+    ∷ row 8 (within 1 n) (λ f. eqb f 3)
+    ∷ row 9 (within 1 n) nought
+    ∷ []
+
+-- check a file: 0, or 1 to 9
+unfoldable pub checkRows : List ℕ → List Row
+checkRows b = rows nought (0 ∷ []) ++ fileRows (length (linesOf b))
+
+-- a holding of n lines
+unfoldable pub heldRows : ℕ → List Row
+heldRows n = rows (within 1 n) (14 ∷ [])
+
+-- check a holding: 0, or 14 at its line
+unfoldable pub holdingRows : List ℕ → List Row
+holdingRows old = rows nought (0 ∷ []) ++ heldRows (length (linesOf old))
+
+-- the steps: body lines stand from line 2 to the second before the last
+unfoldable pub stepRows : List ℕ → List Row
+stepRows b = rows (within 2 (length (linesOf b) - 2)) stepCodes
+
+-- what refuses a file over a holding: 14, the file check, 13 for the start, the steps
+unfoldable pub loadRows : List ℕ → List ℕ → List Row
+loadRows old b = heldRows (length (linesOf old)) ++ (fileRows (length (linesOf b)) ++ (rows nought (13 ∷ []) ++ stepRows b))
+
+-- apply: 0, or what refuses the file
+unfoldable pub applyRows : List ℕ → List ℕ → List Row
+applyRows old b = rows nought (0 ∷ []) ++ loadRows old b
+
+-- undo: the same, or 17
+unfoldable pub undoRows : List ℕ → List ℕ → List Row
+undoRows old b = rows nought (0 ∷ 17 ∷ []) ++ loadRows old b
+
+-- find: 0, 15, 11, or 14 at its line
+unfoldable pub findRows : List ℕ → List Row
+findRows old = rows nought (0 ∷ 15 ∷ 11 ∷ []) ++ heldRows (length (linesOf old))
+
+-- the record in force: the same, or the file check
+unfoldable pub forceRows : List ℕ → List ℕ → List Row
+forceRows old b = findRows old ++ fileRows (length (linesOf b))
+
+-- one field of a line: 0 or 19
+unfoldable pub fieldRows : List Row
+fieldRows = rows nought (0 ∷ 19 ∷ [])
+
+-- ---- rows after rows
+
+or-l : (a b : Bool) → T a → T (a || b)
+or-l true b t = tt
+or-l false b t = absurd t
+
+or-r : (a b : Bool) → T b → T (a || b)
+or-r true b t = tt
+or-r false b t = t
+
+or-map : (a b c : Bool) → (T b → T c) → T (a || b) → T (a || c)
+or-map true b c i t = tt
+or-map false b c i t = i t
+
+given-l : (rs ss : List Row) (c l f : ℕ) → T (given rs c l f) → T (given (rs ++ ss) c l f)
+unfolding given
+given-l [] ss c l f t = absurd t
+given-l (r ∷ rs) ss c l f t = or-map (fitting r c l f) (given rs c l f) (given (rs ++ ss) c l f) (given-l rs ss c l f) t
+
+given-r : (rs ss : List Row) (c l f : ℕ) → T (given ss c l f) → T (given (rs ++ ss) c l f)
+unfolding given
+given-r [] ss c l f t = t
+given-r (r ∷ rs) ss c l f t = or-r (fitting r c l f) (given (rs ++ ss) c l f) (given-r rs ss c l f t)
+
+-- a listed code at one of the lines, with no field
+rows-given : (line : ℕ → Bool) (cs : List ℕ) (c l : ℕ) → T (line l) → T (among c cs) → T (given (rows line cs) c l 0)
+unfolding given among
+rows-given line [] c l h t = absurd t
+rows-given line (x ∷ cs) c l h t = go (eqb c x) (rows-given line cs c l h) t
+  where
+    go : (b : Bool) → (T (among c cs) → T (given (rows line cs) c l 0)) → T (b || among c cs) → T ((b && (line l && true)) || given (rows line cs) c l 0)
+    go true i t = or-l (line l && true) (given (rows line cs) c l 0) (and-in (line l) true h tt)
+    go false i t = i t
+
+-- ---- the file
+
+in-lines : (a b l : ℕ) → a ≤ l → l ≤ b → T (within a b l)
+in-lines a b l h k = and-in (leb a l) (leb l b) (le→leb a l h) (le→leb l b k)
+
+or-false : (a : Bool) → (a || false) ≡ a
+or-false true = refl
+or-false false = refl
+
+shaped-given : (n c l f : ℕ) → T (shaped (c, f)) → 1 ≤ l → l ≤ 1 + n → (l ≡ 1 + n → c ≡ 3) → T (given (fileRows n) c l f)
+unfolding given fileRows shaped
+shaped-given n c l f s a b e = go (decLe l n)
+  where
+    first : leb 1 l ≡ true
+    first = T-true (leb 1 l) (le→leb 1 l a)
+
+    last : leb l (suc n) ≡ true
+    last = T-true (leb l (suc n)) (le→leb l (suc n) (omega (arith, b)))
+
+    go : Dec (l ≤ n) → T (given (fileRows n) c l f)
+    go (yes h) = rw (first, last, T-true (leb l n) (le→leb l n h), or-false (eqb c 9 && eqb f 0)) s
+    go (no h) = let z : c ≡ 3 = e (omega arith) in rw (z, first, last) (rw z at s)
+
+-- a file's fault stands in its rows; a file without one has three lines beside its body
+abbrev FileGiven : List ℕ → Read Sheet → Type 0
+FileGiven b (fault c l f) = T (given (fileRows (length (linesOf b))) c l f)
+FileGiven b (file s) = length (linesOf b) ≡ length (s .1) + 3
+
+length-ends : (ts : List (List ℕ)) → length (endsAll ts) ≡ length ts
+length-ends [] = refl
+length-ends (t ∷ ts) = ap suc (length-ends ts)
+
+length-says : (n : ℕ) (ts : List (List ℕ)) (cs : List (Change Rec)) → SaysChanges n ts cs → length ts ≡ length cs
+length-says n [] [] s = refl
+length-says n [] (c ∷ cs) s = absurd s
+length-says n (t ∷ ts) [] s = absurd s
+length-says n (t ∷ ts) (c ∷ cs) s = ap suc (length-says (suc n) ts cs (s .1))
+
+file-given : (b : List ℕ) → FileGiven b (readFile b)
+file-given b = go (readFile b) refl (file-shape b) (file-fault-at b)
+  where
+    go : (r : Read Sheet) → readFile b ≡ r → ReadShaped r → FaultAt 1 (length (linesOf b)) r → FileGiven b r
+    go (fault c l f) e s a = shaped-given (length (linesOf b)) c l f s (a .0) (a .1) (a .2)
+    go (file s) e h a =
+        let w = read-sound b (s .0) (s .1) e in
+        let fr = s .0 in
+        let all = fr .headerText ∷ (w .texts ++ (fr .metadataText ∷ fr .trailerText ∷ [])) in
+        ap length (w .lines) ∙ length-ends all ∙ omega (arith, length-append (w .texts) (fr .metadataText ∷ fr .trailerText ∷ []), length-says 1 (w .texts) (s .1) (w .body))
+
+-- the six numbers of the check of a file
+pub check-given : (b : List ℕ) → T (given (checkRows b) (checkFile b .code) (checkFile b .line) (checkFile b .field))
+unfolding checkRows checkFile checked
+check-given b = go (readFile b) (file-given b)
+  where
+    go : (r : Read Sheet) → FileGiven b r → T (given (rows nought (0 ∷ []) ++ fileRows (length (linesOf b))) (checked r .code) (checked r .line) (checked r .field))
+    go (fault c l f) i = given-r (rows nought (0 ∷ [])) _ c l f i
+    go (file s) i = unfold given in tt
+
+-- ---- the holding
+
+held-given : (n l : ℕ) → (1 ≤ l) × (l < 1 + n) → T (given (heldRows n) 14 l 0)
+unfolding heldRows
+held-given n l i = rows-given (within 1 n) (14 ∷ []) 14 l (in-lines 1 n l (i .0) (omega (arith, i .1))) (unfold among in tt)
+
+-- the three numbers of the check of a holding
+pub holding-given : (b : List ℕ) → T (given (holdingRows b) (checkHolding b .code) (checkHolding b .line) (checkHolding b .field))
+unfolding holdingRows checkHolding heldNumbers
+holding-given b = go (readHolding b) (holding-fault-at b)
+  where
+    go : (h : Held) → HeldAt 1 (length (linesOf b)) h
+        → T (given (rows nought (0 ∷ []) ++ heldRows (length (linesOf b))) (heldNumbers h .code) (heldNumbers h .line) (heldNumbers h .field))
+    go (unsound l) i = given-r (rows nought (0 ∷ [])) _ 14 l 0 (held-given (length (linesOf b)) l i)
+    go (sound st) i = unfold given in tt
+
+-- ---- apply and undo
+
+-- a refusal stands in these rows
+abbrev RefusalIn : List Row → Answer → Type 0
+RefusalIn rs (took new i u d) = Unit {0}
+RefusalIn rs (refused c l f) = T (given rs c l f)
+
+load-given : (room : ℕ) (old b : List ℕ) → RefusalIn (loadRows old b) (load room old b)
+unfolding load onHolding onFile fromStart outcome loadRows stepRows
+load-given room old b = holds (readHolding old) (holding-fault-at old)
+  where
+    n : ℕ
+    n = length (linesOf b)
+
+    steps : (c l f : ℕ) → T (given (rows nought (13 ∷ []) ++ stepRows b) c l f) → T (given (loadRows old b) c l f)
+    steps c l f t = given-r (heldRows (length (linesOf old))) _ c l f (given-r (fileRows n) _ c l f t)
+
+    ran : (cs : List (Change Rec)) → n ≡ length cs + 3 → (o : Out (List Rec)) → OutIn 2 (length cs) o → RefusalIn (loadRows old b) (outcome cs o)
+    ran cs e (done st) i = tt
+    ran cs e (stop l w) i =
+        steps w l 0 (given-r (rows nought (13 ∷ [])) _ w l 0 (rows-given (within 2 (n - 2)) stepCodes w l (in-lines 2 (n - 2) l (i .1) (omega (arith, i .2, e))) (i .0)))
+
+    starts : (c : Bool) (st : List Rec) (s : Sheet) → n ≡ length (s .1) + 3
+        → RefusalIn (loadRows old b) (pick c (outcome (s .1) (run keyed (stepTests room) 2 st (s .1))) (refused 13 0 0))
+    starts true st s e = ran (s .1) e (run keyed (stepTests room) 2 st (s .1)) (run-in room 2 st (s .1))
+    starts false st s e = steps 13 0 0 (unfold given in tt)
+
+    files : (st : List Rec) (r : Read Sheet) → FileGiven b r → RefusalIn (loadRows old b) (onFile room st r)
+    files st (fault c l f) i = given-r (heldRows (length (linesOf old))) _ c l f (given-l (fileRows n) _ c l f i)
+    files st (file s) i = starts (fits room st) st s i
+
+    holds : (h : Held) → HeldAt 1 (length (linesOf old)) h → RefusalIn (loadRows old b) (onHolding room b h)
+    holds (unsound l) i = given-l (heldRows (length (linesOf old))) _ 14 l 0 (held-given (length (linesOf old)) l i)
+    holds (sound st) i = files st (readFile b) (file-given b)
+
+-- the six numbers stand in these rows
+abbrev SixIn : List Row → Six → Type 0
+SixIn rs s = T (given rs (s .code) (s .line) (s .field))
+
+-- the six numbers of apply
+pub apply-given : (old b : List ℕ) (room : ℕ) → SixIn (applyRows old b) (apply old b room .answer)
+unfolding applyRows apply applied
+apply-given old b room = go (load room old b) (load-given room old b)
+  where
+    go : (x : Answer) → RefusalIn (loadRows old b) x → SixIn (rows nought (0 ∷ []) ++ loadRows old b) (applied room x .answer)
+    go (took new i u d) t = unfold given in tt
+    go (refused c l f) t = given-r (rows nought (0 ∷ [])) _ c l f t
+
+-- the six numbers of undo
+pub undo-given : (old b : List ℕ) (out space : ℕ) → SixIn (undoRows old b) (undoFile old b out space .answer)
+unfolding undoRows undoFile undone
+undo-given old b out space = go (load space old b) (load-given space old b)
+  where
+    either : (c : Bool) (x y : Undone) (rs : List Row) → SixIn rs (x .answer) → SixIn rs (y .answer) → SixIn rs (pick c x y .answer)
+    either true x y rs p q = p
+    either false x y rs p q = q
+
+    go : (x : Answer) → RefusalIn (loadRows old b) x → SixIn (rows nought (0 ∷ 17 ∷ []) ++ loadRows old b) (undone out space (undoBytes old b) x .answer)
+    go (took new i u d) t = either (leb (length (undoBytes old b)) out) _ _ _ (unfold given in tt) (unfold given in tt)
+    go (refused c l f) t = given-r (rows nought (0 ∷ 17 ∷ [])) _ c l f t
+
+-- ---- enquiries
+
+-- the three numbers stand in these rows, and a refusal hands back an empty part
+pub record FoundIn (rs : List Row) (f : Found) : Type 0 where
+  pub numbers : T (given rs (f .answer .code) (f .answer .line) (f .answer .field))
+  pub empty : (f .answer .code ≡ 0 → ⊥) → f .size ≡ 0
+
+refusal-in : (rs : List Row) (c l f : ℕ) → T (given rs c l f) → FoundIn rs (refusal c l f)
+unfolding refusal
+refusal-in rs c l f t = record { numbers = t; empty = λ n. refl }
+
+held-in : (old : List ℕ) (o : Option ℕ) → FoundIn (findRows old) (heldPart old o)
+unfolding heldPart partOf findRows given
+held-in old none = refusal-in _ 11 0 0 tt
+held-in old (some i) = record { numbers = tt; empty = λ n. absurd (n refl) }
+
+unsound-in : (old : List ℕ) (l : ℕ) → (1 ≤ l) × (l < 1 + length (linesOf old)) → FoundIn (findRows old) (refusal 14 l 0)
+unfolding findRows
+unsound-in old l i = refusal-in _ 14 l 0 (given-r (rows nought (0 ∷ 15 ∷ 11 ∷ [])) _ 14 l 0 (held-given (length (linesOf old)) l i))
+
+-- the three numbers of find
+pub find-given : (old : List ℕ) (kind n : ℕ) → FoundIn (findRows old) (find old kind n)
+unfolding find findKind findIn
+find-given old kind n = asked (numberedAmong enquiries kind)
+  where
+    held : (q : List ℕ) (h : Held) → HeldAt 1 (length (linesOf old)) h → FoundIn (findRows old) (findIn old q h)
+    held q (unsound l) i = unsound-in old l i
+    held q (sound st) i = held-in old (heldAt q 0 st)
+
+    asked : (o : Option Kind) → FoundIn (findRows old) (findKind old n o)
+    asked none = refusal-in _ 15 0 0 (unfold findRows given in tt)
+    asked (some k) = held (value (ident k) ∷ n ∷ []) (readHolding old) (holding-fault-at old)
+
+more-in : (old b : List ℕ) (f : Found) → FoundIn (findRows old) f → FoundIn (forceRows old b) f
+unfolding forceRows
+more-in old b f i = record { numbers = given-l (findRows old) _ _ _ _ (i .numbers); empty = i .empty }
+
+-- the three numbers of the record in force
+pub force-given : (old b : List ℕ) (kind n : ℕ) → FoundIn (forceRows old b) (inForce old b kind n)
+unfolding inForce inForceKind inForceHeld inForceFile inForcePart
+force-given old b kind n = asked (numberedAmong enquiries kind)
+  where
+    named-in : (o : Op) (i : ℕ) → FoundIn (findRows old) (named o (partOf second (linesOf b) i))
+    named-in ins i = unfold named partOf findRows given in record { numbers = tt; empty = λ n. absurd (n refl) }
+    named-in upd i = unfold named partOf findRows given in record { numbers = tt; empty = λ n. absurd (n refl) }
+    named-in del i = unfold named findRows given in refusal-in _ 11 0 0 tt
+
+    part : (q : List ℕ) (st : List Rec) (o : Option (ℕ × Op)) → FoundIn (forceRows old b) (inForcePart old b q st o)
+    part q st none = more-in old b _ (held-in old (heldAt q 0 st))
+    part q st (some l) = more-in old b _ (named-in (l .1) (l .0))
+
+    files : (q : List ℕ) (st : List Rec) (r : Read Sheet) → FileGiven b r → FoundIn (forceRows old b) (inForceFile old b q st r)
+    files q st (fault c l f) i = refusal-in _ c l f (unfold forceRows in given-r (findRows old) _ c l f i)
+    files q st (file s) i = part q st (lastNaming q 1 (s .1) none)
+
+    held : (q : List ℕ) (h : Held) → HeldAt 1 (length (linesOf old)) h → FoundIn (forceRows old b) (inForceHeld old b q h)
+    held q (unsound l) i = more-in old b _ (unsound-in old l i)
+    held q (sound st) i = files q st (readFile b) (file-given b)
+
+    asked : (o : Option Kind) → FoundIn (forceRows old b) (inForceKind old b n o)
+    asked none = more-in old b _ (refusal-in _ 15 0 0 (unfold findRows given in tt))
+    asked (some k) = held (value (ident k) ∷ n ∷ []) (readHolding old) (holding-fault-at old)
+
+-- the three numbers of one field of a line
+pub field-given : (b : List ℕ) (l f : ℕ) → FoundIn fieldRows (fieldOf b l f)
+unfolding fieldOf fieldIn fieldPart fieldRows given
+field-given b l f = lined (leb 1 l && leb l (length (linesOf b)))
+  where
+    t : List ℕ
+    t = getD (linesOf b) (l - 1) noLine .text
+
+    fielded : (at size : ℕ) (c : Bool) → FoundIn fieldRows (pick c (record { answer = three 0 0 0; slice = first; start = at; size = size }) (refusal 19 0 0))
+    fielded at size true = record { numbers = tt; empty = λ n. absurd (n refl) }
+    fielded at size false = refusal-in _ 19 0 0 tt
+
+    quoted : (at : ℕ) (c : Bool) → FoundIn fieldRows (pick c (refusal 19 0 0) (fieldPart at (fieldsOf t) f))
+    quoted at true = refusal-in _ 19 0 0 tt
+    quoted at false = fielded _ _ (leb 1 f && leb f (length (fieldsOf t)))
+
+    lined : (c : Bool) → FoundIn fieldRows (pick c (fieldIn (spanned (take (l - 1) (linesOf b))) t f) (refusal 19 0 0))
+    lined true = quoted (spanned (take (l - 1) (linesOf b))) (oddQuotes t)
+    lined false = refusal-in _ 19 0 0 tt
