@@ -1,0 +1,28 @@
+-- What C finds in the arrays and buffers that it lent, by the meaning's definitions.
+use mathlib.Core.Path.{_≡_}
+use mathlib.Core.List.{List, [], _∷_}
+use Prim.Native.Nat.{ℕ}
+use Rattle.meaning.specs.Load.{Six, apply, undoFile}
+use Rattle.volume.specs.declared.check.Answer.{Answer}
+use Rattle.holding.specs.declared.check.Verdict.{Verdict}
+
+-- the six numbers in their order
+abbrev pub sixList : Six → List ℕ
+sixList s = s .code ∷ s .line ∷ s .field ∷ s .inserts ∷ s .updates ∷ s .deletes ∷ []
+
+-- those of the code's answer
+abbrev pub answerList : Answer → List ℕ
+answerList a = a .code ∷ a .line ∷ a .field ∷ a .inserts ∷ a .updates ∷ a .deletes ∷ []
+
+-- the three of its verdict
+abbrev pub verdictList : Verdict → List ℕ
+verdictList v = v .code ∷ v .line ∷ v .field ∷ []
+
+-- what apply leaves in its output of `room` bytes and in its answer
+abbrev pub Applies : List ℕ → List ℕ → ℕ → List ℕ → List ℕ → Type 0
+Applies old file room out answer = (answer ≡ sixList (apply old file room .answer)) × (out ≡ apply old file room .output)
+
+-- what undo leaves in its output, in its work buffer of `space` bytes and in its answer
+abbrev pub Undoes : List ℕ → List ℕ → ℕ → ℕ → List ℕ → List ℕ → List ℕ → Type 0
+Undoes old file room space out work answer =
+    (answer ≡ sixList (undoFile old file room space .answer)) × (out ≡ undoFile old file room space .output) × (work ≡ undoFile old file room space .work)
