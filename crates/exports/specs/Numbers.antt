@@ -2,9 +2,12 @@
 use mathlib.Core.Path.{_≡_}
 use mathlib.Core.List.{List, [], _∷_}
 use Prim.Native.Nat.{ℕ}
+use Rattle.base.specs.Lists.{pick}
 use Rattle.meaning.specs.Load.{Six, apply, undoFile}
+use Rattle.meaning.specs.Enquiries.{Slice, first, second, Found}
 use Rattle.volume.specs.declared.check.Answer.{Answer}
 use Rattle.holding.specs.declared.check.Verdict.{Verdict}
+use Rattle.enquiries.specs.declared.finding.Finding.{Finding}
 
 -- the six numbers in their order
 abbrev pub sixList : Six → List ℕ
@@ -17,6 +20,27 @@ answerList a = a .code ∷ a .line ∷ a .field ∷ a .inserts ∷ a .updates �
 -- the three of its verdict
 abbrev pub verdictList : Verdict → List ℕ
 verdictList v = v .code ∷ v .line ∷ v .field ∷ []
+
+-- an enquiry's numbers in their order: code, line, field, and the part's start and length
+abbrev pub partList : Found → List ℕ
+partList f = f .answer .code ∷ f .answer .line ∷ f .answer .field ∷ f .start ∷ f .size ∷ []
+
+-- the slice in which a part stands, as a number: 0 for the holding, 1 for the file
+abbrev pub sideOf : Slice → ℕ
+sideOf first = 0
+sideOf second = 1
+
+-- the same with the side, where a part stands in either of two slices
+abbrev pub sidedList : Found → List ℕ
+sidedList f = f .answer .code ∷ f .answer .line ∷ f .answer .field ∷ sideOf (f .slice) ∷ f .start ∷ f .size ∷ []
+
+-- those of the code's finding
+abbrev pub findingList : Finding → List ℕ
+findingList g = g .code ∷ g .line ∷ g .field ∷ g .start ∷ g .size ∷ []
+
+-- and with the side
+abbrev pub sidedFindingList : Finding → List ℕ
+sidedFindingList g = g .code ∷ g .line ∷ g .field ∷ pick (g .infile) 1 0 ∷ g .start ∷ g .size ∷ []
 
 -- what apply leaves in its output of `room` bytes and in its answer
 abbrev pub Applies : List ℕ → List ℕ → ℕ → List ℕ → List ℕ → Type 0

@@ -5,3 +5,4 @@
 pub mod numbers; // an answer's numbers in their order
 pub mod checks; // a file, and a holding
 pub mod load; // taking a file, and handing it back
+pub mod parts; // find, the record in force, one field of a line
