@@ -5,6 +5,7 @@ use Prim.Native.Nat.{ℕ}
 use Rattle.base.specs.Lists.{pick}
 use Rattle.meaning.specs.Load.{Six, apply, undoFile}
 use Rattle.meaning.specs.Enquiries.{Slice, first, second, Found}
+use Rattle.laws.specs.Buffers.{one-outcome}
 use Rattle.volume.specs.declared.check.Answer.{Answer}
 use Rattle.holding.specs.declared.check.Verdict.{Verdict}
 use Rattle.enquiries.specs.declared.finding.Finding.{Finding}
@@ -50,3 +51,12 @@ Applies old file room out answer = (answer ≡ sixList (apply old file room .ans
 abbrev pub Undoes : List ℕ → List ℕ → ℕ → ℕ → List ℕ → List ℕ → List ℕ → Type 0
 Undoes old file room space out work answer =
     (answer ≡ sixList (undoFile old file room space .answer)) × (out ≡ undoFile old file room space .output) × (work ≡ undoFile old file room space .work)
+
+-- ---- any two outcomes are equal
+
+pub applies-one : (old file : List ℕ) (room : ℕ) (out put a b : List ℕ) → Applies old file room out a → Applies old file room put b → (a ≡ b) × (out ≡ put)
+applies-one old file room out put a b o p = (one-outcome _ a b (o .0) (p .0), one-outcome _ out put (o .1) (p .1))
+
+pub undoes-one : (old file : List ℕ) (room space : ℕ) (out put work left a b : List ℕ) → Undoes old file room space out work a → Undoes old file room space put left b
+    → (a ≡ b) × (out ≡ put) × (work ≡ left)
+undoes-one old file room space out put work left a b o p = (one-outcome _ a b (o .0) (p .0), one-outcome _ out put (o .1) (p .1), one-outcome _ work left (o .2) (p .2))
