@@ -1,23 +1,22 @@
 -- The laws of one field of a line.
 use mathlib.Core.Path.{_≡_, refl, sym, ap, _∙_}
 use mathlib.Core.Bool.{Bool, true, false, not, _&&_}
-use mathlib.Core.List.{List, [], _∷_}
-use Prim.Native.Nat.{ℕ, zero, suc, _+_, _-_, _≤_, _<_}
+use mathlib.Core.List.{List, []}
+use Prim.Native.Nat.{ℕ, _+_, _-_, _≤_, _<_}
 use native.Mathlib.Omega.{arith}
 use borrow.Author.Needs.{needs}
-use borrow.Author.Tests.{not-true, not-false, lt-ltb, le-ltb, le-leb, lt-leb}
-use denote.Ref.{RefT, now}
-use lib.Dec.{ltb, leb}
+use borrow.Author.Tests.{not-true, not-false, lt-ltb, le-leb, lt-leb}
+use lib.Dec.{leb}
 use lib.ListN.{length, getD, take, drop, length-take, length-drop}
 use Rattle.base.specs.Lists.{pick}
-use Rattle.meaning.specs.Lines.{Line, linesOf, fieldsOf, oddQuotes}
+use Rattle.meaning.specs.Lines.{fieldsOf, oddQuotes}
 use Rattle.meaning.specs.Load.{three}
-use Rattle.meaning.specs.Enquiries.{Found, first, refusal, spanned, fieldsSpanned, fieldPart, fieldIn, fieldOf}
-use Rattle.text.specs.Places.{fieldCount, fieldLen, fieldEnd, fieldStart, FieldAt}
-use Rattle.text.specs.Parts.{StandsIn}
+use Rattle.meaning.specs.Enquiries.{Found, first, refusal, fieldsSpanned, fieldPart, fieldIn, fieldOf}
+use Rattle.text.specs.Places.{fieldCount, fieldEnd, fieldStart, FieldAt}
 use Rattle.enquiries.specs.declared.lines.Span.{Span}
-use Rattle.enquiries.specs.Handed.{Handed, LineIs, FieldIs}
-use Rattle.enquiries.proofs.LineSeekLaws.{noLine}
+use Rattle.enquiries.specs.declared.finding.Finding.{Finding}
+use Rattle.enquiries.specs.Finding.{findingOf}
+use Rattle.enquiries.specs.Handed.{LineIs, FieldIs}
 
 -- nothing is known of what is not there
 never : {X : Type 0} → _≡_ {A = Bool} false true → X
@@ -85,26 +84,29 @@ in-line at t f = go (oddQuotes t)
     go true = refl
     go false = refl
 
-module _ (b p : RefT (List ℕ)) (l f : ℕ) (r : Span) (w : LineIs (b .now) l r) where
+module _ (b : List ℕ) (l f : ℕ) (x : Finding) (r : Span) (w : LineIs b l r) where
   -- no such line
-  pub handed-no-line : (x : List ℕ) → r .known ≡ false → Handed (refusal 19 0 0) b p x → Handed (fieldOf (b .now) l f) b p x
+  pub found-no-line : r .known ≡ false → x ≡ findingOf (refusal 19 0 0) → x ≡ findingOf (fieldOf b l f)
   unfolding fieldOf
-  handed-no-line x k s = rw (sym (w .exists) ∙ k) s
+  found-no-line k s = rw (sym (w .exists) ∙ k) s
 
-  module _ (k : r .known ≡ true) (q : Span) (v : FieldIs (take (r .end - r .start) (drop (r .start) (b .now))) f q) where
+  -- the line's bytes
+  abbrev text : List ℕ
+  text = take (r .end - r .start) (drop (r .start) b)
+
+  module _ (k : r .known ≡ true) (q : Span) (v : FieldIs text f q) where
     -- the line is there
-    in-bytes : fieldOf (b .now) l f ≡ fieldIn (r .start) (take (r .end - r .start) (drop (r .start) (b .now))) f
+    in-bytes : fieldOf b l f ≡ fieldIn (r .start) text f
     unfolding fieldOf
     in-bytes = rw (sym (w .exists) ∙ k, ← (w .starts k), ← (w .text k))
 
     -- no such field
-    pub handed-no-field : (x : List ℕ) → q .known ≡ false → Handed (refusal 19 0 0) b p x → Handed (fieldOf (b .now) l f) b p x
-    handed-no-field x m s = rw (in-bytes, in-line (r .start) (take (r .end - r .start) (drop (r .start) (b .now))) f, sym (v .exists) ∙ m) s
+    pub found-no-field : q .known ≡ false → x ≡ findingOf (refusal 19 0 0) → x ≡ findingOf (fieldOf b l f)
+    found-no-field m s = rw (in-bytes, in-line (r .start) text f, sym (v .exists) ∙ m) s
 
     -- the field, where it stands
-    pub handed-field : q .known ≡ true → StandsIn p b (r .start + q .start) (r .start + q .end - (r .start + q .start)) → Handed (fieldOf (b .now) l f) b p (0 ∷ 0 ∷ 0 ∷ [])
-    handed-field m s =
-        let z : r .start + q .end - (r .start + q .start) ≡ length (getD (fieldsOf (take (r .end - r .start) (drop (r .start) (b .now)))) (f - 1) []) = omega (arith, v .size m, v .from) in
-        rw (in-bytes, in-line (r .start) (take (r .end - r .start) (drop (r .start) (b .now))) f, sym (v .exists) ∙ m) (record { numbers = refl; part = rw (← (v .starts m), ← z) s })
+    pub found-field : q .known ≡ true → record { code = 0; line = 0; field = 0; infile = false; start = r .start + q .start; size = q .end - q .start } ≡ findingOf (fieldOf b l f)
+    unfolding findingOf
+    found-field m = rw (in-bytes, in-line (r .start) text f, sym (v .exists) ∙ m, ← (v .starts m), ← (v .size m)) refl
 
-pub ruleset handed = (needs, not-true, not-false, handed-no-line, handed-no-field, handed-field)
+pub ruleset fieldfound = (needs, not-true, not-false, found-no-line, found-no-field, found-field)

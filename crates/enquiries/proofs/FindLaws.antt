@@ -9,7 +9,6 @@ use native.Mathlib.Numerals.{add-one}
 use native.Mathlib.Omega.{arith}
 use borrow.Author.Needs.{needs}
 use borrow.Author.Tests.{not-true, not-false, eq-eqb, ne-eqb}
-use denote.Ref.{RefT, now}
 use lib.Dec.{T, eqb, eqb→eq}
 use lib.ListN.{length}
 use Rattle.base.specs.Lists.{pick, all, same, some?, bytes}
@@ -43,7 +42,8 @@ use Rattle.holding.proofs.ReadLaws.{held-sound}
 use Rattle.places.specs.Places.{says}
 use Rattle.base.specs.Lists.{zeros}
 use Rattle.layout.specs.Rows.{padded}
-use Rattle.enquiries.specs.Handed.{Handed}
+use Rattle.enquiries.specs.declared.finding.Finding.{Finding}
+use Rattle.enquiries.specs.Finding.{findingOf}
 use Rattle.enquiries.specs.Found.{lineFound, Enquired}
 
 -- ---- the kinds that can be asked for
@@ -189,17 +189,17 @@ count-lines n (r ∷ rs) = ap suc (count-lines (suc n) rs)
 
 -- ---- the held line
 
-module _ (s : RefT (List ℕ)) (a : List ℕ) (r : Held) (kind n : ℕ) (w : Enquired (s .now) a r kind) where
+module _ (s : List ℕ) (a : List ℕ) (r : Held) (kind n : ℕ) (w : Enquired s a r kind) where
   -- the holding's records
   abbrev st : List Rec
-  st = recordsOf (readHolding (s .now))
+  st = recordsOf (readHolding s)
 
-  sounds : readHolding (s .now) ≡ sound st
-  sounds = held-sound (s .now) (sym (w .read .line) ∙ w .sound)
+  sounds : readHolding s ≡ sound st
+  sounds = held-sound s (sym (w .read .line) ∙ w .sound)
 
   state : Sound keyed fine always st
   unfolding heldRecords
-  state = holding .holds (s .now) st (ap heldRecords sounds) .1
+  state = holding .holds s st (ap heldRecords sounds) .1
 
   -- they are few
   pub held-few : r .count ≤ 8192
@@ -210,29 +210,29 @@ module _ (s : RefT (List ℕ)) (a : List ℕ) (r : Held) (kind n : ℕ) (w : Enq
   held-space = omega (arith, held-few, w .space)
 
   -- the state that it says is in order by numbers
-  pub held-asc : Asc numbered (says (s .now) (s .now) a (r .count))
-  held-asc = rw (w .read .listed (w .sound) .says (s .now)) (asc-numbered st (state .fines) (state .asc))
+  pub held-asc : Asc numbered (says s s a (r .count))
+  held-asc = rw (w .read .listed (w .sound) .says s) (asc-numbered st (state .fines) (state .asc))
 
-  module _ (k : List ℕ) (y : k ≡ kind ∷ n ∷ 0 ∷ 0 ∷ []) (l : ℕ) (g : l ≡ lineFound k (says (s .now) (s .now) a (r .count))) where
+  module _ (k : List ℕ) (y : k ≡ kind ∷ n ∷ 0 ∷ 0 ∷ []) (l : ℕ) (g : l ≡ lineFound k (says s s a (r .count))) where
     here : l ≡ lineFound (kind ∷ n ∷ 0 ∷ 0 ∷ []) st
-    here = g ∙ ap (lineFound k) (w .read .listed (w .sound) .says (s .now)) ∙ ap (λ j. lineFound j st) y
+    here = g ∙ ap (lineFound k) (w .read .listed (w .sound) .says s) ∙ ap (λ j. lineFound j st) y
 
     -- the key's place among them
     place : heldAt (kind ∷ n ∷ []) 0 st ≡ pick (eqb l 0) none (some (l - 1))
     place = held-line (kind ∷ n ∷ 0 ∷ 0 ∷ []) (kind ∷ n ∷ []) st (state .fines) (state .asc) (asked-agrees kind n (asked-is kind (w .asked))) ∙ ap (λ (x : ℕ). pick (eqb x 0) none (some (x - 1))) (sym here)
 
     -- its line is one of the holding's
-    pub held-in : (l ≡ 0 → ⊥) → l ≤ length (linesOf (s .now))
-    held-in u = omega (arith, here, line-in (kind ∷ n ∷ 0 ∷ 0 ∷ []) st (λ v. u (here ∙ v)), ap length (held-is-sound (s .now) st sounds .lines), count-lines 1 st)
+    pub held-in : (l ≡ 0 → ⊥) → l ≤ length (linesOf s)
+    held-in u = omega (arith, here, line-in (kind ∷ n ∷ 0 ∷ 0 ∷ []) st (λ v. u (here ∙ v)), ap length (held-is-sound s st sounds .lines), count-lines 1 st)
 
-    module _ (p : RefT (List ℕ)) (x : List ℕ) where
+    module _ (x : Finding) where
       -- 11 for an absent key
-      pub held-absent : l ≡ 0 → Handed (refusal 11 0 0) s p x → Handed (heldPart (s .now) (heldAt (kind ∷ n ∷ []) 0 st)) s p x
+      pub held-absent : l ≡ 0 → x ≡ findingOf (refusal 11 0 0) → x ≡ findingOf (heldPart s (heldAt (kind ∷ n ∷ []) 0 st))
       unfolding heldPart
       held-absent u v = rw (place, eq-eqb l 0 u) v
 
       -- else its line
-      pub held-there : (l ≡ 0 → ⊥) → Handed (partOf first (linesOf (s .now)) (l - 1)) s p x → Handed (heldPart (s .now) (heldAt (kind ∷ n ∷ []) 0 st)) s p x
+      pub held-there : (l ≡ 0 → ⊥) → x ≡ findingOf (partOf first (linesOf s) (l - 1)) → x ≡ findingOf (heldPart s (heldAt (kind ∷ n ∷ []) 0 st))
       unfolding heldPart
       held-there u v = rw (place, ne-eqb l 0 u) v
 
@@ -244,22 +244,22 @@ pub ruleset held = (needs, held-few, held-space, held-asc, held-in, held-absent,
 pub enquired : (h a c : List ℕ) (r : Held) (kind : ℕ) (b : Bool) → b ≡ some? (numberedAmong enquiries kind) → b ≡ true → HeldIs h r a c → r .line ≡ 0 → 8192 ≤ length a → Enquired h a r kind
 enquired h a c r kind b e t w z l = record { asked = sym e ∙ t; counts = c; read = w; sound = z; space = l }
 
-module _ (s p : RefT (List ℕ)) (kind n : ℕ) (x : List ℕ) (b : Bool) (e : b ≡ some? (numberedAmong enquiries kind)) where
+module _ (s : List ℕ) (kind n : ℕ) (x : Finding) (b : Bool) (e : b ≡ some? (numberedAmong enquiries kind)) where
   -- 15 for a kind that can't be asked for
-  pub find-other : b ≡ false → Handed (refusal 15 0 0) s p x → Handed (find (s .now) kind n) s p x
+  pub find-other : b ≡ false → x ≡ findingOf (refusal 15 0 0) → x ≡ findingOf (find s kind n)
   unfolding find findKind
   find-other f w = rw (no-kind kind b e f) w
 
   -- 14 for an unsound holding
-  pub find-unsound : (r : Held) (a t : List ℕ) → b ≡ true → HeldIs (s .now) r a t → (r .line ≡ 0 → ⊥) → Handed (refusal 14 (r .line) 0) s p x → Handed (find (s .now) kind n) s p x
+  pub find-unsound : (r : Held) (a t : List ℕ) → b ≡ true → HeldIs s r a t → (r .line ≡ 0 → ⊥) → x ≡ findingOf (refusal 14 (r .line) 0) → x ≡ findingOf (find s kind n)
   unfolding find findKind findIn
-  find-unsound r a t f h z w = rw (asked-is kind (sym e ∙ f) .known, unsounds (s .now) r a t h z) w
+  find-unsound r a t f h z w = rw (asked-is kind (sym e ∙ f) .known, unsounds s r a t h z) w
 
   -- else the held line
-  pub find-held : (r : Held) (a t : List ℕ) → b ≡ true → HeldIs (s .now) r a t → r .line ≡ 0 → Handed (heldPart (s .now) (heldAt (kind ∷ n ∷ []) 0 (recordsOf (readHolding (s .now))))) s p x
-      → Handed (find (s .now) kind n) s p x
+  pub find-held : (r : Held) (a t : List ℕ) → b ≡ true → HeldIs s r a t → r .line ≡ 0 → x ≡ findingOf (heldPart s (heldAt (kind ∷ n ∷ []) 0 (recordsOf (readHolding s))))
+      → x ≡ findingOf (find s kind n)
   unfolding find findKind findIn
-  find-held r a t f h z w = let k = asked-is kind (sym e ∙ f) in rw (k .known, held-sound (s .now) (sym (h .line) ∙ z), ← (k .number)) w
+  find-held r a t f h z w = let k = asked-is kind (sym e ∙ f) in rw (k .known, held-sound s (sym (h .line) ∙ z), ← (k .number)) w
 
 pub ruleset finds = (needs, not-true, not-false, find-other, find-unsound, find-held)
 

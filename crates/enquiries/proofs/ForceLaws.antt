@@ -7,7 +7,6 @@ use Prim.Native.Nat.{ℕ, suc, _+_, _-_, _≤_, _<_}
 use native.Mathlib.Omega.{arith}
 use borrow.Author.Needs.{needs}
 use borrow.Author.Tests.{not-true, not-false}
-use denote.Ref.{RefT, now}
 use lib.Dec.{T}
 use lib.ListN.{length, getD}
 use Rattle.base.specs.Lists.{pick, all, same, some?}
@@ -24,7 +23,7 @@ use Rattle.meaning.specs.Records.{Rec, opOf, contentOf, changeOf, keyOf}
 use Rattle.meaning.specs.Holding.{readHolding}
 use Rattle.meaning.specs.File.{Sheet, Frame, readFile}
 use Rattle.meaning.specs.Load.{checked, checkFile}
-use Rattle.meaning.specs.Enquiries.{Found, Slice, first, second, refusal, partOf, heldAt, heldPart, lastNaming, named, inForcePart, inForceFile, inForceHeld, inForceKind, inForce}
+use Rattle.meaning.specs.Enquiries.{Found, second, refusal, partOf, heldAt, heldPart, lastNaming, named, inForcePart, inForceFile, inForceHeld, inForceKind, inForce}
 use Rattle.laws.specs.Body.{kind-in}
 use Rattle.laws.specs.LinesAndFields.{endsAll}
 use Rattle.laws.specs.SoundFile.{RoleLine, SaysChange, SaysChanges, SoundFile, sound-read}
@@ -42,7 +41,9 @@ use Rattle.holding.proofs.ReadLaws.{held-sound}
 use Rattle.enquiries.specs.declared.naming.Naming.{Naming}
 use Rattle.enquiries.specs.declared.naming.Naming.the-variants.{Unnamed, Deleted, Named}
 use Rattle.enquiries.specs.Naming.{saidBy, namedBy, laterOf, lastNamed, namingOf}
-use Rattle.enquiries.specs.Handed.{Handed, lentAs, HandedOf}
+use Rattle.enquiries.specs.declared.finding.Finding.{Finding}
+use Rattle.enquiries.specs.Found.{Enquired}
+use Rattle.enquiries.specs.Finding.{findingOf}
 use Rattle.enquiries.proofs.FindLaws.{Asked, asked-is, asked-agrees, same-lex, no-kind, unsounds}
 
 -- ---- the lines of a sound file
@@ -190,74 +191,77 @@ handed-by old b q st (some l) = go (l .1)
     go upd = ap (partOf second (linesOf b)) (sym less)
     go del = refl
 
-module _ (s t p : RefT (List ℕ)) (kind n : ℕ) (x : List ℕ) where
-  -- the same answer, of the first slice
-  of-first : (f g : Found) → f ≡ g → g .slice ≡ first → Handed g s p x → HandedOf f s t p x
-  of-first f g e q w = subst (λ (y : Found). HandedOf y s t p x) (sym e) (subst (λ (y : Slice). Handed g (lentAs y s t) p x) (sym q) w)
+module _ (s t : List ℕ) (kind n : ℕ) (x : Finding) (k : Asked kind) (z : checkFile t .code ≡ 0) (j : List ℕ) (y : j ≡ kind ∷ n ∷ 0 ∷ 0 ∷ []) (o : Naming) (g : o ≡ lastNamed j 1 (linesOf t) Unnamed) where
+  -- what is found of a sound file
+  abbrev found : Found
+  found = inForceFile s t (kind ∷ n ∷ []) (recordsOf (readHolding s)) (readFile t)
 
-  module _ (b : Bool) (e : b ≡ some? (numberedAmong enquiries kind)) where
-    -- 15 for a kind that can't be asked for
-    pub force-other : b ≡ false → Handed (refusal 15 0 0) s p x → HandedOf (inForce (s .now) (t .now) kind n) s t p x
-    unfolding inForce inForceKind refusal
-    force-other f w = of-first _ _ (ap (inForceKind (s .now) (t .now) n) (no-kind kind b e f)) refl w
+  -- it is what the file's lines say
+  on-lines : found ≡ handedBy s t (kind ∷ n ∷ []) (recordsOf (readHolding s)) o
+  unfolding inForceFile
+  on-lines =
+      let f = checked-file t z in
+      rw (sound-read t (f .frame) (f .changes) (f .sounds))
+      (handed-by s t (kind ∷ n ∷ []) (recordsOf (readHolding s)) (lastNaming (kind ∷ n ∷ []) 1 (f .changes) none)
+      ∙ ap (handedBy s t (kind ∷ n ∷ []) (recordsOf (readHolding s))) (sym (g ∙ ap (λ i. lastNamed i 1 (linesOf t) Unnamed) y ∙ file-names kind n k t (f .frame) (f .changes) (f .sounds))))
 
-    -- 14 for an unsound holding
-    pub force-unsound : (r : Held) (a c : List ℕ) → b ≡ true → HeldIs (s .now) r a c → (r .line ≡ 0 → ⊥) → Handed (refusal 14 (r .line) 0) s p x → HandedOf (inForce (s .now) (t .now) kind n) s t p x
-    unfolding inForce inForceKind inForceHeld refusal
-    force-unsound r a c f h z w = of-first _ _ (rw (asked-is kind (sym e ∙ f) .known, unsounds (s .now) r a c h z)) refl w
+  -- where none names the key, the held line
+  pub last-held : o ≡ Unnamed → x ≡ findingOf (heldPart s (heldAt (kind ∷ n ∷ []) 0 (recordsOf (readHolding s)))) → x ≡ findingOf found
+  unfolding handedBy
+  last-held q w = rw (on-lines, q) w
 
-  module _ (b : Bool) (e : b ≡ some? (numberedAmong enquiries kind)) (u : b ≡ true) (r : Held) (a i : List ℕ) (h : HeldIs (s .now) r a i) (v : r .line ≡ 0) where
-    known : Asked kind
-    known = asked-is kind (sym e ∙ u)
+  -- 11 for a delete
+  pub last-deleted : o ≡ Deleted → x ≡ findingOf (refusal 11 0 0) → x ≡ findingOf found
+  unfolding handedBy
+  last-deleted q w = rw (on-lines, q) w
 
+  -- else the body line
+  pub last-named : (l : ℕ) → o ≡ Named l → x ≡ findingOf (partOf second (linesOf t) (l - 1)) → x ≡ findingOf found
+  unfolding handedBy
+  last-named l q w = rw (on-lines, q) w
+
+-- the kind was asked for
+pub last-asked : (h a : List ℕ) (r : Held) (kind : ℕ) → Enquired h a r kind → Asked kind
+last-asked h a r kind w = asked-is kind (w .asked)
+
+pub ruleset last = (needs, named-from, named-to, last-asked, last-held, last-deleted, last-named)
+
+module _ (s t : List ℕ) (kind n : ℕ) (x : Finding) (b : Bool) (e : b ≡ some? (numberedAmong enquiries kind)) where
+  -- 15 for a kind that can't be asked for
+  pub force-other : b ≡ false → x ≡ findingOf (refusal 15 0 0) → x ≡ findingOf (inForce s t kind n)
+  unfolding inForce inForceKind
+  force-other f w = rw (no-kind kind b e f) w
+
+  -- 14 for an unsound holding
+  pub force-unsound : (r : Held) (a c : List ℕ) → b ≡ true → HeldIs s r a c → (r .line ≡ 0 → ⊥) → x ≡ findingOf (refusal 14 (r .line) 0) → x ≡ findingOf (inForce s t kind n)
+  unfolding inForce inForceKind inForceHeld
+  force-unsound r a c f h z w = rw (asked-is kind (sym e ∙ f) .known, unsounds s r a c h z) w
+
+  module _ (u : b ≡ true) (r : Held) (a i : List ℕ) (h : HeldIs s r a i) (v : r .line ≡ 0) where
     -- then the file is judged
-    on-file : inForce (s .now) (t .now) kind n ≡ inForceFile (s .now) (t .now) (kind ∷ n ∷ []) (recordsOf (readHolding (s .now))) (readFile (t .now))
+    on-file : inForce s t kind n ≡ inForceFile s t (kind ∷ n ∷ []) (recordsOf (readHolding s)) (readFile t)
     unfolding inForce inForceKind inForceHeld
     on-file =
-        ap (inForceKind (s .now) (t .now) n) (known .known)
-        ∙ ap (λ (v : ℕ). inForceHeld (s .now) (t .now) (v ∷ n ∷ []) (readHolding (s .now))) (sym (known .number))
-        ∙ ap (inForceHeld (s .now) (t .now) (kind ∷ n ∷ [])) (held-sound (s .now) (sym (h .line) ∙ v))
+        let k = asked-is kind (sym e ∙ u) in
+        ap (inForceKind s t n) (k .known)
+        ∙ ap (λ (v : ℕ). inForceHeld s t (v ∷ n ∷ []) (readHolding s)) (sym (k .number))
+        ∙ ap (inForceHeld s t (kind ∷ n ∷ [])) (held-sound s (sym (h .line) ∙ v))
 
-    module _ (c : Answer) (d : c ≡ answerOf (checkFile (t .now))) where
-      -- the file's own fault
-      pub force-faulty : (c .code ≡ 0 → ⊥) → Handed (refusal (c .code) (c .line) (c .field)) s p x → HandedOf (inForce (s .now) (t .now) kind n) s t p x
-      unfolding checkFile refusal
-      force-faulty z w = of-first _ _ (on-file ∙ go (readFile (t .now)) d) refl w
-        where
-          go : (u : Read Sheet) → c ≡ answerOf (checked u) → inForceFile (s .now) (t .now) (kind ∷ n ∷ []) (recordsOf (readHolding (s .now))) u ≡ refusal (c .code) (c .line) (c .field)
-          go (fault m l y) q = unfold checked inForceFile in rw q
-          go (file y) q = absurd (unfold checked in z (ap (λ y. y .code) q))
+    -- the file's own fault
+    pub force-faulty : (c : Answer) → c ≡ answerOf (checkFile t) → (c .code ≡ 0 → ⊥) → x ≡ findingOf (refusal (c .code) (c .line) (c .field)) → x ≡ findingOf (inForce s t kind n)
+    unfolding checkFile
+    force-faulty c d z w = w ∙ ap findingOf (sym (on-file ∙ go (readFile t) d))
+      where
+        go : (u : Read Sheet) → c ≡ answerOf (checked u) → inForceFile s t (kind ∷ n ∷ []) (recordsOf (readHolding s)) u ≡ refusal (c .code) (c .line) (c .field)
+        go (fault m l y) q = unfold checked inForceFile in rw q
+        go (file y) q = absurd (unfold checked in z (ap (λ y. y .code) q))
 
-      module _ (z : c .code ≡ 0) (k : List ℕ) (y : k ≡ kind ∷ n ∷ 0 ∷ 0 ∷ []) (o : Naming) (g : o ≡ lastNamed k 1 (linesOf (t .now)) Unnamed) where
-        -- the answer is what the file's lines say
-        on-lines : inForce (s .now) (t .now) kind n ≡ handedBy (s .now) (t .now) (kind ∷ n ∷ []) (recordsOf (readHolding (s .now))) o
-        unfolding inForceFile
-        on-lines =
-            let f = checked-file (t .now) (sym (ap (λ y. y .code) d) ∙ z) in
-            on-file ∙ rw (sound-read (t .now) (f .frame) (f .changes) (f .sounds))
-            (handed-by (s .now) (t .now) (kind ∷ n ∷ []) (recordsOf (readHolding (s .now))) (lastNaming (kind ∷ n ∷ []) 1 (f .changes) none)
-            ∙ ap (handedBy (s .now) (t .now) (kind ∷ n ∷ []) (recordsOf (readHolding (s .now)))) (sym (g ∙ ap (λ j. lastNamed j 1 (linesOf (t .now)) Unnamed) y ∙ file-names kind n known (t .now) (f .frame) (f .changes) (f .sounds))))
+    -- else what it says
+    pub force-last : x ≡ findingOf (inForceFile s t (kind ∷ n ∷ []) (recordsOf (readHolding s)) (readFile t)) → x ≡ findingOf (inForce s t kind n)
+    force-last w = rw on-file w
 
-        -- where none names the key, the held line
-        pub force-held : o ≡ Unnamed → Handed (heldPart (s .now) (heldAt (kind ∷ n ∷ []) 0 (recordsOf (readHolding (s .now))))) s p x → HandedOf (inForce (s .now) (t .now) kind n) s t p x
-        unfolding handedBy heldPart refusal partOf
-        force-held q w = of-first _ _ (on-lines ∙ rw q) (in-holding (heldAt (kind ∷ n ∷ []) 0 (recordsOf (readHolding (s .now))))) w
-          where
-            in-holding : (j : Option ℕ) → heldPart (s .now) j .slice ≡ first
-            in-holding none = refl
-            in-holding (some j) = refl
+-- a file with no fault
+pub faultless : (t : List ℕ) (c : Answer) → c ≡ answerOf (checkFile t) → c .code ≡ 0 → checkFile t .code ≡ 0
+faultless t c d z = sym (ap (λ y. y .code) d) ∙ z
 
-        -- 11 for a delete
-        pub force-deleted : o ≡ Deleted → Handed (refusal 11 0 0) s p x → HandedOf (inForce (s .now) (t .now) kind n) s t p x
-        unfolding handedBy refusal
-        force-deleted q w = of-first _ _ (on-lines ∙ rw q) refl w
-
-        -- else the body line
-        pub force-named : (l : ℕ) → o ≡ Named l → Handed (partOf first (linesOf (t .now)) (l - 1)) t p x → HandedOf (inForce (s .now) (t .now) kind n) s t p x
-        unfolding handedBy partOf
-        force-named l q w = subst (λ (y : Found). HandedOf y s t p x) (sym there) (record { numbers = w .numbers; part = w .part })
-          where
-            there : inForce (s .now) (t .now) kind n ≡ partOf second (linesOf (t .now)) (l - 1)
-            there = on-lines ∙ rw q
-
-pub ruleset force = (needs, not-true, not-false, named-from, named-to, force-other, force-unsound, force-faulty, force-held, force-deleted, force-named)
+pub ruleset force = (needs, not-true, not-false, force-other, force-unsound, force-faulty, force-last)

@@ -1,5 +1,6 @@
 pub mod LineSeekLaws
 pub mod HandLaws
+pub mod WithinLaws
 pub mod FieldPartLaws
 pub mod FindLaws
 pub mod NamingLaws

@@ -37,12 +37,8 @@ Shows none a l = (a ≡ 11 ∷ 0 ∷ 0 ∷ []) × (l ≡ [])
 Shows (some r) a l = (a ≡ 0 ∷ 0 ∷ 0 ∷ []) × (recOf l ≡ r)
 
 -- the bytes of a part, in the one of two that it stands in
-abbrev lent : Slice → List ℕ → List ℕ → List ℕ
-lent first a b = a
-lent second a b = b
-
 abbrev bytesIn : List ℕ → List ℕ → Found → List ℕ
-bytesIn a b f = take (f .size) (drop (f .start) (lent (f .slice) a b))
+bytesIn a b f = take (f .size) (drop (f .start) (lentAs (f .slice) a b))
 
 -- ---- the held line
 
@@ -124,7 +120,7 @@ taken-shows s t r kind n room answer e a h = rw (h .numbers, h .part .bytes ∙ 
     f : Found
     f = inForce (s .now) (t .now) kind n
 
-    side : (z : Slice) → take (f .size) (drop (f .start) (lentAs z s t .now)) ≡ take (f .size) (drop (f .start) (lent z (s .now) (t .now)))
+    side : (z : Slice) → take (f .size) (drop (f .start) (lentAs z s t .now)) ≡ take (f .size) (drop (f .start) (lentAs z (s .now) (t .now)))
     side first = refl
     side second = refl
 

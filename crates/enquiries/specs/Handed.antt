@@ -21,8 +21,8 @@ pub record Handed (f : Found) (s r : RefT (List ℕ)) (answer : List ℕ) : Type
   pub numbers : answer ≡ threeList (f .answer)
   pub part : StandsIn r s (f .start) (f .size)
 
--- the slice that is meant, of the two that were lent
-abbrev pub lentAs : Slice → RefT (List ℕ) → RefT (List ℕ) → RefT (List ℕ)
+-- the one that is meant, of the two that were lent
+abbrev pub lentAs : {A : Type 0} → Slice → A → A → A
 lentAs first s t = s
 lentAs second s t = t
 

@@ -1,3 +1,4 @@
+pub mod Finding
 pub mod Handed
 pub mod Found
 pub mod Naming

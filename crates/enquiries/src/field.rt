@@ -1,13 +1,16 @@
 // Giving one field of a line splits any bytes, judges no field or line ending, and hands back the field with its quotes.
+ghost use mathlib.Core.Path.{_≡_};
 ghost use Rattle.meaning.specs.Enquiries.{fieldOf};
+ghost use Rattle.enquiries.specs.Finding.{findingOf};
 ghost use Rattle.enquiries.specs.Handed.{Handed, FieldIs};
-use crate::hand::refuse;
+use crate::finding::Finding;
+use crate::finding::refusal;
+use crate::hand::hand;
 use crate::lines::Span;
 use crate::lines::line_at;
 use text::fields::field_count;
 use text::fields::field_end;
 use text::fields::field_start;
-use text::parts::part;
 
 // Field n of a line, counted from 1; a line with odd quotes has none.
 pub fn field_at(line: &[u8], n: u64) -> Span
@@ -38,20 +41,34 @@ pub fn field_at(line: &[u8], n: u64) -> Span
     }
 }
 
-// Field `number` of line `line` of some bytes, both counted from 1: 19 for no such line or field, or odd quotes.
-pub fn field<'a>(bytes: &'a [u8], line: u64, number: u64, answer: &mut [u64; 3]) -> &'a [u8]
-    ensures { λ r. ⌜ Handed (fieldOf (now (bytes .entry)) line number) (bytes .entry) r (now (answer .exit)) ⌝ }
+// Where field `number` of line `line` of some bytes stands, both counted from 1: 19 for no such line or field, or odd quotes.
+pub fn find_field(bytes: &[u8], line: u64, number: u64) -> Finding
+    ensures { λ r. ⌜ r ≡ findingOf (fieldOf (now (bytes .entry)) line number) ⌝ }
 {
     let l = line_at(bytes, line);
     let at = l.start;
     let end = l.end;
     if !l.known {
-        return refuse(bytes, 19, 0, 0, &mut *answer);
+        return refusal(19, 0, 0);
     }
     let f = field_at(&bytes[at..end], number);
     if !f.known {
-        return refuse(bytes, 19, 0, 0, &mut *answer);
+        return refusal(19, 0, 0);
     }
-    *answer = [0, 0, 0];
-    part(bytes, at + f.start, at + f.end)
+    Finding {
+        code: 0,
+        line: 0,
+        field: 0,
+        infile: false,
+        start: at + f.start,
+        size: f.end - f.start,
+    }
+}
+
+// Field `number` of line `line` of some bytes, with its quotes.
+pub fn field<'a>(bytes: &'a [u8], line: u64, number: u64, answer: &mut [u64; 3]) -> &'a [u8]
+    ensures { λ r. ⌜ Handed (fieldOf (now (bytes .entry)) line number) (bytes .entry) r (now (answer .exit)) ⌝ }
+{
+    let found = find_field(bytes, line, number);
+    hand(bytes, found, &mut *answer)
 }

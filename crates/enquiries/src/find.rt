@@ -11,10 +11,13 @@ ghost use Rattle.theory.specs.Store.{Asc};
 ghost use Rattle.keys.specs.Numbers.{numbered, keyList};
 ghost use Rattle.places.specs.Places.{says};
 ghost use Rattle.holding.specs.Read.{recordsOf};
+ghost use Rattle.enquiries.specs.Finding.{findingOf};
 ghost use Rattle.enquiries.specs.Handed.{Handed};
 ghost use Rattle.enquiries.specs.Found.{lineFound, Enquired};
-use crate::hand::hand_line;
-use crate::hand::refuse;
+use crate::finding::Finding;
+use crate::finding::line_found;
+use crate::finding::refusal;
+use crate::hand::hand;
 use holding::read::Held;
 use holding::read::read_holding;
 use keys::Key;
@@ -58,36 +61,37 @@ pub fn line_of(holding: &[u8], starts: &[u64], count: usize, key: Key) -> usize
 }
 
 // The held line of the record of that kind and number, in a sound holding that was read; 11 where none is held.
-pub fn held_line<'a>(
-    holding: &'a [u8],
-    starts: &[u64],
-    held: Held,
-    kind: u64,
-    number: u64,
-    answer: &mut [u64; 3],
-) -> &'a [u8]
+pub fn held_line(holding: &[u8], starts: &[u64], held: Held, kind: u64, number: u64) -> Finding
     requires { ⌜ Enquired (now holding) (now starts) held kind ⌝ }
-    ensures { λ r. ⌜ Handed (heldPart (now (holding .entry)) (heldAt (kind ∷ number ∷ []) 0 (recordsOf (readHolding (now (holding .entry)))))) (holding .entry) r (now (answer .exit)) ⌝ }
+    ensures { λ r. ⌜ r ≡ findingOf (heldPart (now (holding .entry)) (heldAt (kind ∷ number ∷ []) 0 (recordsOf (readHolding (now (holding .entry)))))) ⌝ }
 {
     let n = line_of(holding, starts, held.count, asked_key(kind, number));
     if n == 0 {
-        return refuse(holding, 11, 0, 0, &mut *answer);
+        return refusal(11, 0, 0);
     }
-    hand_line(holding, n as u64, &mut *answer)
+    line_found(holding, n as u64, false)
 }
 
-// The line of the record of that kind and number: 15, then 14, then 11.
-pub fn find<'a>(holding: &'a [u8], kind: u64, number: u64, answer: &mut [u64; 3]) -> &'a [u8]
-    ensures { λ r. ⌜ Handed (find (now (holding .entry)) kind number) (holding .entry) r (now (answer .exit)) ⌝ }
+// Where the line of the record of that kind and number stands: 15, then 14, then 11.
+pub fn find_line(holding: &[u8], kind: u64, number: u64) -> Finding
+    ensures { λ r. ⌜ r ≡ findingOf (find (now (holding .entry)) kind number) ⌝ }
 {
     if !is_enquired(kind) {
-        return refuse(holding, 15, 0, 0, &mut *answer);
+        return refusal(15, 0, 0);
     }
     let mut starts = [0u64; 8192];
     let mut counts = [0u64; 8192];
     let held = read_holding(holding, &mut starts, &mut counts);
     if held.line != 0 {
-        return refuse(holding, 14, held.line as u64, 0, &mut *answer);
+        return refusal(14, held.line as u64, 0);
     }
-    held_line(holding, &starts, held, kind, number, &mut *answer)
+    held_line(holding, &starts, held, kind, number)
+}
+
+// The line of the record of that kind and number.
+pub fn find<'a>(holding: &'a [u8], kind: u64, number: u64, answer: &mut [u64; 3]) -> &'a [u8]
+    ensures { λ r. ⌜ Handed (find (now (holding .entry)) kind number) (holding .entry) r (now (answer .exit)) ⌝ }
+{
+    let found = find_line(holding, kind, number);
+    hand(holding, found, &mut *answer)
 }

@@ -1,17 +1,67 @@
 // The record in force if a file were taken: a part of the file or of the holding. Steps are not judged.
-ghost use Rattle.meaning.specs.Enquiries.{inForce};
+ghost use mathlib.Core.Path.{_≡_};
+ghost use mathlib.Core.List.{[], _∷_};
+ghost use Rattle.meaning.specs.File.{readFile};
+ghost use Rattle.meaning.specs.Holding.{readHolding};
+ghost use Rattle.meaning.specs.Load.{checkFile};
+ghost use Rattle.meaning.specs.Enquiries.{inForceFile, inForce};
+ghost use Rattle.holding.specs.Read.{recordsOf};
+ghost use Rattle.enquiries.specs.Found.{Enquired};
+ghost use Rattle.enquiries.specs.Finding.{findingOf};
 ghost use Rattle.enquiries.specs.Handed.{HandedOf};
 use crate::find::asked_key;
 use crate::find::held_line;
 use crate::find::is_enquired;
-use crate::hand::hand_line;
-use crate::hand::refuse;
+use crate::finding::Finding;
+use crate::finding::line_found;
+use crate::finding::refusal;
+use crate::hand::hand;
 use crate::naming::Naming;
 use crate::naming::last_naming;
+use holding::read::Held;
 use holding::read::read_holding;
 use volume::check::check_file;
 
-// The last body line of that kind and number, or the held line where none names it: 15, then 14, then the file check, then 11.
+// The last body line of that kind and number in a sound file, or the held line where none names it; 11 where that is a delete.
+fn last_line(
+    holding: &[u8],
+    file: &[u8],
+    starts: &[u64],
+    held: Held,
+    kind: u64,
+    number: u64,
+) -> Finding
+    requires { ⌜ Enquired (now holding) (now starts) held kind × (checkFile (now file) .code ≡ 0) ⌝ }
+    ensures { λ r. ⌜ r ≡ findingOf (inForceFile (now (holding .entry)) (now (file .entry)) (kind ∷ number ∷ []) (recordsOf (readHolding (now (holding .entry)))) (readFile (now (file .entry)))) ⌝ }
+{
+    match last_naming(file, asked_key(kind, number)) {
+        Naming::Unnamed => held_line(holding, starts, held, kind, number),
+        Naming::Deleted => refusal(11, 0, 0),
+        Naming::Named(line) => line_found(file, line, true),
+    }
+}
+
+// Where the record in force stands: 15, then 14, then the file check, then 11.
+pub fn line_in_force(holding: &[u8], file: &[u8], kind: u64, number: u64) -> Finding
+    ensures { λ r. ⌜ r ≡ findingOf (inForce (now (holding .entry)) (now (file .entry)) kind number) ⌝ }
+{
+    if !is_enquired(kind) {
+        return refusal(15, 0, 0);
+    }
+    let mut starts = [0u64; 8192];
+    let mut counts = [0u64; 8192];
+    let held = read_holding(holding, &mut starts, &mut counts);
+    if held.line != 0 {
+        return refusal(14, held.line as u64, 0);
+    }
+    let checked = check_file(file);
+    if checked.code != 0 {
+        return refusal(checked.code, checked.line as u64, checked.field as u64);
+    }
+    last_line(holding, file, &starts, held, kind, number)
+}
+
+// The record in force of that kind and number.
 pub fn in_force<'a>(
     holding: &'a [u8],
     file: &'a [u8],
@@ -21,28 +71,9 @@ pub fn in_force<'a>(
 ) -> &'a [u8]
     ensures { λ r. ⌜ HandedOf (inForce (now (holding .entry)) (now (file .entry)) kind number) (holding .entry) (file .entry) r (now (answer .exit)) ⌝ }
 {
-    if !is_enquired(kind) {
-        return refuse(holding, 15, 0, 0, &mut *answer);
+    let found = line_in_force(holding, file, kind, number);
+    if found.infile {
+        return hand(file, found, &mut *answer);
     }
-    let mut starts = [0u64; 8192];
-    let mut counts = [0u64; 8192];
-    let held = read_holding(holding, &mut starts, &mut counts);
-    if held.line != 0 {
-        return refuse(holding, 14, held.line as u64, 0, &mut *answer);
-    }
-    let checked = check_file(file);
-    if checked.code != 0 {
-        return refuse(
-            holding,
-            checked.code,
-            checked.line as u64,
-            checked.field as u64,
-            &mut *answer,
-        );
-    }
-    match last_naming(file, asked_key(kind, number)) {
-        Naming::Unnamed => held_line(holding, &starts, held, kind, number, &mut *answer),
-        Naming::Deleted => refuse(holding, 11, 0, 0, &mut *answer),
-        Naming::Named(line) => hand_line(file, line, &mut *answer),
-    }
+    hand(holding, found, &mut *answer)
 }

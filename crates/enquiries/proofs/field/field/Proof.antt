@@ -1,5 +1,5 @@
 -- `enquiries::field::field` meets its contract.
-use Rattle.enquiries.proofs.FieldPartLaws.{handed}
+use Rattle.enquiries.proofs.HandLaws.{handing}
 use Rattle.enquiries.proofs.field.field.Statement.{statement}
 use Rattle.enquiries.proofs.field.field.Tie as tie
 
@@ -7,16 +7,6 @@ pub field-spec : {M : Type 1} → statement M
 field-spec =
     tie.close
     (tie.spec
-    (λ c κs. search handed)  -- line-at-requires
-    (λ c κs. search handed)  -- refuse-requires
-    (λ c. search handed)  -- returns
-    (λ c. search handed)  -- sub-field-at
-    (λ c. search handed)  -- part-field-at-start
-    (λ c. search handed)  -- part-field-at-end
-    (λ c κs. search handed)  -- field-at-requires
-    (λ c κs. search handed)  -- refuse-requires-2
-    (λ c. search handed)  -- returns-2
-    (λ c. search handed)  -- add-part
-    (λ c. search handed)  -- add-part-2
-    (λ c κs. search handed)  -- part-requires
-    (λ c. search handed))  -- returns-3
+    (λ c κs. search handing)  -- find-field-requires
+    (λ c κs. search handing)  -- hand-requires
+    (λ c. search handing))  -- returns

@@ -1,7 +1,5 @@
 -- `enquiries::find::find` meets its contract.
-use Rattle.enquiries.proofs.FindLaws.{finds, enquired}
-use borrow.Author.Needs.{needs}
-use borrow.Author.Tests.{not-false}
+use Rattle.enquiries.proofs.HandLaws.{handing}
 use Rattle.enquiries.proofs.find.find.Statement.{statement}
 use Rattle.enquiries.proofs.find.find.Tie as tie
 
@@ -9,14 +7,6 @@ pub find-spec : {M : Type 1} → statement M
 find-spec =
     tie.close
     (tie.spec
-    (λ c κs. search finds)  -- is-enquired-requires
-    (λ c κs. search finds)  -- refuse-requires
-    (λ c. search finds)  -- returns
-    (λ c. search finds)  -- slice-aggregate-read-holding
-    (λ c. search finds)  -- slice-aggregate-read-holding-2
-    (λ c κs. search finds)  -- read-holding-requires
-    (λ c κs. search finds)  -- refuse-requires-2
-    (λ c. search finds)  -- returns-2
-    (λ c. search finds)  -- slice-aggregate-held-line
-    (λ c κs. let r = c .before .before .before .before .before .before in let i = r .before .before .before in enquired _ _ _ _ _ _ (i .before .is-enquired .ensures) (not-false _ (i .if1 .left)) (r .read-holding .ensures) (c .before .before .if2 .left) (search needs))  -- held-line-requires
-    (λ c. search finds))  -- returns-3
+    (λ c κs. search handing)  -- find-line-requires
+    (λ c κs. search handing)  -- hand-requires
+    (λ c. search handing))  -- returns

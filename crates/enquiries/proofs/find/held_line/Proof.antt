@@ -9,7 +9,7 @@ held-line-spec =
     (tie.spec
     (λ c κs. search held)  -- asked-key-requires
     (λ c κs. search held)  -- line-of-requires
-    (λ c κs. search held)  -- refuse-requires
+    (λ c κs. search held)  -- refusal-requires
     (λ c. search held)  -- returns
-    (λ c κs. search held)  -- hand-line-requires
+    (λ c κs. search held)  -- line-found-requires
     (λ c. search held))  -- returns-2

@@ -1,0 +1,26 @@
+-- `enquiries::in_force::line_in_force` meets its contract.
+use Rattle.enquiries.proofs.ForceLaws.{force, faultless}
+use Rattle.enquiries.proofs.FindLaws.{enquired}
+use borrow.Author.Needs.{needs}
+use borrow.Author.Tests.{not-false}
+use Rattle.enquiries.proofs.in_force.line_in_force.Statement.{statement}
+use Rattle.enquiries.proofs.in_force.line_in_force.Tie as tie
+
+pub line-in-force-spec : {M : Type 1} → statement M
+line-in-force-spec =
+    tie.close
+    (tie.spec
+    (λ c κs. search force)  -- is-enquired-requires
+    (λ c κs. search force)  -- refusal-requires
+    (λ c. search force)  -- returns
+    (λ c. search force)  -- slice-aggregate-read-holding
+    (λ c. search force)  -- slice-aggregate-read-holding-2
+    (λ c κs. search force)  -- read-holding-requires
+    (λ c κs. search force)  -- refusal-requires-2
+    (λ c. search force)  -- returns-2
+    (λ c κs. search force)  -- check-file-requires
+    (λ c κs. search force)  -- refusal-requires-3
+    (λ c. search force)  -- returns-3
+    (λ c. search force)  -- slice-aggregate-last-line
+    (λ c κs. let d = c .before .before .before .before in let r = d .before .before .before .before in let i = r .before .before .before in (enquired _ _ _ _ _ _ (i .before .is-enquired .ensures) (not-false _ (i .if1 .left)) (r .read-holding .ensures) (d .if2 .left) (search needs), faultless _ _ (c .before .before .before .check-file .ensures) (c .before .if3 .left)))  -- last-line-requires
+    (λ c. search force))  -- returns-4

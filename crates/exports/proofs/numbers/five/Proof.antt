@@ -1,0 +1,10 @@
+-- `exports::numbers::five` meets its contract.
+use Rattle.exports.proofs.NumbersLaws.{told}
+use Rattle.exports.proofs.numbers.five.Statement.{statement}
+use Rattle.exports.proofs.numbers.five.Tie as tie
+
+pub five-spec : {M : Type 1} → statement M
+five-spec =
+    tie.close
+    (tie.spec
+    (λ c. search told))  -- returns

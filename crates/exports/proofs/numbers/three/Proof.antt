@@ -1,0 +1,10 @@
+-- `exports::numbers::three` meets its contract.
+use Rattle.exports.proofs.NumbersLaws.{told}
+use Rattle.exports.proofs.numbers.three.Statement.{statement}
+use Rattle.exports.proofs.numbers.three.Tie as tie
+
+pub three-spec : {M : Type 1} → statement M
+three-spec =
+    tie.close
+    (tie.spec
+    (λ c. search told))  -- returns

@@ -1,0 +1,12 @@
+-- `exports::parts::muiwash_in_force` meets its contract.
+use Rattle.exports.proofs.NumbersLaws.{told}
+use Rattle.exports.proofs.parts.muiwash_in_force.Statement.{statement}
+use Rattle.exports.proofs.parts.muiwash_in_force.Tie as tie
+
+pub muiwash-in-force-spec : {M : Type 1} → statement M
+muiwash-in-force-spec =
+    tie.close
+    (tie.spec
+    (λ c κs. search told)  -- line-in-force-requires
+    (λ c κs. search told)  -- sided-requires
+    (λ c. search told))  -- returns

@@ -1,0 +1,62 @@
+-- What C finds in the arrays and buffers that it lent, by the meaning's definitions.
+use mathlib.Core.Path.{_≡_}
+use mathlib.Core.List.{List, [], _∷_}
+use Prim.Native.Nat.{ℕ}
+use Rattle.base.specs.Lists.{pick}
+use Rattle.meaning.specs.Load.{Six, apply, undoFile}
+use Rattle.meaning.specs.Enquiries.{Slice, first, second, Found}
+use Rattle.laws.specs.Buffers.{one-outcome}
+use Rattle.volume.specs.declared.check.Answer.{Answer}
+use Rattle.holding.specs.declared.check.Verdict.{Verdict}
+use Rattle.enquiries.specs.declared.finding.Finding.{Finding}
+
+-- the six numbers in their order
+abbrev pub sixList : Six → List ℕ
+sixList s = s .code ∷ s .line ∷ s .field ∷ s .inserts ∷ s .updates ∷ s .deletes ∷ []
+
+-- those of the code's answer
+abbrev pub answerList : Answer → List ℕ
+answerList a = a .code ∷ a .line ∷ a .field ∷ a .inserts ∷ a .updates ∷ a .deletes ∷ []
+
+-- the three of its verdict
+abbrev pub verdictList : Verdict → List ℕ
+verdictList v = v .code ∷ v .line ∷ v .field ∷ []
+
+-- an enquiry's numbers in their order: code, line, field, and the part's start and length
+abbrev pub partList : Found → List ℕ
+partList f = f .answer .code ∷ f .answer .line ∷ f .answer .field ∷ f .start ∷ f .size ∷ []
+
+-- the slice in which a part stands, as a number: 0 for the holding, 1 for the file
+abbrev pub sideOf : Slice → ℕ
+sideOf first = 0
+sideOf second = 1
+
+-- the same with the side, where a part stands in either of two slices
+abbrev pub sidedList : Found → List ℕ
+sidedList f = f .answer .code ∷ f .answer .line ∷ f .answer .field ∷ sideOf (f .slice) ∷ f .start ∷ f .size ∷ []
+
+-- those of the code's finding
+abbrev pub findingList : Finding → List ℕ
+findingList g = g .code ∷ g .line ∷ g .field ∷ g .start ∷ g .size ∷ []
+
+-- and with the side
+abbrev pub sidedFindingList : Finding → List ℕ
+sidedFindingList g = g .code ∷ g .line ∷ g .field ∷ pick (g .infile) 1 0 ∷ g .start ∷ g .size ∷ []
+
+-- what apply leaves in its output of `room` bytes and in its answer
+abbrev pub Applies : List ℕ → List ℕ → ℕ → List ℕ → List ℕ → Type 0
+Applies old file room out answer = (answer ≡ sixList (apply old file room .answer)) × (out ≡ apply old file room .output)
+
+-- what undo leaves in its output, in its work buffer of `space` bytes and in its answer
+abbrev pub Undoes : List ℕ → List ℕ → ℕ → ℕ → List ℕ → List ℕ → List ℕ → Type 0
+Undoes old file room space out work answer =
+    (answer ≡ sixList (undoFile old file room space .answer)) × (out ≡ undoFile old file room space .output) × (work ≡ undoFile old file room space .work)
+
+-- ---- any two outcomes are equal
+
+pub applies-one : (old file : List ℕ) (room : ℕ) (out put a b : List ℕ) → Applies old file room out a → Applies old file room put b → (a ≡ b) × (out ≡ put)
+applies-one old file room out put a b o p = (one-outcome _ a b (o .0) (p .0), one-outcome _ out put (o .1) (p .1))
+
+pub undoes-one : (old file : List ℕ) (room space : ℕ) (out put work left a b : List ℕ) → Undoes old file room space out work a → Undoes old file room space put left b
+    → (a ≡ b) × (out ≡ put) × (work ≡ left)
+undoes-one old file room space out put work left a b o p = (one-outcome _ a b (o .0) (p .0), one-outcome _ out put (o .1) (p .1), one-outcome _ work left (o .2) (p .2))

@@ -1,0 +1,57 @@
+"""A night in Python: the same as night.c. python3 night.py LIBRARY HOLDING CHANGE REFUSED"""
+import ctypes
+import sys
+
+muiwash = ctypes.CDLL(sys.argv[1])
+
+
+def lent(data):
+    """A pointer and a length."""
+    return ctypes.c_char_p(data), ctypes.c_size_t(len(data))
+
+
+def call(name, count, *arguments):
+    answer = (ctypes.c_uint64 * count)()
+    function = getattr(muiwash, name)
+    function.restype = None
+    function(*arguments, answer)
+    return list(answer)
+
+
+def apply(holding, file):
+    """The six numbers, and the new holding, empty on a refusal."""
+    out = ctypes.create_string_buffer(len(holding) + len(file) + 24576)
+    answer = call('muiwash_apply', 6, *lent(holding), *lent(file), out, ctypes.c_size_t(len(out)))
+    return answer, out.raw.rstrip(b'\0')
+
+
+def undo(holding, file):
+    out = ctypes.create_string_buffer(len(holding) + 2 * len(file) + 12288)
+    work = ctypes.create_string_buffer(len(holding) + len(file) + 24576)
+    answer = call('muiwash_undo', 6, *lent(holding), *lent(file), out, ctypes.c_size_t(len(out)), work, ctypes.c_size_t(len(work)))
+    return answer, out.raw.rstrip(b'\0')
+
+
+def show(what, numbers):
+    print(f'{what}: ' + ','.join(map(str, numbers)))
+
+
+holding, change, refused = (open(path, 'rb').read() for path in sys.argv[2:5])
+show('the holding', call('muiwash_check_holding', 3, *lent(holding)))
+answer, nothing = apply(holding, refused)
+show('refused', answer)
+print(f'bytes left in the output: {len(nothing)}')
+answer, taken = apply(holding, change)
+show('taken', answer)
+code, line, field, start, length = call('muiwash_find', 5, *lent(holding), ctypes.c_uint64(11), ctypes.c_uint64(40000102))
+print('street 40000102:', holding[start:start + length].decode())
+code, line, field, side, start, length = call('muiwash_in_force', 6, *lent(holding), *lent(change), ctypes.c_uint64(21), ctypes.c_uint64(130000001))
+print(f"BLPU 130000001, in force in the {('holding', 'file')[side]}:", (holding, change)[side][start:start + length].decode())
+code, line, field, start, length = call('muiwash_field', 5, *lent(holding), ctypes.c_uint64(2), ctypes.c_uint64(4))
+print('line 2, field 4:', holding[start:start + length].decode())
+answer, taken_back = undo(holding, change)
+show('its undo', answer)
+answer, back = apply(taken, taken_back)
+show('the undo, taken', answer)
+print('handed back:', 'the old holding, byte for byte' if back == holding else 'NOT the old holding')
+sys.exit(0 if back == holding else 1)
