@@ -1,0 +1,109 @@
+// Five nights forward and back. Each file is taken into the holding that the one before it left, and its undo is made against the holding
+// that it met; the undos are then handed in, last first, and each holding on the way back is compared byte for byte with the one that
+// stood there going forward. The undo of paper 01's worked example is printed whole.
+use libc::STDOUT_FILENO;
+use loader::apply::apply;
+use loader::undo::undo;
+use program::bare::bare_length;
+use program::input::read_file;
+use program::numbers::put_six;
+use samples::put_text;
+use volume::check::Answer;
+use volume::check::check_file;
+
+// The bytes of each buffer: a holding, a change file or an undo.
+const ROOM: usize = 16384;
+
+// The bytes of a change file's name.
+const NAME: usize = 5;
+
+fn say(words: &[u8]) {
+    io::write_all(STDOUT_FILENO, words);
+}
+
+// Six numbers, after what they are of.
+fn say_six(what: &[u8], a: Answer) {
+    let mut numbers = [0u8; 127];
+    let n = put_six(&mut numbers, a);
+    let end = text::lines::plain_end(&numbers[0..n], 0);
+    say(what);
+    say(&numbers[0..end]);
+}
+
+// What stands before the zeros of two buffers, compared.
+fn is_as_stood(a: &[u8], b: &[u8]) -> bool {
+    let n = bare_length(a);
+    let m = bare_length(b);
+    text::order::is_same(&a[0..n], &b[0..m])
+}
+
+// Takes the file of that name into the holding, and makes its undo against that holding.
+fn forward(name: &[u8], holding: &[u8], next: &mut [u8], undone: &mut [u8]) {
+    let mut file = [0u8; ROOM];
+    let mut work = [0u8; ROOM];
+    let m = read_file(name, &mut file).size;
+    let n = bare_length(holding);
+    say(name);
+    say_six(b" taken: ", apply(&holding[0..n], &file[..m], &mut *next));
+    let answer = undo(&holding[0..n], &file[..m], &mut *undone, &mut work);
+    say_six(b"; its undo: ", answer);
+    let k = bare_length(&*undone);
+    say_six(b"; the undo checked: ", check_file(&undone[0..k]));
+    say(b"\n");
+}
+
+// Hands the undo of the file of that name in to the holding, and says whether what comes of it is what stood before that file.
+fn back(name: &[u8], holding: &[u8], undone: &[u8], stood: &[u8], out: &mut [u8]) {
+    let n = bare_length(holding);
+    let m = bare_length(undone);
+    say(name);
+    say_six(
+        b" handed back: ",
+        apply(&holding[0..n], &undone[0..m], &mut *out),
+    );
+    if is_as_stood(&*out, stood) {
+        say(b" same\n");
+    } else {
+        say(b" other\n");
+    }
+}
+
+// The undo of the worked example, whole.
+fn worked() {
+    let mut holding = [0u8; ROOM];
+    let mut file = [0u8; ROOM];
+    let mut undone = [0u8; ROOM];
+    let mut work = [0u8; ROOM];
+    let n = read_file(b"worked/holding.csv", &mut holding).size;
+    let m = read_file(b"worked/change.csv", &mut file).size;
+    let answer = undo(&holding[..n], &file[..m], &mut undone, &mut work);
+    say_six(b"The undo of the worked example: ", answer);
+    say(b"\n");
+    let k = bare_length(&undone);
+    say(&undone[0..k]);
+}
+
+// The nights of these names, from the holding on, and back to it: `out` is left with what the first night's undo gives.
+fn nights(names: &[u8], holding: &[u8], out: &mut [u8]) {
+    if names.len() < NAME {
+        put_text(&mut *out, 0, holding);
+    } else {
+        let mut next = [0u8; ROOM];
+        let mut undone = [0u8; ROOM];
+        let mut home = [0u8; ROOM];
+        forward(&names[0..NAME], holding, &mut next, &mut undone);
+        nights(&names[NAME..], &next, &mut home);
+        back(&names[0..NAME], &home, &undone, holding, &mut *out);
+    }
+}
+
+fn main() {
+    let mut holding = [0u8; ROOM];
+    let mut home = [0u8; ROOM];
+    read_file(b"holding.csv", &mut holding);
+    nights(b"1.csv2.csv3.csv4.csv5.csv", &holding, &mut home);
+    if is_as_stood(&home, &holding) {
+        say(b"home\n");
+    }
+    worked();
+}
