@@ -10,8 +10,8 @@ const OPERATIONS: [Operation; 16] = [
     Operation::Undo, Operation::Undo, Operation::CheckFile, Operation::CheckFile, Operation::CheckHolding, Operation::Find,
     Operation::InForce, Operation::InForce, Operation::Field,
 ];
-/// One call in so many is at the limits of 4,096 body lines and 8,192 records.
-const LARGE: usize = 1500;
+/// One call in so many is large: at the limits of 4,096 body lines and 8,192 records, or where line numbers get longer.
+const LARGE: usize = 300;
 const FAR: [u64; 8] = [0, 1 << 8, 1 << 32, 1 << 63, 100_000_000, 1_000_000_000_000, u64::MAX, u64::MAX - 1];
 
 pub fn call(random: &mut Random) -> Call {
@@ -42,7 +42,7 @@ fn night(random: &mut Random) -> (Vec<u8>, Vec<u8>) {
     steps(random, &mut held, wanted, b"IIIIU", usize::MAX);
     let holding = numbered(&held);
     let wanted = random.below(most + 1);
-    let bad = random.pick(&[8, 40, 200, 1000]);
+    let bad = random.pick(&[10, 100, 1000, usize::MAX]);
     let body = steps(random, &mut held, wanted, b"IIUUD", bad);
     let file = file(random, &body);
     match load(&holding, &file, usize::MAX) {
@@ -55,19 +55,28 @@ fn street(change: char, order: usize, usrn: usize) -> Vec<u8> {
     format!("11,\"{change}\",{order},{usrn},1,9,,,,2001-01-01,2001-01-01,2001-01-01,,0.00,0.00,1.00,1.00").into_bytes()
 }
 
-/// A full holding, or one short of it or one beyond, and a short file; or a short holding and a file of about 4,096 lines.
 fn large_night(random: &mut Random) -> (Vec<u8>, Vec<u8>) {
-    let about = [0, 0, 1, 2];
-    if random.one_in(2) {
-        let count = 8191 + random.pick(&about);
-        let holding: Vec<_> = (1..=count).map(|number| street('I', number, number)).collect();
-        let first = random.pick(&['I', 'U', 'D']);
-        let usrn = if first == 'I' { count + 1 } else { 1 + random.below(count) };
-        let body = [street(first, 1, usrn), street('I', 2, count + 2), street('I', 3, count + 3)];
-        let body = &body[..1 + random.below(3)];
-        return (joined(&holding), file(random, body));
+    match random.below(3) {
+        0 => full_holding(random),
+        1 => long_file(random),
+        _ => longer_numbers(random),
     }
-    let count = 4095 + random.pick(&about);
+}
+
+/// 8,191 to 8,193 streets, and a short file.
+fn full_holding(random: &mut Random) -> (Vec<u8>, Vec<u8>) {
+    let count = random.pick(&[8191, 8192, 8192, 8193]);
+    let holding: Vec<_> = (1..=count).map(|number| street('I', number, number)).collect();
+    let first = random.pick(&['I', 'U', 'D']);
+    let usrn = if first == 'I' { count + 1 } else { 1 + random.below(count) };
+    let body = [street(first, 1, usrn), street('I', 2, count + 2), street('I', 3, count + 3)];
+    let body = &body[..1 + random.below(3)];
+    (joined(&holding), file(random, body))
+}
+
+/// A short holding, and a file of 4,095 to 4,097 body lines, whose last may be out of place.
+fn long_file(random: &mut Random) -> (Vec<u8>, Vec<u8>) {
+    let count = random.pick(&[4095, 4096, 4097]);
     let mut body: Vec<_> = (1..=count).map(|order| street(if order % 2 == 1 { 'I' } else { 'D' }, order, 7)).collect();
     if random.one_in(3) {
         let kind = random.pick(&[10, 12, 21, 29, 99]);
@@ -75,6 +84,21 @@ fn large_night(random: &mut Random) -> (Vec<u8>, Vec<u8>) {
     }
     let holding = if random.one_in(2) { Vec::new() } else { joined(&[street('I', 1, 5)]) };
     (holding, file(random, &body))
+}
+
+/// About 10, 100 or 1,000 streets, and steps among them: the numbers of later lines get a digit more or less.
+fn longer_numbers(random: &mut Random) -> (Vec<u8>, Vec<u8>) {
+    let count = random.pick(&[10, 100, 1000]) - 3 + random.below(5);
+    let holding: Vec<_> = (1..=count).map(|number| street('I', number, 2 * number)).collect();
+    let steps = random.below(12);
+    // Held streets have even numbers; each step has a street of its own.
+    let body: Vec<_> = (1..=steps)
+        .map(|order| match random.pick(&['I', 'U', 'D']) {
+            'I' => street('I', order, 2 * (order * count / 13) + 1),
+            change => street(change, order, 2 * (order * count / 13).max(order)),
+        })
+        .collect();
+    (joined(&holding), file(random, &body))
 }
 
 /// A length at, one below, one above or somewhere about what is needed.

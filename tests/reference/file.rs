@@ -1,7 +1,7 @@
 //! The check of a whole change file.
 use super::forms::number;
 use super::lines::{lines, Line};
-use super::records::{named, record, wrong, Record};
+use super::records::{record, wrong, Record, Sound};
 use super::table::{kind_of, HELD_KINDS};
 use super::{fault, Fault};
 
@@ -77,7 +77,7 @@ fn take(file: &mut File, expected: Expected, at: usize, line: &Line) -> Result<E
         }
         file.body.push(BodyLine { record, start: line.start, length: line.text.len() });
     }
-    if kind == 99 && number(named(kind, line.text, "RECORD_COUNT")) != file.body.len() as u64 {
+    if kind == 99 && Sound::new(kind, line.text).value("RECORD_COUNT") != file.body.len() as u64 {
         return fault(8, at, 3);
     }
     let past = line.start + line.text.len() + 2;

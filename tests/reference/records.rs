@@ -2,6 +2,7 @@
 use super::forms::{number, quoted};
 use super::lines::fields;
 use super::table::{columns, place};
+use std::ops::Range;
 
 /// Ordered by kind, then by the numbers, then by the text.
 #[derive(Debug, Clone, PartialEq, Eq, PartialOrd, Ord)]
@@ -47,35 +48,62 @@ pub fn wrong(kind: u64, text: &[u8]) -> Option<(u64, usize)> {
     (!start_date.is_empty() && !end_date.is_empty() && end_date < start_date).then_some((6, end + 1))
 }
 
-/// The named field of a sound line.
-pub fn named<'a>(kind: u64, text: &'a [u8], name: &str) -> &'a [u8] {
-    let at = place(kind, name).expect("a field of this kind");
-    &text[fields(text).expect("even quotes")[at].clone()]
+/// A sound line with its fields found.
+pub struct Sound<'a> {
+    kind: u64,
+    text: &'a [u8],
+    parts: Vec<Range<usize>>,
+}
+
+impl<'a> Sound<'a> {
+    pub fn new(kind: u64, text: &'a [u8]) -> Sound<'a> {
+        Sound { kind, text, parts: fields(text).expect("a sound line has even quotes") }
+    }
+
+    fn named(&self, name: &str) -> &'a [u8] {
+        let at = place(self.kind, name).expect("a field of this kind");
+        &self.text[self.parts[at].clone()]
+    }
+
+    pub fn value(&self, name: &str) -> u64 {
+        number(self.named(name))
+    }
+
+    fn words(&self, name: &str) -> Vec<u8> {
+        quoted(self.named(name)).expect("a text").to_vec()
+    }
+
+    fn key(&self) -> Key {
+        let kind = self.kind;
+        match kind {
+            11 => Key::numbered(11, self.value("USRN")),
+            12 => Key { kind, numbers: ["USRN", "XREF_TYPE", "XREF_ID"].map(|name| self.value(name)).to_vec(), text: Vec::new() },
+            21 => Key::numbered(21, self.value("UPRN")),
+            23 => Key { kind, numbers: Vec::new(), text: self.words("XREF_KEY") },
+            _ => Key { kind, numbers: Vec::new(), text: self.words("LPI_KEY") },
+        }
+    }
+
+    fn refers_to(&self) -> Vec<Key> {
+        let street = || Key::numbered(11, self.value("USRN"));
+        let blpu = |name| Key::numbered(21, self.value(name));
+        match self.kind {
+            11 => vec![],
+            12 => vec![street()],
+            21 if self.named("PARENT_UPRN").is_empty() => vec![],
+            21 => vec![blpu("PARENT_UPRN")],
+            23 => vec![blpu("UPRN")],
+            _ => vec![blpu("UPRN"), street()],
+        }
+    }
 }
 
 /// What a sound line of a held kind says.
 pub fn record(kind: u64, text: &[u8]) -> Record {
-    let value = |name| number(named(kind, text, name));
-    let words = |name| quoted(named(kind, text, name)).expect("a text").to_vec();
-    let key = match kind {
-        11 => Key::numbered(11, value("USRN")),
-        12 => Key { kind, numbers: vec![value("USRN"), value("XREF_TYPE"), value("XREF_ID")], text: Vec::new() },
-        21 => Key::numbered(21, value("UPRN")),
-        23 => Key { kind, numbers: Vec::new(), text: words("XREF_KEY") },
-        _ => Key { kind, numbers: Vec::new(), text: words("LPI_KEY") },
-    };
-    let refers_to = match kind {
-        11 => vec![],
-        12 => vec![Key::numbered(11, value("USRN"))],
-        21 if named(kind, text, "PARENT_UPRN").is_empty() => vec![],
-        21 => vec![Key::numbered(21, value("PARENT_UPRN"))],
-        23 => vec![Key::numbered(21, value("UPRN"))],
-        _ => vec![Key::numbered(21, value("UPRN")), Key::numbered(11, value("USRN"))],
-    };
-    let third = fields(text).expect("even quotes")[2].end;
-    let change = quoted(named(kind, text, "CHANGE_TYPE")).expect("a text")[0];
-    let order = named(kind, text, "PRO_ORDER").to_vec();
-    Record { key, change, order, content: text[third + 1..].to_vec(), refers_to }
+    let line = Sound::new(kind, text);
+    let content = text[line.parts[2].end + 1..].to_vec();
+    let order = line.named("PRO_ORDER").to_vec();
+    Record { key: line.key(), change: line.words("CHANGE_TYPE")[0], order, content, refers_to: line.refers_to() }
 }
 
 /// A line as holdings and undos carry it, with its CR LF.
