@@ -69,18 +69,27 @@ fn full_holding(random: &mut Random) -> (Vec<u8>, Vec<u8>) {
     let holding: Vec<_> = (1..=count).map(|number| street('I', number, number)).collect();
     let first = random.pick(&['I', 'U', 'D']);
     let usrn = if first == 'I' { count + 1 } else { 1 + random.below(count) };
-    let body = [street(first, 1, usrn), street('I', 2, count + 2), street('I', 3, count + 3)];
+    let mut body = [street(first, 1, usrn), street('I', 2, count + 2), street('I', 3, count + 3)];
+    // A held key or an unmet reference besides: 10 comes before 16, and 16 before 12.
+    if random.one_in(2) {
+        let kind = random.pick(&[11, 11, 11, 21, 23, 24]);
+        body[0] = any_line(random, kind, 1);
+    }
     let body = &body[..1 + random.below(3)];
     (joined(&holding), file(random, body))
 }
 
-/// A short holding, and a file of 4,095 to 4,097 body lines, whose last may be out of place.
+/// A short holding, and a file of 4,095 to 4,097 body lines, whose last may be out of place or faulty.
 fn long_file(random: &mut Random) -> (Vec<u8>, Vec<u8>) {
     let count = random.pick(&[4095, 4096, 4097]);
     let mut body: Vec<_> = (1..=count).map(|order| street(if order % 2 == 1 { 'I' } else { 'D' }, order, 7)).collect();
     if random.one_in(3) {
         let kind = random.pick(&[10, 12, 21, 29, 99]);
         body[count - 1] = any_line(random, kind, count);
+    }
+    // A wrong field count besides: 9 comes before 4.
+    if random.one_in(3) {
+        body[count - 1].push(b',');
     }
     let holding = if random.one_in(2) { Vec::new() } else { joined(&[street('I', 1, 5)]) };
     (holding, file(random, &body))
