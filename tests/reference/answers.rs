@@ -1,0 +1,85 @@
+//! What each operation answers, and what it leaves in the buffers it is lent.
+use super::enquiries::{field, find, in_force, Part};
+use super::load::load;
+use super::{file, holding, Fault};
+
+#[derive(Debug, Clone, Copy, PartialEq, Eq)]
+#[repr(u8)]
+pub enum Operation {
+    CheckFile,
+    CheckHolding,
+    Apply,
+    Undo,
+    Find,
+    InForce,
+    Field,
+}
+
+/// One call. `first` and `second` are kind and number, or line and field; a field is asked of `holding`.
+#[derive(Clone)]
+pub struct Call {
+    pub operation: Operation,
+    pub holding: Vec<u8>,
+    pub file: Vec<u8>,
+    pub out: usize,
+    pub work: usize,
+    pub first: u64,
+    pub second: u64,
+}
+
+#[derive(Debug, PartialEq, Eq)]
+pub struct Answer {
+    pub numbers: Vec<u64>,
+    pub out: Vec<u8>,
+    pub work: Vec<u8>,
+}
+
+impl Operation {
+    pub fn numbers(self) -> usize {
+        match self {
+            Operation::CheckHolding => 3,
+            Operation::Find | Operation::Field => 5,
+            _ => 6,
+        }
+    }
+}
+
+pub fn answer(call: &Call) -> Answer {
+    let (old, change) = (&call.holding, &call.file);
+    let mut out = Vec::new();
+    let rest = match call.operation {
+        Operation::CheckFile => file::check(change).map(|file| file.counts().to_vec()),
+        Operation::CheckHolding => holding::check(old).map(|_| vec![]),
+        Operation::Apply => load(old, change, call.out).map(|loaded| {
+            out = loaded.holding;
+            loaded.counts.to_vec()
+        }),
+        Operation::Undo => load(old, change, call.work).and_then(|loaded| {
+            if loaded.undo.len() > call.out {
+                return super::fault(17, 0, 0);
+            }
+            out = loaded.undo;
+            Ok(loaded.counts.to_vec())
+        }),
+        Operation::Find => find(old, call.first, call.second).map(place),
+        Operation::InForce => in_force(old, change, call.first, call.second)
+            .map(|part| [vec![u64::from(part.in_file)], place(part)].concat()),
+        Operation::Field => field(old, call.first, call.second).map(place),
+    };
+    out.resize(call.out, 0);
+    Answer { numbers: numbers(call.operation, rest), out, work: vec![0; call.work] }
+}
+
+fn place(part: Part) -> Vec<u64> {
+    vec![part.start as u64, part.length as u64]
+}
+
+/// Code, line and field, then the rest; on a refusal zeros.
+fn numbers(operation: Operation, rest: Result<Vec<u64>, Fault>) -> Vec<u64> {
+    let mut all = match rest {
+        Ok(rest) => [vec![0; 3], rest].concat(),
+        Err(fault) => vec![fault.code, fault.line, fault.field],
+    };
+    all.resize(operation.numbers(), 0);
+    all
+}
