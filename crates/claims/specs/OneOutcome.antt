@@ -5,19 +5,16 @@ use mathlib.Core.Bool.{Bool}
 use mathlib.Core.List.{List}
 use Prim.Native.Nat.{ℕ}
 use denote.Ref.{RefT}
-use lib.ListN.{length}
 use Rattle.meaning.specs.Load.{checkFile, checkHolding}
 use Rattle.meaning.specs.Enquiries.{Found, find, inForce, fieldOf}
-use Rattle.meaning.specs.Program.{program}
 use Rattle.laws.specs.Buffers.{one-outcome}
-use Rattle.text.specs.Front.{inFront}
 use Rattle.volume.specs.Answer.{answerOf}
 use Rattle.volume.specs.declared.check.Answer.{Answer}
 use Rattle.holding.specs.Verdict.{verdictOf}
 use Rattle.holding.specs.declared.check.Verdict.{Verdict}
 use Rattle.enquiries.specs.Handed.{Handed, lentAs, HandedOf}
 use Rattle.loader.specs.Outcome.{Outcome, UndoOutcome}
-use Rattle.program.specs.Printed.{inputOf}
+use Rattle.program.specs.Printed.{PrintOutcome}
 
 -- check a file
 pub check-file-once : (file : List ℕ) (r s : Answer) → r ≡ answerOf (checkFile file) → s ≡ answerOf (checkFile file) → r ≡ s
@@ -60,11 +57,6 @@ in-force-once s t r p kind n a b h k = let f = inForce (s .now) (t .now) kind n 
 -- give one field of a line
 pub field-once : (s r p : RefT (List ℕ)) (line n : ℕ) (a b : List ℕ) → Handed (fieldOf (s .now) line n) s r a → Handed (fieldOf (s .now) line n) s p b → SameHanded a b r p
 field-once s r p line n a b h k = handed-once (fieldOf (s .now) line n) s r p a b h k
-
--- what print promises: how many bytes it left in the front of its buffer, and the buffer afterwards
-abbrev pub PrintOutcome : Bool → List ℕ → Bool → List ℕ → List ℕ → ℕ → List ℕ → Type 0
-PrintOutcome held holding sent change before n printed =
-    (n ≡ length (program (inputOf held holding) (inputOf sent change))) × (printed ≡ inFront (program (inputOf held holding) (inputOf sent change)) before)
 
 -- the program's print
 pub print-once : (held sent : Bool) (holding change before : List ℕ) (n m : ℕ) (x y : List ℕ)

@@ -12,7 +12,7 @@ use Rattle.text.specs.Front.{inFront}
 use Rattle.volume.specs.Answer.{answerOf}
 use Rattle.volume.specs.declared.check.Answer.{Answer}
 use Rattle.loader.specs.Outcome.{Outcome, UndoOutcome}
-use Rattle.claims.specs.OneOutcome.{PrintOutcome}
+use Rattle.program.specs.Printed.{PrintOutcome}
 
 -- the lines marked [p]: each is answered as the paper says
 pub p-table : T (all (λ c. eqb (c .answer) (c .wanted)) claims)

@@ -26,22 +26,13 @@ use Rattle.layout.specs.declared.check.Fault.{Fault}
 use Rattle.layout.specs.declared.kinds.Kind as code
 use Rattle.layout.specs.declared.kinds.KindFound.{KindFound}
 use Rattle.layout.specs.declared.kinds.KindFound.the-variants.{Known, Unknown}
-use Rattle.layout.specs.declared.kinds.Role.{Role}
-use Rattle.layout.specs.declared.records.Layout.{Layout}
-use Rattle.layout.specs.Meant.{kindMeant, kindFound, roleMeant}
-use Rattle.layout.specs.Rows.{bare, laidOut}
+use Rattle.layout.specs.Meant.{kindMeant, kindFound}
+use Rattle.layout.specs.Rows.{bare}
 use Rattle.layout.specs.Check.{lowestBad, told}
-use Rattle.layout.proofs.KindLaws.{role-is}
 use Rattle.layout.proofs.CheckLaws.{forms-is}
 use Rattle.holding.specs.Held.{heldKindAs, heldAs, recordAs}
 
--- ---- a held kind, and the line's own number
-
--- a kind is held by the role that the table names
-pub role-told : (k : Kind) (l : Layout) (r : Role) (b : Bool) → l ≡ laidOut k → l .role ≡ r → b ≡ isHeld (roleMeant r) → b ≡ isHeld (role k)
-role-told k l r b e q h = rw (← role-is k l e, q) h
-
-pub ruleset roles = (needs, role-told)
+-- ---- the line's own number
 
 -- what was written is the number
 pub number-told : (f d o : List ℕ) (n w : ℕ) (b : Bool) → w ≡ width n → d ≡ inFront (dec n) o → b ≡ same f (take (w - 0) d) → b ≡ same f (dec n)

@@ -2,33 +2,16 @@
 ghost use mathlib.Core.Path.{_≡_};
 ghost use Rattle.base.specs.Lists.{same};
 ghost use Rattle.theory.specs.Decimal.{dec};
-ghost use Rattle.meaning.specs.Table.{role};
-ghost use Rattle.meaning.specs.Holding.{isHeld, heldTest};
+ghost use Rattle.meaning.specs.Holding.{heldTest};
 ghost use Rattle.layout.specs.Meant.{kindMeant, kindFound};
 ghost use Rattle.holding.specs.Held.{heldAs};
 use layout::check::check_line;
 use layout::check::kind_at;
 use layout::kinds::Kind;
 use layout::kinds::KindFound;
-use layout::kinds::Role;
-use layout::rules::layout;
+use layout::rules::is_held;
 use text::fields::field;
-use text::fields::identifier_end;
 use text::order::is_same;
-
-// Whether a kind is held.
-fn is_held(kind: Kind) -> bool
-    ensures { λ r. ⌜ r ≡ isHeld (role (kindMeant kind)) ⌝ }
-{
-    let l = layout(kind);
-    let role = l.role;
-    match role {
-        Role::HeaderLine => false,
-        Role::BodyLine => true,
-        Role::MetadataLine => false,
-        Role::TrailerLine => false,
-    }
-}
 
 // Whether a field is the number n without leading zeros.
 fn is_number(f: &[u8], n: usize) -> bool

@@ -18,18 +18,18 @@ use Rattle.theory.specs.Lex.{cmpN, andThen, lex, Is}
 use Rattle.theory.specs.LexLaws.{is-cmpN, cmpN-is}
 use Rattle.theory.specs.Decimal.{value}
 use Rattle.meaning.specs.Lines.{fieldsOf}
-use Rattle.meaning.specs.Forms.{Form, isEmpty}
+use Rattle.meaning.specs.Forms.{isEmpty}
 use Rattle.meaning.specs.Table.{Kind, Field, kinds, ident, fields, keyNames, refersTo, placeFrom, named, formNamed}
 use Rattle.meaning.specs.Records.{ownFields, emptyNamed}
 use Rattle.laws.specs.Kinds.{every}
 use Rattle.layout.specs.declared.records.Layout.{Layout}
 use Rattle.layout.specs.Rows.{bare, noRow, rowOf, placesOf, padded, targets, sources, laidOut}
 use Rattle.layout.proofs.CheckLaws.{place-from, named-at}
-use Rattle.keys.specs.Numbers.{numberOf, numberNamed, numbersNamed, keyNumbers, refKey, refFirst, refAt}
+use Rattle.keys.specs.Numbers.{numberNamed, numbersNamed, keyNumbers, refKey, refFirst, refAt}
 use Rattle.keys.specs.DigitLaws.{lex-one}
 use Rattle.keys.specs.KeyLaws.{rows-few}
 use Rattle.keys.specs.Places.{fieldAt, numberAt, emptyAt}
-use Rattle.keys.proofs.PlaceLaws.{empty-none, empty-there, number-there}
+use Rattle.keys.proofs.PlaceLaws.{empty-none}
 
 -- ---- two keys
 
@@ -249,14 +249,3 @@ module _ (k : Kind) (c : List ℕ) (j : ℕ) (l : Layout) (e : l ≡ laidOut k) 
   -- where there is no such row there is no field
   pub ref-low : getD (l .by) j 0 < 4 → none ≡ refAt k c j
   ref-low p = ref-none true (empty-none k c (getD (l .by) j 0) p) refl
-
-  module _ (m : Form) (f : List ℕ) (p : 4 ≤ getD (l .by) j 0) (u : m ≡ rowOf k (getD (l .by) j 0 - 1) .0) (v : f ≡ getD (fieldsOf c) (getD (l .by) j 0 - 4) []) (b : Bool) (q : b ≡ isEmpty m f) where
-    -- else the field there says whether
-    pub ref-empty : b ≡ true → none ≡ refAt k c j
-    ref-empty t = ref-none b (empty-there k c (getD (l .by) j 0) m f p u v b q) t
-
-    -- and to what
-    pub ref-filled : (n : ℕ) → b ≡ false → n ≡ numberOf m f → some (getD (l .to) j 0 ∷ n ∷ 0 ∷ 0 ∷ []) ≡ refAt k c j
-    ref-filled n t e = ref-some b (empty-there k c (getD (l .by) j 0) m f p u v b q) n t (number-there k c (getD (l .by) j 0) m f p u v n e)
-
-pub ruleset referring = (needs, ref-beyond, ref-low, ref-empty, ref-filled)

@@ -7,13 +7,10 @@ ghost use mathlib.Core.Path.{_≡_};
 ghost use Rattle.theory.specs.Lex.{lex};
 ghost use Rattle.text.specs.Order.{triOf};
 ghost use Rattle.layout.specs.Meant.{kindMeant};
-ghost use Rattle.keys.specs.Numbers.{keyNumbers, refAt, keyList, referredAs};
-use crate::places::form_at;
+ghost use Rattle.keys.specs.Numbers.{keyNumbers, keyList};
 use crate::places::number_at;
-use crate::places::number_of;
 use layout::kinds::Kind;
 use layout::rules::layout;
-use text::fields::field;
 use text::order::Order;
 use text::order::numbers;
 
@@ -64,31 +61,4 @@ pub fn key_of(kind: Kind, content: &[u8]) -> Key
         second: second,
         third: third,
     }
-}
-
-// What the table's row j, counted from 0, makes a record refer to; nothing where there is no such row.
-pub fn reference(kind: Kind, content: &[u8], j: usize) -> Referred
-    ensures { λ r. ⌜ referredAs r ≡ refAt (kindMeant kind) (now (content .entry)) j ⌝ }
-{
-    if 1 < j {
-        return Referred::Nothing;
-    }
-    let l = layout(kind);
-    let places = l.by;
-    let place = places[j];
-    if place < 4 {
-        return Referred::Nothing;
-    }
-    let form = form_at(kind, place - 1);
-    let f = field(content, place - 4);
-    if form::is_empty(form, f) {
-        return Referred::Nothing;
-    }
-    let kinds = l.to;
-    Referred::To(Key {
-        kind: kinds[j],
-        first: number_of(form, f),
-        second: 0,
-        third: 0,
-    })
 }

@@ -1,7 +1,7 @@
--- Demand 3: the undo of a taken file is a sound file, is itself taken and gives the old holding back; and so for any run of files, last first.
+-- Demand 3 for one file: its undo is a sound file, is itself taken and gives the old holding back.
 use mathlib.Core.Path.{_≡_, refl, sym, ap, _∙_, subst}
 use mathlib.Core.Bool.{Bool, true, false}
-use mathlib.Core.List.{List, [], _∷_, _++_, reverse}
+use mathlib.Core.List.{List, [], _∷_, _++_}
 use Prim.Native.Nat.{ℕ, _+_, _≤_}
 use native.Mathlib.Omega.{arith}
 use lib.Dec.{T, leb, leb→le}
@@ -9,9 +9,9 @@ use lib.ListN.{length}
 use Rattle.base.specs.Lists.{pick, zeros}
 use Rattle.theory.specs.Fold.{sum}
 use Rattle.theory.specs.Step.{Op, ins, upd, del, Change, after, inv, back}
-use Rattle.theory.specs.Trail.{final, Each, trace, undo}
+use Rattle.theory.specs.Trail.{final, undo}
 use Rattle.theory.specs.Answer.{file, Answer, took, refused, count, isOp}
-use Rattle.theory.specs.TrailLaws.{ok*, same*, trace*, length-undo}
+use Rattle.theory.specs.TrailLaws.{length-undo}
 use Rattle.theory.specs.RunLaws.{fine-undo}
 use Rattle.meaning.specs.Records.{Rec, keyed, changeTexts}
 use Rattle.meaning.specs.File.{Frame, readFile, writeFile}
@@ -25,7 +25,7 @@ use Rattle.laws.specs.FileRefusals.{among}
 use Rattle.laws.specs.LoadRefusals.{loadCodes, AnswerIn, load-in}
 use Rattle.laws.specs.FileReadBack.{suits, file-reads, file-says}
 use Rattle.laws.specs.Takes.{Takes, load-took, taken, TookSays, took-takes, undo-takes, met-old}
-use Rattle.laws.specs.Demand2.{allowed-takes, done-allowed, takes-more}
+use Rattle.laws.specs.Demand2.{takes-more}
 
 -- ---- the undo's bytes
 
@@ -145,81 +145,3 @@ undo-only-17 room out space old b new a h =
     go : (c : Bool) (x y : Undone) → pick c x y .answer .code ≡ pick c (x .answer .code) (y .answer .code)
     go true x y = refl
     go false x y = refl
-
--- ---- a run of files
-
--- a file, with the length of its buffer before it
-abbrev pub Turn : Type 0
-Turn = ℕ × List ℕ
-
--- the holding after an answer: the new one, or the old where the file is refused
-unfoldable pub newOf : List ℕ → Answer → List ℕ
-newOf old (took new i u d) = new
-newOf old (refused c l f) = old
-
--- the holding after a turn
-unfoldable pub turned : List ℕ → Turn → List ℕ
-turned old t = newOf old (load (t .0) old (t .1))
-
--- a turn is taken
-unfoldable pub TurnTaken : List ℕ → Turn → Type 0
-TurnTaken old t = Takes (t .0) old (t .1) (turned old t)
-
--- the turn back: the same length, and the undo
-unfoldable pub turnBack : List ℕ → Turn → Turn
-turnBack old t = (t .0, undoBytes old (t .1))
-
-turned-is : (old : List ℕ) (t : Turn) (new : List ℕ) → Takes (t .0) old (t .1) new → turned old t ≡ new
-unfolding turned newOf
-turned-is old t new a = rw (load-took (t .0) old (t .1) new a)
-
-back-same : (old : List ℕ) (t : Turn) → Unit {0} → TurnTaken old t → turned (turned old t) (turnBack old t) ≡ old
-unfolding TurnTaken turnBack
-back-same old t i a = turned-is (turned old t) (turnBack old t) old (undo-takes (t .0) old (t .1) (turned old t) a)
-
-back-ok : (old : List ℕ) (t : Turn) → Unit {0} → TurnTaken old t → TurnTaken (turned old t) (turnBack old t)
-unfolding TurnTaken turnBack
-back-ok old t i a = rw (back-same old t i a) (undo-takes (t .0) old (t .1) (turned old t) a)
-
--- ---- the same by the answers alone
-
--- a file and its buffer are taken: apply answers 0
-abbrev pub Done : List ℕ → Turn → Type 0
-Done old t = apply old (t .1) (t .0) .answer .code ≡ 0
-
-done-taken : (old : List ℕ) (t : Turn) → Done old t → TurnTaken old t
-unfolding TurnTaken
-done-taken old t e =
-    let a = allowed-takes old (t .1) (t .0) (done-allowed old (t .1) (t .0) e) in
-    subst (Takes (t .0) old (t .1)) (sym (turned-is old t _ a)) a
-
-taken-done : (old : List ℕ) (t : Turn) → TurnTaken old t → Done old t
-unfolding TurnTaken
-taken-done old t a = ap (λ x. x .answer .code) (taken (t .0) old (t .1) (turned old t) a)
-
-each-taken : (old : List ℕ) (fs : List Turn) → Each turned Done old fs → Each turned TurnTaken old fs
-each-taken old [] d = tt
-each-taken old (t ∷ fs) d = (done-taken old t (d .0), each-taken (turned old t) fs (d .1))
-
-each-done : (old : List ℕ) (fs : List Turn) → Each turned TurnTaken old fs → Each turned Done old fs
-each-done old [] d = tt
-each-done old (t ∷ fs) d = (taken-done old t (d .0), each-done (turned old t) fs (d .1))
-
--- where apply answers 0 its output is the holding after the turn, then zeros
-pub done-output : (old : List ℕ) (t : Turn) → Done old t → apply old (t .1) (t .0) .output ≡ filled (t .0) (turned old t)
-unfolding TurnTaken
-done-output old t e = ap (λ x. x .output) (taken (t .0) old (t .1) (turned old t) (done-taken old t e))
-
--- demand 3: any run of files that are taken one after another; their undos, handed in last first with buffers as long as those used going forward, are all
--- taken, give back the first holding byte for byte, and pass through the same holdings backwards
-pub demand-3 : (old : List ℕ) (fs : List Turn) → Each turned Done old fs
-    → Each turned Done (final turned old fs) (undo turned turnBack old fs)
-    × (final turned (final turned old fs) (undo turned turnBack old fs) ≡ old)
-    × (trace turned (final turned old fs) (undo turned turnBack old fs) ≡ reverse (trace turned old fs))
-demand-3 old fs d =
-    let t = each-taken old fs d in
-    let keeps : (s : List ℕ) (c : Turn) → Unit {0} → TurnTaken s c → Unit {0} = λ s c i a. tt in (
-      each-done (final turned old fs) (undo turned turnBack old fs) (ok* turned turnBack TurnTaken (λ b. Unit {0}) keeps back-ok back-same old fs tt t),
-      same* turned turnBack TurnTaken (λ b. Unit {0}) keeps back-ok back-same old fs tt t,
-      trace* turned turnBack TurnTaken (λ b. Unit {0}) keeps back-ok back-same old fs tt t,
-    )

@@ -18,9 +18,11 @@ use Rattle.theory.specs.Decimal.{value, valueF}
 use Rattle.meaning.specs.Forms.{isDigit}
 use Rattle.meaning.specs.Lines.{identifier}
 use Rattle.meaning.specs.Table.{Kind, kinds, ident, Role, headerLine, bodyLine, metadataLine, trailerLine, role, kindAmong, kindOf, numberedAmong}
+use Rattle.meaning.specs.Holding.{isHeld}
 use Rattle.laws.specs.Kinds.{every}
 use Rattle.laws.specs.Body.{kind-out}
 use Rattle.text.proofs.FieldLaws.{identifier-part}
+use Rattle.layout.specs.declared.kinds.Role as code
 use Rattle.layout.specs.declared.records.Layout.{Layout}
 use Rattle.layout.specs.Meant.{roleMeant, roleNamed}
 use Rattle.layout.specs.Rows.{laidOut}
@@ -110,3 +112,9 @@ role-named trailerLine = refl
 pub role-is : (k : Kind) (l : Layout) → l ≡ laidOut k → roleMeant (l .role) ≡ role k
 unfolding laidOut
 role-is k l e = rw e (role-named (role k))
+
+-- a kind is held by the role that the table names
+pub role-told : (k : Kind) (l : Layout) (r : code.Role) (b : Bool) → l ≡ laidOut k → l .role ≡ r → b ≡ isHeld (roleMeant r) → b ≡ isHeld (role k)
+role-told k l r b e q h = rw (← role-is k l e, q) h
+
+pub ruleset roles = (needs, role-told)

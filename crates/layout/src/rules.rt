@@ -2,12 +2,14 @@
 ghost use mathlib.Core.Path.{_≡_};
 ghost use Prim.Native.Nat.{_<_};
 ghost use lib.ListN.{length};
-ghost use Rattle.meaning.specs.Table.{fields, kinds, numberedAmong};
+ghost use Rattle.meaning.specs.Table.{role, fields, kinds, numberedAmong};
+ghost use Rattle.meaning.specs.Holding.{isHeld};
 ghost use Rattle.form.specs.Meant.{meant};
 ghost use Rattle.layout.specs.Meant.{kindMeant, kindFound};
 ghost use Rattle.layout.specs.Rows.{laidOut, rowOf, decoded, formDecoded, filledDecoded};
 use crate::kinds::Kind;
 use crate::kinds::KindFound;
+use crate::kinds::Role;
 use crate::records::AppXref;
 use crate::records::Blpu;
 use crate::records::Header;
@@ -32,6 +34,20 @@ pub fn layout(kind: Kind) -> Layout
         Kind::Lpi => Lpi::LAYOUT,
         Kind::Metadata => Metadata::LAYOUT,
         Kind::Trailer => Trailer::LAYOUT,
+    }
+}
+
+// Whether a kind is held.
+pub fn is_held(kind: Kind) -> bool
+    ensures { λ r. ⌜ r ≡ isHeld (role (kindMeant kind)) ⌝ }
+{
+    let l = layout(kind);
+    let role = l.role;
+    match role {
+        Role::HeaderLine => false,
+        Role::BodyLine => true,
+        Role::MetadataLine => false,
+        Role::TrailerLine => false,
     }
 }
 

@@ -4,9 +4,9 @@ ghost use Prim.Native.Nat.{_≤_};
 ghost use lib.ListN.{length};
 ghost use Rattle.io.specs.Counts.{Counts};
 ghost use Rattle.meaning.specs.Load.{six, load};
-ghost use Rattle.meaning.specs.Program.{program, unusable, printSix, printLoad, programRoom};
+ghost use Rattle.meaning.specs.Program.{unusable, printSix, printLoad, programRoom};
 ghost use Rattle.text.specs.Front.{inFront};
-ghost use Rattle.program.specs.Printed.{inputOf};
+ghost use Rattle.program.specs.Printed.{inputOf, PrintOutcome};
 use crate::bare::bare_length;
 use crate::numbers::put_six;
 use loader::apply::apply;
@@ -67,8 +67,7 @@ pub fn print(
     printed: &mut [u8; MOST],
 ) -> usize
     ensures { λ r. ⌜ Counts r (now (printed .exit)) ⌝ }
-    ensures { λ r. ⌜ (r ≡ length (program (inputOf held (now (holding .entry))) (inputOf sent (now (change .entry)))))
-        × (now (printed .exit) ≡ inFront (program (inputOf held (now (holding .entry))) (inputOf sent (now (change .entry)))) (now (printed .entry))) ⌝ }
+    ensures { λ r. ⌜ PrintOutcome held (now (holding .entry)) sent (now (change .entry)) (now (printed .entry)) r (now (printed .exit)) ⌝ }
 {
     if is_unusable(held, holding) {
         return print_unusable(printed);

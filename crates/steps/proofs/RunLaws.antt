@@ -1,6 +1,6 @@
 -- The laws of a run: a sound file's body is read line by line, and each way out ends as the run of its changes does.
 use mathlib.Core.Path.{_≡_, refl, sym, ap, _∙_, subst}
-use mathlib.Core.Bool.{Bool, true, false, not}
+use mathlib.Core.Bool.{Bool, true, false}
 use mathlib.Core.Option.{Option, none, some}
 use mathlib.Core.List.{List, [], _∷_, _++_, append-nil, nil≢cons}
 use Prim.Native.Nat.{ℕ, suc, _+_, _-_, _*_, _≤_, _<_}
@@ -48,15 +48,9 @@ use Rattle.steps.specs.Ready.{change, changeAt, codeNumber, Ready, Carri
 use Rattle.steps.specs.Run.{isFile, changesOf, bodyFrom, Runs}
 use Rattle.steps.specs.Back.{stepsBack}
 use Rattle.steps.proofs.BackLaws.{back-turn}
-use Rattle.steps.proofs.StepLaws.{unheld, held-is, code-none}
+use Rattle.steps.proofs.StepLaws.{code-none}
 
 -- ---- leaves
-
--- a kind is held as code knows it
-pub held-told : (l k : code.Kind) (b : Bool) → l ≡ k → b ≡ not (unheld k) → b ≡ isHeld (role (kindMeant l))
-held-told l k b e u = u ∙ sym (ap (λ z. isHeld (role (kindMeant z))) e ∙ held-is k)
-
-pub ruleset heldkind = (needs, held-told)
 
 -- the kind of the line at an offset
 pub line-kind-at : (f : List ℕ) (at e : ℕ) (l k : code.Kind) → e ≡ lineEnd f at → l ≡ k → kindMeant k ≡ known (kindOf (identifier (take (e - at) (drop at f)))) → kindMeant l ≡ recOf (lineAt f at) .kind

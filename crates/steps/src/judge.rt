@@ -79,7 +79,8 @@ pub fn judge_insert(h: &[u8], f: &[u8], a: &[u64], v: u64, s: State, room: usize
     if Holding::MOST_LINES <= count {
         return verdict(16, i, size);
     }
-    if !meets(h, f, a, count, v) {
+    let met = meets(h, f, a, count, v);
+    if !met {
         return verdict(12, i, size);
     }
     let added = entry_length(h, f, v) + AROUND + width((count + 1) as u64);

@@ -3,8 +3,6 @@ ghost use mathlib.Core.Path.{_≡_};
 ghost use Prim.Native.Nat.{_≤_};
 ghost use lib.Dec.{T};
 ghost use lib.ListN.{length};
-ghost use Rattle.meaning.specs.Table.{role};
-ghost use Rattle.meaning.specs.Holding.{isHeld};
 ghost use Rattle.meaning.specs.File.{readFile};
 ghost use Rattle.layout.specs.Meant.{kindMeant};
 ghost use Rattle.places.specs.Counts.{Counted};
@@ -13,7 +11,7 @@ ghost use Rattle.steps.specs.Ready.{Ready, changeAt};
 ghost use Rattle.steps.specs.Run.{isFile, Runs};
 use crate::judge::State;
 use crate::step::step;
-use layout::kinds::Kind;
+use layout::rules::is_held;
 use places::entries::line_kind;
 use text::lines::line_end;
 use volume::lines::Line;
@@ -27,22 +25,6 @@ pub struct Ran {
     pub state: State,
     pub steps: usize,
     pub end: usize,
-}
-
-// Whether a kind is held.
-fn is_held(kind: Kind) -> bool
-    ensures { λ r. ⌜ r ≡ isHeld (role (kindMeant kind)) ⌝ }
-{
-    match kind {
-        Kind::Header => false,
-        Kind::Street => true,
-        Kind::StreetXref => true,
-        Kind::Blpu => true,
-        Kind::AppXref => true,
-        Kind::Lpi => true,
-        Kind::Metadata => false,
-        Kind::Trailer => false,
-    }
 }
 
 // The kind and change of the line that starts at `at`.

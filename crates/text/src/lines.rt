@@ -2,7 +2,6 @@
 ghost use mathlib.Core.Path.{_≡_};
 ghost use Prim.Native.Nat.{_≤_};
 ghost use lib.ListN.{length, drop};
-ghost use Rattle.base.specs.Lists.{all};
 ghost use Rattle.meaning.specs.Lines.{plain};
 ghost use Rattle.text.specs.Places.{endsHere, lineEnd, plainEnd};
 
@@ -64,18 +63,4 @@ pub fn plain_end(s: &[u8], at: usize) -> usize
         i += 1;
     }
     i
-}
-
-// Whether a line holds no CR or LF.
-pub fn is_plain(line: &[u8]) -> bool
-    ensures { λ r. ⌜ r ≡ all plain (now (line .entry)) ⌝ }
-{
-    let mut i = 0;
-    while i < line.len() {
-        if !is_plain_byte(line[i]) {
-            return false;
-        }
-        i += 1;
-    }
-    true
 }

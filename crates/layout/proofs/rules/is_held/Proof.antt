@@ -1,8 +1,8 @@
--- `holding::held::is_held` meets its contract.
-use Rattle.holding.proofs.HeldLaws.{roles}
+-- `layout::rules::is_held` meets its contract.
+use Rattle.layout.proofs.KindLaws.{roles}
 use Rattle.meaning.specs.Holding.{isHeld}
-use Rattle.holding.proofs.held.is_held.Statement.{statement}
-use Rattle.holding.proofs.held.is_held.Tie as tie
+use Rattle.layout.proofs.rules.is_held.Statement.{statement}
+use Rattle.layout.proofs.rules.is_held.Tie as tie
 
 pub is-held-spec : {M : Type 1} → statement M
 unfolding isHeld
