@@ -18,13 +18,12 @@ use Rattle.theory.specs.Decimal.{value}
 use Rattle.theory.specs.Step.{Op, ins, upd, del, Change}
 use Rattle.theory.specs.Answer.{Read, fault, file}
 use Rattle.meaning.specs.Lines.{Line, linesOf, fieldsOf}
-use Rattle.meaning.specs.Table.{kindOf, ident, Role, headerLine, bodyLine, metadataLine, trailerLine, role, enquiries, numberedAmong}
-use Rattle.meaning.specs.Records.{Rec, opOf, contentOf, changeOf, keyOf}
+use Rattle.meaning.specs.Table.{ident, Role, headerLine, bodyLine, metadataLine, trailerLine, role, enquiries, numberedAmong}
+use Rattle.meaning.specs.Records.{Rec, opOf, changeOf, keyOf}
 use Rattle.meaning.specs.Holding.{readHolding}
 use Rattle.meaning.specs.File.{Sheet, Frame, readFile}
 use Rattle.meaning.specs.Load.{checked, checkFile}
 use Rattle.meaning.specs.Enquiries.{Found, second, refusal, partOf, heldAt, heldPart, lastNaming, named, inForcePart, inForceFile, inForceHeld, inForceKind, inForce}
-use Rattle.laws.specs.Body.{kind-in}
 use Rattle.laws.specs.LinesAndFields.{endsAll}
 use Rattle.laws.specs.SoundFile.{RoleLine, SaysChange, SaysChanges, SoundFile, sound-read}
 use Rattle.laws.specs.FileReadBack.{fineC, file-says}
@@ -34,7 +33,7 @@ use Rattle.volume.specs.Answer.{answerOf}
 use Rattle.keys.specs.Numbers.{keyNumbers}
 use Rattle.keys.specs.KeyLaws.{kind-told}
 use Rattle.places.specs.Places.{recOf}
-use Rattle.places.proofs.LineLaws.{rec-known}
+use Rattle.places.proofs.LineLaws.{role-known}
 use Rattle.holding.specs.declared.read.Held.{Held}
 use Rattle.holding.specs.Read.{recordsOf, HeldIs}
 use Rattle.holding.proofs.ReadLaws.{held-sound}
@@ -47,10 +46,6 @@ use Rattle.enquiries.specs.Finding.{findingOf}
 use Rattle.enquiries.proofs.FindLaws.{Asked, asked-is, asked-agrees, same-lex, no-kind, unsounds}
 
 -- ---- the lines of a sound file
-
--- the record of a line of a role
-role-known : (o : Role) (t : List ℕ) (r : RoleLine o t) → recOf t ≡ record { kind = r .kind; content = contentOf t }
-role-known o t r = rec-known t (r .kind) (ap kindOf (r .sounds .identified) ∙ kind-in (r .kind))
 
 -- the record of a body line is its change's
 pub body-rec : (i : ℕ) (t : List ℕ) (c : Change Rec) → SaysChange i t c → recOf t ≡ c .rec

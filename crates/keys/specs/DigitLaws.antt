@@ -3,7 +3,7 @@ use mathlib.Core.Path.{_≡_, refl, sym, _∙_}
 use mathlib.Core.List.{List, [], _∷_, _++_}
 use Prim.Native.Nat.{ℕ, zero, suc, _+_, _-_, _*_, _≤_}
 use native.Mathlib.Omega.{arith}
-use lib.Dec.{T, leb, leb→le}
+use lib.Dec.{T}
 use lib.ListN.{length}
 use Rattle.base.specs.Lists.{all, zeros}
 use Rattle.base.specs.Tests.{and-l, and-r}
@@ -12,6 +12,7 @@ use Rattle.theory.specs.Lex.{cmpN, Is, andThen, lex}
 use Rattle.theory.specs.LexLaws.{cmpN-is, is-cmpN, lex-order}
 use Rattle.theory.specs.Decimal.{value, valueF}
 use Rattle.meaning.specs.Forms.{isDigit}
+use Rattle.laws.specs.Digits.{digit-low, digit-high}
 use Rattle.layout.specs.Rows.{padded}
 
 -- ---- answers one after another
@@ -54,14 +55,6 @@ lex-padded (suc m) (x ∷ a) [] e h = absurd (omega arith)
 lex-padded (suc m) (x ∷ a) (y ∷ b) e h = rw (lex-padded m a b (omega arith) (omega arith))
 
 -- ---- digits
-
-digit-low : (x : ℕ) → T (isDigit x) → 48 ≤ x
-unfolding isDigit
-digit-low x t = leb→le 48 x (and-l (leb 48 x) (leb x 57) t)
-
-digit-high : (x : ℕ) → T (isDigit x) → x ≤ 57
-unfolding isDigit
-digit-high x t = leb→le x 57 (and-r (leb 48 x) (leb x 57) t)
 
 -- one digit more is compared after those before it
 digit-step : (u v x y : ℕ) → T (isDigit x) → T (isDigit y) → cmpN (u * 10 + (x - 48)) (v * 10 + (y - 48)) ≡ andThen (cmpN u v) (cmpN x y)

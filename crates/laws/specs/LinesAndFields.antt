@@ -1,11 +1,11 @@
 -- Lines and fields, split and joined again: bytes are their lines, a line is its fields with commas between, and where either is cut.
 use mathlib.Core.Path.{_≡_, refl, sym, ap, ap₂, _∙_, subst}
 use mathlib.Core.Bool.{Bool, true, false, not, _&&_}
-use mathlib.Core.List.{List, [], _∷_, _++_}
+use mathlib.Core.List.{List, [], _∷_, _++_, append-assoc}
 use Prim.Native.Nat.{ℕ, _<_}
 use native.Mathlib.Omega.{arith}
 use lib.Dec.{T, eqb, eqb→eq}
-use lib.ListN.{length}
+use lib.ListN.{length, drop}
 use Rattle.base.specs.Lists.{all, pick, upTo}
 use Rattle.base.specs.Tests.{and-l, and-r, T-true, T-false}
 use Rattle.meaning.specs.Lines.{plain, turned, isSep, addByte, fieldsFrom, fieldsOf, quoteAfter, oddQuotes, afterField, Line, linesOf, endsWell, grow}
@@ -71,6 +71,17 @@ lines-in [] p = refl
 lines-in (t ∷ ts) p =
     line-in t (joined ts) (and-l (all plain t) (all (all plain) ts) p)
     ∙ ap (λ l. ends t ∷ l) (lines-in ts (and-r (all plain t) (all (all plain) ts) p))
+
+-- lines after lines
+pub joined-append : (a b : List (List ℕ)) → joined (a ++ b) ≡ joined a ++ joined b
+unfolding joined
+joined-append [] b = refl
+joined-append (t ∷ a) b = ap (λ x. t ++ (13 ∷ (10 ∷ x))) (joined-append a b) ∙ sym (append-assoc t (13 ∷ (10 ∷ joined a)) (joined b))
+
+-- past lines stand the lines after them
+pub ends-past : (a b : List (List ℕ)) → drop (length a) (endsAll (a ++ b)) ≡ endsAll b
+ends-past [] b = refl
+ends-past (t ∷ a) b = ends-past a b
 
 -- the bytes of lines that each end in CR LF are their texts, joined
 pub unlines-ends : (ts : List (List ℕ)) → unlines (endsAll ts) ≡ joined ts

@@ -40,6 +40,13 @@ SaysChanges n [] (c ∷ cs) = ⊥
 SaysChanges n (t ∷ ts) [] = ⊥
 SaysChanges n (t ∷ ts) (c ∷ cs) = SaysChange n t c × SaysChanges (suc n) ts cs
 
+-- a change for each body line
+pub says-length : (n : ℕ) (ts : List (List ℕ)) (cs : List (Change Rec)) → SaysChanges n ts cs → length ts ≡ length cs
+says-length n [] [] s = refl
+says-length n [] (c ∷ cs) s = absurd s
+says-length n (t ∷ ts) [] s = absurd s
+says-length n (t ∷ ts) (c ∷ cs) s = ap suc (says-length (suc n) ts cs (s .1))
+
 -- a trailer whose RECORD_COUNT is the number of body lines
 pub record Counts (n : ℕ) (t : List ℕ) : Type 0 where
   pub line : RoleLine trailerLine t

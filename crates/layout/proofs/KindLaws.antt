@@ -1,24 +1,25 @@
 -- The laws of identifiers and roles: two digits are known by their number, and a kind's role is the table's.
 use mathlib.Core.Path.{_≡_, refl, sym, ap, ap₂, subst, _∙_}
-use mathlib.Core.Bool.{Bool, true, false, not, _&&_}
+use mathlib.Core.Bool.{Bool, true, false, _&&_}
 use mathlib.Core.Option.{Option, none, some}
 use mathlib.Core.List.{List, [], _∷_}
-use Prim.Native.Nat.{ℕ, zero, suc, _+_, _-_, _*_, _≤_, _<_}
+use Prim.Native.Nat.{ℕ, _-_}
 use native.Mathlib.Nat.{sub-zero}
 use native.Mathlib.Omega.{arith}
 use borrow.Author.Needs.{needs}
 use borrow.Author.Tests.{not-true, not-false}
-use lib.Dec.{T, eqb, leb, leb→le, eqb→eq, eqb-refl}
+use lib.Dec.{T, eqb, eqb→eq}
 use lib.ListN.{length, take}
 use mir.Facts.{yes-eqb}
-use Rattle.base.specs.Lists.{pick, all, same, bytes}
-use Rattle.base.specs.Tests.{and-in, and-l, and-r, same-test, T-true, some≢none}
+use Rattle.base.specs.Lists.{all, same, bytes}
+use Rattle.base.specs.Tests.{and-in, and-l, and-r, same-test}
 use Rattle.base.specs.ListLaws.{same-eq, same-refl}
 use Rattle.theory.specs.Decimal.{value, valueF}
 use Rattle.meaning.specs.Forms.{isDigit}
 use Rattle.meaning.specs.Lines.{identifier}
 use Rattle.meaning.specs.Table.{Kind, kinds, ident, Role, headerLine, bodyLine, metadataLine, trailerLine, role, kindAmong, kindOf, numberedAmong}
 use Rattle.meaning.specs.Holding.{isHeld}
+use Rattle.laws.specs.Digits.{digit-low, digit-high}
 use Rattle.laws.specs.Kinds.{every}
 use Rattle.laws.specs.Body.{kind-out}
 use Rattle.text.proofs.FieldLaws.{identifier-part}
@@ -30,15 +31,6 @@ use Rattle.layout.specs.Rows.{laidOut}
 -- a run of two digits
 abbrev pub twoDigits : List ℕ → Bool
 twoDigits f = eqb (length f) 2 && all isDigit f
-
--- a digit is one of ten bytes
-digit-low : (x : ℕ) → T (isDigit x) → 48 ≤ x
-unfolding isDigit
-digit-low x t = leb→le 48 x (and-l (leb 48 x) (leb x 57) t)
-
-digit-high : (x : ℕ) → T (isDigit x) → x ≤ 57
-unfolding isDigit
-digit-high x t = leb→le x 57 (and-r (leb 48 x) (leb x 57) t)
 
 -- two digits are told apart by their value
 same-two : (f g : List ℕ) → T (twoDigits f) → T (twoDigits g) → value f ≡ value g → f ≡ g

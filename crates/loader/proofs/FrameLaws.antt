@@ -1,5 +1,5 @@
 -- The laws of a file's frame: its first line, and what follows its body, are copied as they stand.
-use mathlib.Core.Path.{_≡_, refl, sym, ap, _∙_}
+use mathlib.Core.Path.{_≡_, sym, ap, _∙_}
 use mathlib.Core.List.{List, [], _∷_, _++_, append-assoc}
 use Prim.Native.Nat.{ℕ, suc, _+_, _≤_, _<_}
 use native.Mathlib.Omega.{arith}
@@ -9,28 +9,10 @@ use Rattle.theory.specs.Step.{Change}
 use Rattle.meaning.specs.Lines.{Line, linesOf}
 use Rattle.meaning.specs.Records.{Rec, changeTexts, joined}
 use Rattle.meaning.specs.File.{Frame, writeFile}
-use Rattle.laws.specs.LinesAndFields.{endsAll, unlines, lines-join, unlines-ends}
-use Rattle.laws.specs.SoundFile.{SaysChanges, SoundFile}
+use Rattle.laws.specs.LinesAndFields.{endsAll, unlines, lines-join, unlines-ends, joined-append, ends-past}
+use Rattle.laws.specs.SoundFile.{SoundFile, says-length}
 use Rattle.text.specs.Places.{lineLen, lineEnd}
 use Rattle.text.proofs.LineLaws.{lineLen-le, lines-at}
-
--- lines after lines
-joined-append : (a b : List (List ℕ)) → joined (a ++ b) ≡ joined a ++ joined b
-unfolding joined
-joined-append [] b = refl
-joined-append (t ∷ a) b = ap (λ x. t ++ (13 ∷ (10 ∷ x))) (joined-append a b) ∙ sym (append-assoc t (13 ∷ (10 ∷ joined a)) (joined b))
-
--- past lines stand the lines after them
-ends-past : (a b : List (List ℕ)) → drop (length a) (endsAll (a ++ b)) ≡ endsAll b
-ends-past [] b = refl
-ends-past (t ∷ a) b = ends-past a b
-
--- a change for each body line
-says-length : (n : ℕ) (ts : List (List ℕ)) (cs : List (Change Rec)) → SaysChanges n ts cs → length ts ≡ length cs
-says-length n [] [] s = refl
-says-length n [] (c ∷ cs) s = absurd s
-says-length n (t ∷ ts) [] s = absurd s
-says-length n (t ∷ ts) (c ∷ cs) s = ap suc (says-length (suc n) ts cs (s .1))
 
 abbrev firstText : List Line → List ℕ
 firstText [] = []

@@ -10,10 +10,12 @@ use lib.ListN.{length, drop}
 use Rattle.base.specs.Lists.{pick, keepIf}
 use Rattle.base.specs.Tests.{some≢none}
 use Rattle.meaning.specs.Lines.{Line, linesOf, endsWell, identifier}
-use Rattle.meaning.specs.Table.{Kind, kindOf}
+use Rattle.meaning.specs.Table.{Kind, kindOf, Role}
 use Rattle.meaning.specs.Records.{Rec, contentOf, changeOf}
 use Rattle.meaning.specs.Holding.{heldTest, heldKind, heldLine}
 use Rattle.meaning.specs.File.{Place, judgeLine, good}
+use Rattle.laws.specs.Body.{kind-in}
+use Rattle.laws.specs.SoundFile.{RoleLine}
 use Rattle.laws.specs.Judgement.{JudgedIs, judged}
 use Rattle.text.proofs.LineLaws.{lines-at, lines-end}
 use Rattle.places.specs.Places.{recOf, lineAt}
@@ -22,6 +24,10 @@ use Rattle.places.specs.Places.{recOf, lineAt}
 pub rec-known : (t : List ℕ) (k : Kind) → kindOf (identifier t) ≡ some k → recOf t ≡ record { kind = k; content = contentOf t }
 unfolding recOf
 rec-known t k e = rw e
+
+-- as it is in a sound line of a role
+pub role-known : (o : Role) (t : List ℕ) (r : RoleLine o t) → recOf t ≡ record { kind = r .kind; content = contentOf t }
+role-known o t r = rec-known t (r .kind) (ap kindOf (r .sounds .identified) ∙ kind-in (r .kind))
 
 -- the record of a held line is its text's
 pub rec-held : (n : ℕ) (l : Line) (r : Rec) → heldLine n l ≡ some r → recOf (l .text) ≡ r

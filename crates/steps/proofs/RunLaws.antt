@@ -23,11 +23,10 @@ use Rattle.theory.specs.Run as Theory
 use Rattle.theory.specs.Run.{Out, done, stop, on}
 use Rattle.meaning.specs.Lines.{Line, linesOf, fieldsOf, identifier}
 use Rattle.meaning.specs.Table.{Kind, kindOf, Role, bodyLine, metadataLine, role}
-use Rattle.meaning.specs.Records.{Rec, keyed, opOf, contentOf, changeOf}
+use Rattle.meaning.specs.Records.{Rec, keyed, opOf, changeOf}
 use Rattle.meaning.specs.Holding.{isHeld}
 use Rattle.meaning.specs.File.{Sheet, readFile, mostBody}
 use Rattle.meaning.specs.Load.{stepTests}
-use Rattle.laws.specs.Body.{kind-in}
 use Rattle.laws.specs.LinesAndFields.{endsAll}
 use Rattle.laws.specs.FileReadBack.{fineC, file-says}
 use Rattle.laws.specs.SoundFile.{RoleLine, SaysChange, SaysChanges, read-sound}
@@ -38,7 +37,7 @@ use Rattle.layout.specs.Meant.{kindMeant}
 use Rattle.places.specs.Counts.{Counted}
 use Rattle.places.specs.Places.{known, recOf, lineAt, says}
 use Rattle.places.proofs.EntryLaws.{line-here}
-use Rattle.places.proofs.LineLaws.{rec-known}
+use Rattle.places.proofs.LineLaws.{role-known}
 use Rattle.volume.specs.declared.lines.Line as read
 use Rattle.steps.specs.declared.judge.State.{State}
 use Rattle.steps.specs.declared.step.Stepped.{Stepped}
@@ -64,9 +63,6 @@ line-change-at f at e o q u = u ∙ ap (λ t. opOf (getD (fieldsOf t) 1 [])) (li
 pub ruleset lineat = (needs, line-kind-at, line-change-at)
 
 -- ---- the body of a sound file
-
-role-known : (o : Role) (t : List ℕ) (r : RoleLine o t) → recOf t ≡ record { kind = r .kind; content = contentOf t }
-role-known o t r = rec-known t (r .kind) (ap kindOf (r .sounds .identified) ∙ kind-in (r .kind))
 
 role-is : (o : Role) (t : List ℕ) → RoleLine o t → role (recOf t .kind) ≡ o
 role-is o t r = ap (λ x. role (x .kind)) (role-known o t r) ∙ r .roles

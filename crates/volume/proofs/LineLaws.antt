@@ -30,9 +30,10 @@ use Rattle.layout.specs.declared.kinds.Role.{Role as RoleNamed}
 use Rattle.layout.specs.declared.kinds.Role.the-variants.{HeaderLine, BodyLine, MetadataLine, TrailerLine}
 use Rattle.layout.specs.declared.records.Layout.{Layout}
 use Rattle.layout.specs.declared.check.Fault.{Fault as FaultTold}
-use Rattle.layout.specs.Meant.{kindMeant, kindFound, roleMeant, roleNamed}
+use Rattle.layout.specs.Meant.{kindMeant, kindFound, roleMeant}
 use Rattle.layout.specs.Rows.{Row, bare, noRow, rowOf, laidOut}
 use Rattle.layout.specs.Check.{lowestBad, kindDates, told}
+use Rattle.layout.proofs.KindLaws.{role-is}
 use Rattle.layout.proofs.CheckLaws.{named-at, right-count}
 use Rattle.volume.specs.declared.places.Place.{Place as PlaceNamed}
 use Rattle.volume.specs.declared.places.Place.the-variants.{AfterTrailer}
@@ -158,18 +159,7 @@ third-short s k t h z =
 
 -- ---- a line before its fields
 
--- the role of a kind is the one that code names
-role-named : (r : Role) → roleMeant (roleNamed r) ≡ r
-role-named headerLine = refl
-role-named bodyLine = refl
-role-named metadataLine = refl
-role-named trailerLine = refl
-
-role-is : (k : Kind) (l : Layout) → l ≡ laidOut k → roleMeant (l .role) ≡ role k
-unfolding laidOut
-role-is k l e = rw e (role-named (role k))
-
--- so it is known by the table's row
+-- the role of a kind is known by the table's row
 pub role-of : (k : Kind) (l : Layout) (r : RoleNamed) → l ≡ laidOut k → l .role ≡ r → role k ≡ roleMeant r
 role-of k l r e h = sym (role-is k l e) ∙ rw h
 
