@@ -1,6 +1,6 @@
-// Five nights forward and back. Each file is taken into the holding that the one before it left, and its undo is made against the holding
-// that it met; the undos are then handed in, last first, and each holding on the way back is compared byte for byte with the one that
-// stood there going forward. The undo of paper 01's worked example is printed whole.
+// Six nights forward and back, the last with no body. Each file is taken into the holding that the one before it left, and its undo is
+// made against the holding that it met; the undos are then handed in, last first, and each holding on the way back is compared byte for
+// byte with the one that stood there going forward. The undo of paper 01's worked example is printed whole.
 use libc::STDOUT_FILENO;
 use loader::apply::apply;
 use loader::undo::undo;
@@ -101,7 +101,7 @@ fn main() {
     let mut holding = [0u8; ROOM];
     let mut home = [0u8; ROOM];
     read_file(b"holding.csv", &mut holding);
-    nights(b"1.csv2.csv3.csv4.csv5.csv", &holding, &mut home);
+    nights(b"1.csv2.csv3.csv4.csv5.csv6.csv", &holding, &mut home);
     if is_as_stood(&home, &holding) {
         say(b"home\n");
     }
