@@ -70,6 +70,37 @@ static const char *identifier_of(enum role role) {
     return kinds[i].identifier;
 }
 
+/* Whether a sound holding has the record of that kind and number; not so of an unsound one. */
+static int is_held(struct bytes holding, const char *kind, struct bytes number) {
+    uint64_t answer[5], value = 0;
+    for (size_t i = 0; i < number.length; i++) value = 10 * value + (number.start[i] - '0');
+    muiwash_find(holding.start, holding.length, strtoull(kind, NULL, 10), value, answer);
+    return answer[0] == MUIWASH_DONE;
+}
+/* Two parts in one, which nobody frees. */
+static struct bytes joined(struct bytes first, struct bytes second) {
+    uint8_t *both = malloc(first.length + second.length + 1);
+    if (!both) exit(2);
+    if (first.length) memcpy(both, first.start, first.length);
+    if (second.length) memcpy(both + first.length, second.start, second.length);
+    return (struct bytes){both, first.length + second.length};
+}
+static struct bytes text(const char *text) { return (struct bytes){(const uint8_t *)text, strlen(text)}; }
+/* The holding as it was before a body line of a sound file. */
+static struct bytes before(struct bytes holding, struct bytes file, uint64_t line) {
+    static const char metadata[] = "29,\"-\",\"-\",\"-\",\"-\",\"-\",1,\"-\",\"-\",2000-01-01,\"-\",\"-\",2000-01-01,\"-\",\"-\"\r\n";
+    char ends[sizeof metadata + 64];
+    uint64_t answer[6];
+    snprintf(ends, sizeof ends, "%s99,0,%" PRIu64 ",2000-01-01,000000\r\n", metadata, line - 2);
+    struct bytes front = joined((struct bytes){file.start, (size_t)(line_of(file, line).start - file.start)}, text(ends));
+    size_t room = holding.length + front.length + 24576;
+    uint8_t *out = malloc(room);
+    if (!out) exit(2);
+    muiwash_apply(holding.start, holding.length, front.start, front.length, out, room, answer);
+    while (room > 0 && out[room - 1] == 0) room--;
+    return (struct bytes){out, room};
+}
+
 /* ---- words */
 
 static void print(struct bytes b) {
@@ -88,18 +119,16 @@ static void print_key(struct bytes all, uint64_t line, const struct kind *kind) 
         print_named(all, line, kind, *name);
     }
 }
-static int references(struct bytes all, uint64_t line, const struct kind *kind) {
-    int found = 0;
-    for (const struct reference *to = kind->to; to->kind; to++) found += field_of(all, line, place_of(kind, to->by)).length > 0;
-    return found;
-}
-static void print_unmet(struct bytes all, uint64_t line, const struct kind *kind) {
-    int found = 0;
-    for (const struct reference *to = kind->to; to->kind; to++) {
-        if (!field_of(all, line, place_of(kind, to->by)).length) continue;
-        printf(found++ ? ", or none of kind %s for its " : "no other record of kind %s is held for its ", to->kind);
-        print_named(all, line, kind, to->by);
-    }
+/* What a record refers to that isn't in that holding; its own key doesn't count, so where all are there, all are named. */
+static void print_unmet(struct bytes all, uint64_t line, const struct kind *kind, struct bytes holding) {
+    int told = 0;
+    for (int all_held = 0; !told && all_held < 2; all_held++)
+        for (const struct reference *to = kind->to; to->kind; to++) {
+            struct bytes by = field_of(all, line, place_of(kind, to->by));
+            if (!by.length || (!all_held && is_held(holding, to->kind, by))) continue;
+            printf(told++ ? ", or none of kind %s for its " : "no other record of kind %s is held for its ", to->kind);
+            print_named(all, line, kind, to->by);
+        }
 }
 /* "1 digit", "4 digits". */
 static void print_many(int many, const char *of) { printf("%d %s%s", many, of, many == 1 ? "" : "s"); }
@@ -126,9 +155,9 @@ static void wrong_ending(struct bytes line) {
     else printf("no CR LF ends it");
 }
 static void out_of_place(struct bytes file, uint64_t line) {
-    const struct kind *before = kind_of(file, line - 1);
+    const struct kind *previous = kind_of(file, line - 1);
     const char *header = identifier_of(ROLE_headerLine), *metadata = identifier_of(ROLE_metadataLine), *trailer = identifier_of(ROLE_trailerLine);
-    int behind = before ? (int)before->role : -1, ended = !line_of(file, line).length;
+    int behind = previous ? (int)previous->role : -1, ended = !line_of(file, line).length;
     if (line == 1) printf("the first line is not the header, %s", header);
     else if (ended && behind != ROLE_metadataLine) printf("the file ends before its metadata, %s", metadata);
     else if (ended) printf("the file ends before its trailer, %s", trailer);
@@ -154,13 +183,13 @@ static void ends_before_start(struct bytes file, uint64_t line, const struct kin
     printf(" is before ");
     print_named(file, line, kind, start_date);
 }
-static void unmet(struct bytes file, uint64_t line, const struct kind *kind) {
+static void unmet(struct bytes holding, struct bytes file, uint64_t line, const struct kind *kind) {
     if (is(field_of(file, line, 2), "\"D\"")) {
         printf("it deletes ");
         print_key(file, line, kind);
         printf(" of kind %s, to which a held record refers", kind->identifier);
     } else {
-        print_unmet(file, line, kind);
+        print_unmet(file, line, kind, before(holding, file, line));
     }
 }
 /* A step that its key doesn't allow. */
@@ -175,7 +204,7 @@ static void unknown(struct bytes identifier) {
     printf(" is no identifier that is known");
 }
 /* The sentence of a refusal at a line of a file, after the line's number. */
-static void sentence_at(struct bytes file, uint64_t code, uint64_t line, uint64_t number) {
+static void sentence(struct bytes holding, struct bytes file, uint64_t code, uint64_t line, uint64_t number) {
     const struct kind *kind = kind_of(file, line);
     /* Every kind begins with its identifier, an unknown one too. */
     const struct field *field = number ? &(kind ? kind : kinds)->fields[number - 1] : NULL;
@@ -193,41 +222,34 @@ static void sentence_at(struct bytes file, uint64_t code, uint64_t line, uint64_
     case MUIWASH_TOO_MANY_LINES: printf("a 4,097th body line, and a file has at most 4,096"); break;
     case MUIWASH_ALREADY_HELD: wrong_key(file, line, kind, "is held already"); break;
     case MUIWASH_ABSENT: wrong_key(file, line, kind, "isn't held"); break;
-    case MUIWASH_REFERENCE_UNMET: unmet(file, line, kind); break;
+    case MUIWASH_REFERENCE_UNMET: unmet(holding, file, line, kind); break;
     case MUIWASH_HOLDING_TOO_LONG: printf("after it the holding would be longer than %d bytes", PROGRAM_ROOM); break;
     case MUIWASH_TOO_MANY_RECORDS: printf("an 8,193rd record, and a holding has at most 8,192"); break;
     }
 }
-static void sentence(struct bytes file, uint64_t code, uint64_t line, uint64_t number) {
-    printf("line %" PRIu64, line);
-    sentence_at(file, code, line, number);
+/* Keys are tested before references, over all lines: a faulty line at the end hides the fault of a reference, and no other. */
+static int key_is_wrong(struct bytes holding, uint64_t line) {
+    struct bytes longer = joined(holding, text("-"));
+    uint64_t answer[3];
+    muiwash_check_holding(longer.start, longer.length, answer);
+    return answer[1] == line;
 }
 /* What is wrong with a line of a holding: it is put behind a header, and check_file asked; if that finds nothing, it is its place. */
 static void unsound(struct bytes holding, uint64_t line) {
-    static const char header[] = "10,\"-\",1,2000-01-01,1,2000-01-01,000000,1.0,\"A\"\r\n";
-    struct bytes held = line_of(holding, line);
-    uint8_t *alone = malloc(sizeof header + held.length);
+    struct bytes file = joined(text("10,\"-\",1,2000-01-01,1,2000-01-01,000000,1.0,\"A\"\r\n"), line_of(holding, line));
+    const struct kind *kind = kind_of(file, 2);
     uint64_t answer[6];
     char number[24];
-    if (!alone) exit(2);
-    memcpy(alone, header, sizeof header - 1), memcpy(alone + sizeof header - 1, held.start, held.length);
-    struct bytes file = {alone, sizeof header - 1 + held.length};
-    const struct kind *kind = kind_of(file, 2);
     muiwash_check_file(file.start, file.length, answer);
     snprintf(number, sizeof number, "%" PRIu64, line);
-    printf("the holding, line %s", number);
     if (kind && kind->role != ROLE_bodyLine) printf(": a line of kind %s is none of a holding", kind->identifier);
-    else if (answer[1] == 2 && answer[0] != MUIWASH_PRO_ORDER) sentence_at(file, answer[0], 2, answer[2]);
+    else if (answer[1] == 2 && answer[0] != MUIWASH_PRO_ORDER) sentence(nothing, file, answer[0], 2, answer[2]);
     else if (!is(field_of(file, 2, 2), "\"I\"")) printf(", field 2 %s: a holding has \"I\" alone", kind->fields[1].name);
     else if (!is(field_of(file, 2, 3), number)) {
         printf(", field 3 %s: ", kind->fields[2].name), print(field_of(file, 2, 3)), printf(", and %s is due", number);
-    } else if (line > 8192) sentence_at(file, MUIWASH_TOO_MANY_RECORDS, 2, 0);
-    else {
-        int may = references(file, 2, kind) > 0;
-        printf(": %s%s", line > 1 ? "its key isn't above that of the line before it" : "", line > 1 && may ? "; or " : "");
-        if (may) print_unmet(file, 2, kind);
-    }
-    free(alone);
+    } else if (line > 8192) sentence(nothing, file, MUIWASH_TOO_MANY_RECORDS, 2, 0);
+    else if (key_is_wrong(holding, line)) printf(": its key isn't above that of the line before it");
+    else printf(": "), print_unmet(file, 2, kind, nothing);
 }
 
 /* ---- the program */
@@ -272,8 +294,9 @@ int main(int argc, char **argv) {
     if (answer[0] == MUIWASH_DONE) {
         printf("%s: %" PRIu64 " inserts, %" PRIu64 " updates, %" PRIu64 " deletes", argc == 3 ? "taken" : "sound", answer[3], answer[4], answer[5]);
     } else {
-        printf("refused, code %" PRIu64 ": ", answer[0]);
-        if (answer[0] == MUIWASH_UNSOUND_HOLDING) unsound(holding, answer[1]); else sentence(file, answer[0], answer[1], answer[2]);
+        int held = answer[0] == MUIWASH_UNSOUND_HOLDING;
+        printf("refused, code %" PRIu64 ": %sline %" PRIu64, answer[0], held ? "the holding, " : "", answer[1]);
+        if (held) unsound(holding, answer[1]); else sentence(holding, file, answer[0], answer[1], answer[2]);
     }
     printf("\n");
     for (int i = 1; i < argc; i++) note_length(argv[i], i == argc - 1 ? file : holding);
