@@ -104,9 +104,11 @@ static struct bytes before(struct bytes holding, struct bytes file, uint64_t lin
 /* ---- words */
 
 static void print(struct bytes b) {
-    for (size_t i = 0; i < b.length && i < SHOWN; i++)
+    size_t shown = b.length < SHOWN ? b.length : SHOWN;
+    while (shown < b.length && (b.start[shown] & 0xC0) == 0x80) shown--; /* no letter is cut */
+    for (size_t i = 0; i < shown; i++)
         if (b.start[i] < 0x20 || b.start[i] == 0x7F) printf("\\x%02X", (unsigned)b.start[i]); else putchar(b.start[i]);
-    if (b.length > SHOWN) printf("..");
+    if (shown < b.length) printf("..");
 }
 /* "USRN 500", by name. */
 static void print_named(struct bytes all, uint64_t line, const struct kind *kind, const char *name) {
