@@ -1,6 +1,7 @@
 """Counts and times every operation of bench/driver.c and bench/sqlite.c on every corpus, and prints one table.
 
-    measure.py FOLDER [EMULATED]    FOLDER has driver, sqlite, insns.so and the corpora; with EMULATED times would be an emulator's, and are left out
+measure.py FOLDER [EMULATED]: FOLDER has driver, sqlite, insns.so and the corpora; with EMULATED times would be an emulator's, and are left
+out.
 """
 import os
 import subprocess

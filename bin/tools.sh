@@ -51,7 +51,10 @@ tools() {
 
 # Proves the operations and writes the archive, unless it is newer than every source.
 make_archive() {
-  if [ -e $archive ] && [ -z "$(find crates crates.txt \( -name '*.rt' -o -name crates.txt \) -newer $archive -print -quit)" ]; then return; fi
+  if [ -e $archive ] && [ -z "$(find crates.txt crates \( -name '*.rt' -o -name crates.txt \) -newer $archive -print -quit)" ]; then
+    return
+  fi
+  echo "proving the operations for C, for $archive" >&2
   local log
   log=$(mktemp)
   if ! rt staticlib exports >"$log" 2>&1; then

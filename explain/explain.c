@@ -15,7 +15,14 @@ enum form { FORM_number, FORM_atLeast1, FORM_decimal, FORM_date, FORM_time, FORM
 enum role { ROLE_headerLine, ROLE_bodyLine, ROLE_metadataLine, ROLE_trailerLine };
 struct field { const char *name; enum form form; int width, more, filled; };
 struct reference { const char *kind, *by; };
-struct kind { const char *identifier; enum role role; size_t count; const struct field *fields; const char *key[4]; struct reference to[3]; };
+struct kind {
+    const char *identifier;
+    enum role role;
+    size_t count;
+    const struct field *fields;
+    const char *key[4];
+    struct reference to[3];
+};
 #include "table.h"
 
 enum { PROGRAM_ROOM = 65536, SHOWN = 60 };
@@ -138,7 +145,9 @@ static void print_form(const struct field *field) {
     switch (field->form) {
     case FORM_number: printf("is not a number of at most "), print_many(field->width, "digit"); break;
     case FORM_atLeast1: printf("is not a number from 1 on of at most "), print_many(field->width, "digit"); break;
-    case FORM_decimal: printf("is not a number of at most "), print_many(field->width, "digit"), printf(", a point and %d more", field->more); break;
+    case FORM_decimal:
+        printf("is not a number of at most "), print_many(field->width, "digit"), printf(", a point and %d more", field->more);
+        break;
     case FORM_date: printf("is not a day (CCYY-MM-DD, from 1583 on)"); break;
     case FORM_time: printf("is not a time (HHMMSS)"); break;
     case FORM_text: printf("is not a text of at most "), print_many(field->width, "byte"), printf(" within quotes"); break;
@@ -152,13 +161,15 @@ static void print_form(const struct field *field) {
 /* ---- a sentence for each refusal, begun by whoever says which line it is */
 
 static void wrong_ending(struct bytes line) {
-    if (line.length > 1 && line.start[line.length - 2] == '\r' && line.start[line.length - 1] == '\n') printf("another CR or LF stands in it");
+    int ended = line.length > 1 && line.start[line.length - 2] == '\r' && line.start[line.length - 1] == '\n';
+    if (ended) printf("another CR or LF stands in it");
     else if (memchr(line.start, '\n', line.length)) printf("LF alone ends it, not CR LF");
     else printf("no CR LF ends it");
 }
 static void out_of_place(struct bytes file, uint64_t line) {
     const struct kind *previous = kind_of(file, line - 1);
-    const char *header = identifier_of(ROLE_headerLine), *metadata = identifier_of(ROLE_metadataLine), *trailer = identifier_of(ROLE_trailerLine);
+    const char *header = identifier_of(ROLE_headerLine), *metadata = identifier_of(ROLE_metadataLine);
+    const char *trailer = identifier_of(ROLE_trailerLine);
     int behind = previous ? (int)previous->role : -1, ended = !line_of(file, line).length;
     if (line == 1) printf("the first line is not the header, %s", header);
     else if (ended && behind != ROLE_metadataLine) printf("the file ends before its metadata, %s", metadata);
@@ -273,7 +284,8 @@ static struct bytes read_file(const char *path) {
 }
 static void note_length(const char *path, struct bytes all) {
     if (all.length <= PROGRAM_ROOM) return;
-    printf("(the program load answers %d: %s has %zu bytes, and it takes %d at most)\n", MUIWASH_UNREADABLE, path, all.length, PROGRAM_ROOM);
+    printf("(the program load answers %d: %s has %zu bytes, and it takes %d at most)\n", MUIWASH_UNREADABLE, path, all.length,
+           PROGRAM_ROOM);
 }
 /* apply's answer, with a buffer as long as the program's, or as long as is always enough where an input is too long for the program. */
 static void take(struct bytes holding, struct bytes file, uint64_t answer[6]) {
@@ -294,7 +306,8 @@ int main(int argc, char **argv) {
     struct bytes holding = argc == 3 ? read_file(argv[1]) : nothing, file = read_file(argv[argc - 1]);
     if (argc == 3) take(holding, file, answer); else muiwash_check_file(file.start, file.length, answer);
     if (answer[0] == MUIWASH_DONE) {
-        printf("%s: %" PRIu64 " inserts, %" PRIu64 " updates, %" PRIu64 " deletes", argc == 3 ? "taken" : "sound", answer[3], answer[4], answer[5]);
+        printf("%s: %" PRIu64 " inserts, %" PRIu64 " updates, %" PRIu64 " deletes", argc == 3 ? "taken" : "sound", answer[3], answer[4],
+               answer[5]);
     } else {
         int held = answer[0] == MUIWASH_UNSOUND_HOLDING;
         printf("refused, code %" PRIu64 ": %sline %" PRIu64, answer[0], held ? "the holding, " : "", answer[1]);
