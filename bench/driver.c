@@ -1,0 +1,113 @@
+/* The loader's side of the benchmark, and its floor: driver OPERATION FOLDER [RUNS], on FOLDER's holding.csv and change.csv.
+ *   none      makes no call, so that what a run costs besides can be taken off
+ *   check_file, check_holding, apply, undo
+ *   floor     copies both files once with memcpy, and looks at each byte once, for the CR LFs, with memchr
+ *   new       leaves the new holding in FOLDER/new.csv, and fails unless its undo gives the old one back byte for byte
+ * With RUNS the call is made so many times, and the median time in microseconds printed. */
+#define _POSIX_C_SOURCE 200809L
+#include "../include/muiwash.h"
+#include <stdio.h>
+#include <stdlib.h>
+#include <string.h>
+#include <time.h>
+
+struct bytes { uint8_t *start; size_t length; };
+static struct bytes holding, change, out, undone, work;
+static uint64_t answer[6];
+static volatile size_t lines;
+
+static void fail(const char *what) {
+    fprintf(stderr, "driver: %s\n", what);
+    exit(1);
+}
+static struct bytes lent(size_t length) {
+    struct bytes b = {malloc(length), length};
+    if (!b.start) fail("no memory");
+    memset(b.start, 1, length);
+    return b;
+}
+static struct bytes read_file(const char *folder, const char *name) {
+    char path[4096];
+    snprintf(path, sizeof path, "%s/%s", folder, name);
+    FILE *f = fopen(path, "rb");
+    if (!f || fseek(f, 0, SEEK_END)) fail(path);
+    struct bytes b = lent((size_t)ftell(f));
+    rewind(f);
+    if (fread(b.start, 1, b.length, f) != b.length || fclose(f)) fail(path);
+    return b;
+}
+static size_t crlfs(struct bytes b) {
+    size_t found = 0;
+    const uint8_t *at = b.start, *end = b.start + b.length;
+    while (at < end && (at = memchr(at, '\r', (size_t)(end - at)))) {
+        at++;
+        if (at < end && *at == '\n') found++;
+    }
+    return found;
+}
+
+static void none(void) {}
+static void check_file(void) { muiwash_check_file(change.start, change.length, answer); }
+static void check_holding(void) { muiwash_check_holding(holding.start, holding.length, answer); }
+static void apply(void) { muiwash_apply(holding.start, holding.length, change.start, change.length, out.start, out.length, answer); }
+static void undo(void) {
+    muiwash_undo(holding.start, holding.length, change.start, change.length, undone.start, undone.length, work.start, work.length, answer);
+}
+static void touch_all(void) {
+    memcpy(out.start, holding.start, holding.length);
+    memcpy(out.start + holding.length, change.start, change.length);
+    lines = crlfs(holding) + crlfs(change);
+}
+/* What stands before the zeros. */
+static struct bytes written(struct bytes b) {
+    while (b.length > 0 && b.start[b.length - 1] == 0) b.length--;
+    return b;
+}
+static void new_holding(const char *folder) {
+    char path[4096];
+    undo();
+    apply();
+    struct bytes file = written(undone), taken = written(out), back = lent(taken.length + file.length + 24576);
+    if (answer[0]) fail("refused");
+    snprintf(path, sizeof path, "%s/new.csv", folder);
+    FILE *f = fopen(path, "wb");
+    if (!f || fwrite(taken.start, 1, taken.length, f) != taken.length || fclose(f)) fail(path);
+    muiwash_apply(taken.start, taken.length, file.start, file.length, back.start, back.length, answer);
+    back = written(back);
+    if (answer[0] || back.length != holding.length || memcmp(back.start, holding.start, back.length)) fail("the undo isn't one");
+}
+
+static double now(void) {
+    struct timespec t;
+    clock_gettime(CLOCK_PROCESS_CPUTIME_ID, &t);
+    return (double)t.tv_sec * 1e6 + (double)t.tv_nsec / 1e3;
+}
+static int by_size(const void *a, const void *b) {
+    double x = *(const double *)a, y = *(const double *)b;
+    return (x > y) - (x < y);
+}
+static void measure(void (*operation)(void), int runs, int shown) {
+    double *times = calloc((size_t)runs, sizeof *times);
+    for (int i = 0; i < runs; i++) {
+        double began = now();
+        operation();
+        times[i] = now() - began;
+    }
+    qsort(times, (size_t)runs, sizeof *times, by_size);
+    if (shown) printf("%.1f\n", times[runs / 2]);
+    if (answer[0]) fail("refused");
+}
+
+int main(int argc, char **argv) {
+    static const struct { const char *name; void (*run)(void); } operations[] = {
+        {"none", none}, {"check_file", check_file}, {"check_holding", check_holding},
+        {"apply", apply}, {"undo", undo}, {"floor", touch_all}};
+    if (argc < 3) fail("driver OPERATION FOLDER [RUNS]");
+    holding = read_file(argv[2], "holding.csv"), change = read_file(argv[2], "change.csv");
+    out = lent(holding.length + change.length + 24576), work = lent(out.length);
+    undone = lent(holding.length + 2 * change.length + 12288);
+    if (!strcmp(argv[1], "new")) return new_holding(argv[2]), 0;
+    for (size_t i = 0; i < sizeof operations / sizeof *operations; i++)
+        if (!strcmp(argv[1], operations[i].name)) return measure(operations[i].run, argc > 3 ? atoi(argv[3]) : 1, argc > 3), 0;
+    fail("no such operation");
+}

@@ -1,0 +1,65 @@
+# shellcheck shell=bash
+# Sourced, at the top of the repository, by the scripts that build and run: the kit, and what makes and runs programs for x86-64, for
+# which Rattle's code is. On x86-64 those are the machine's own compilers; on another machine Debian's cross compilers and an emulator.
+export PATH="$PATH:/opt/rattle/bin:${CARGO_HOME:-${HOME:-/root}/.cargo}/bin"
+if ! command -v rt >/dev/null; then
+  echo "$0 needs the Rattle kit: its command rt is neither on PATH nor in /opt/rattle/bin" >&2
+  exit 1
+fi
+kit=${RATTLE_HOME:-$(cd "$(dirname "$(readlink -f "$(command -v rt)")")/.." && pwd)}
+toolchain=$kit/on/$(uname -m)/toolchain
+cc=cc cxx=c++ emulator=
+if [ "$(uname -m)" != x86_64 ]; then
+  cc=x86_64-linux-gnu-gcc cxx=x86_64-linux-gnu-g++ emulator=$toolchain/bin/qemu-x86_64
+  [ -x "$emulator" ] || emulator=qemu-x86_64
+  # where the emulator finds the cross compilers' libraries
+  export QEMU_LD_PREFIX=/usr/x86_64-linux-gnu
+fi
+# The seven operations for C.
+archive=target/staticlib/libexports.a
+
+# COMMAND: the Debian packages that have it; nothing for one that Debian has too old.
+packages_of() {
+  case $1 in
+  cc) echo gcc libc6-dev ;;
+  c++) echo g++ ;;
+  x86_64-linux-gnu-gcc) echo gcc-x86-64-linux-gnu libc6-dev-amd64-cross ;;
+  x86_64-linux-gnu-g++) echo g++-x86-64-linux-gnu libc6-dev-amd64-cross ;;
+  qemu-x86_64) echo qemu-user ;;
+  python3) echo python3-minimal ;;
+  esac
+}
+
+# PACKAGE ..: installs them where this is root on Debian; whether it could.
+get_packages() {
+  [ $# -gt 0 ] && [ "$(id -u)" = 0 ] && command -v apt-get >/dev/null || return 1
+  echo "installing $*" >&2
+  local get='apt-get -qq -y -o DPkg::Lock::Timeout=120'
+  export DEBIAN_FRONTEND=noninteractive
+  $get install --no-install-recommends "$@" >/dev/null 2>&1 && return
+  $get update >/dev/null 2>&1 && $get install --no-install-recommends "$@" >/dev/null 2>&1
+}
+
+# COMMAND ..: whether this machine has them all, or can be given them; `lacks` is the first that it hasn't.
+tools() {
+  for lacks; do
+    command -v "$lacks" >/dev/null && continue
+    # shellcheck disable=SC2046
+    get_packages $(packages_of "$lacks") && command -v "$lacks" >/dev/null || return 1
+  done
+}
+
+# Proves the operations and writes the archive, unless it is newer than every source.
+make_archive() {
+  if [ -e $archive ] && [ -z "$(find crates.txt crates \( -name '*.rt' -o -name crates.txt \) -newer $archive -print -quit)" ]; then
+    return
+  fi
+  echo "proving the operations for C, for $archive" >&2
+  local log
+  log=$(mktemp)
+  if ! rt staticlib exports >"$log" 2>&1; then
+    cat "$log" >&2
+    exit 1
+  fi
+  rm -f "$log"
+}
