@@ -172,13 +172,6 @@ number-agrees k n t l x g =
     rw (numbers-values x g (keyNames (x .kind)) (subst (λ k. T (numbersIn k (keyNames k))) j t))
     (lex-padded 3 (n ∷ []) (numbersNamed x (keyNames (x .kind))) (omega (arith, length-numbers x (keyNames (x .kind)), u)) (omega arith)))
 
--- lists that are alike are of one length
-pub alike-length : (ns bs : List (List ℕ)) → Alike ns bs → length ns ≡ length bs
-alike-length [] [] h = refl
-alike-length [] (b ∷ bs) h = absurd h
-alike-length (a ∷ ns) [] h = absurd h
-alike-length (a ∷ ns) (b ∷ bs) h = ap suc (alike-length ns bs (h .1))
-
 -- and alike at each place
 pub alike-at : (ns bs : List (List ℕ)) → Alike ns bs → (j : ℕ) → j < length bs → Agree (getD ns j []) (getD bs j [])
 alike-at [] [] h j l = absurd (omega arith)
@@ -197,10 +190,6 @@ alike-all p q f (a ∷ ns) (b ∷ bs) h = rw (f a b (h .0), alike-all p q f ns b
 -- the references of a sound record, place by place
 pub refs-agree : (r : Rec) → T (fine r) → (j : ℕ) → j < length (refsOf r) → Agree (getD (refNumbers r) j []) (getD (refsOf r) j [])
 refs-agree r f j h = alike-at (refNumbers r) (refsOf r) (refs-alike r f) j h
-
--- there are as many
-pub refs-length : (r : Rec) → T (fine r) → length (refNumbers r) ≡ length (refsOf r)
-refs-length r f = alike-length (refNumbers r) (refsOf r) (refs-alike r f)
 
 -- keys that are alike are apart from the key of the same sound records
 pub agree-apart : (a b : List ℕ) → Agree a b → (x : Rec) → T (fine x) → apart numbered a (keyNumbers x) ≡ apart keyed b (keyOf x)

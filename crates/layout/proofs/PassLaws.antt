@@ -1,6 +1,6 @@
 -- The laws of the walk over the fields of a line that has as many as its kind, by where they end: none is past the last.
 use mathlib.Core.Path.{_≡_, refl, sym, ap, _∙_}
-use mathlib.Core.Bool.{Bool, true, false, not}
+use mathlib.Core.Bool.{Bool, true, false}
 use mathlib.Core.List.{List, [], _∷_, map}
 use Prim.Native.Nat.{ℕ, zero, suc, _+_, _-_, _≤_, _<_}
 use native.Mathlib.Nat.{zero-add}
@@ -8,14 +8,12 @@ use native.Mathlib.Omega.{arith}
 use native.Mathlib.Decide.{decLe}
 use borrow.Author.Tests.{lt-ltb, not-true, not-false}
 use borrow.Author.Needs.{needs}
-use lib.Dec.{ltb}
-use lib.ListN.{length, getD, take, drop, length-map, length-take, length-drop, drop-of-length-le}
+use lib.ListN.{length, getD, take, drop, length-map, length-drop, drop-of-length-le}
 use lib.Seq.{drop-drop}
-use Rattle.base.specs.Lists.{pick}
 use Rattle.meaning.specs.Forms.{soundAs}
-use Rattle.meaning.specs.Lines.{fieldsFrom, fieldsOf, hasFields}
+use Rattle.meaning.specs.Lines.{fieldsFrom, fieldsOf}
 use Rattle.meaning.specs.Table.{Kind, fields}
-use Rattle.text.specs.Places.{fieldLen, fieldEnd, endsFrom, fieldEnds, Notes}
+use Rattle.text.specs.Places.{fieldLen, fieldEnd, endsFrom, fieldEnds}
 use Rattle.text.proofs.FieldLaws.{fields-many}
 use Rattle.text.proofs.SplitLaws.{ends-at, len-le}
 use Rattle.layout.specs.Rows.{bare, rowOf, laidOut}

@@ -1,20 +1,16 @@
 -- The code's table says what the meaning's table says: one computed test, and what follows at each row.
-use mathlib.Core.Path.{_≡_, refl, sym, ap, _∙_}
-use mathlib.Core.Bool.{Bool, true, false}
-use mathlib.Core.Option.{Option, none, some}
+use mathlib.Core.Path.{_≡_, refl, sym, _∙_}
 use mathlib.Core.List.{List, [], _∷_, map}
-use Prim.Native.Nat.{ℕ, _+_, _*_, _/_, _%_, _≤_, _<_}
+use Prim.Native.Nat.{ℕ, _*_, _≤_, _<_}
 use native.Mathlib.Omega.{arith}
 use borrow.Author.Needs.{needs}
-use borrow.Author.Tests.{eq-eqb, ne-eqb}
-use lib.Dec.{eqb}
 use lib.ListN.{length, getD, List·getD-map}
 use mir.Syntax.{w64}
 use mir.Val.{Fits}
-use Rattle.meaning.specs.Table.{Kind, Field, header, street, streetXref, blpu, appXref, lpi, metadata, trailer, fields}
+use Rattle.meaning.specs.Table.{Kind, header, street, streetXref, blpu, appXref, lpi, metadata, trailer, fields}
 use Rattle.layout.specs.declared.kinds.Kind.{Kind as Named}
 use Rattle.layout.specs.Meant.{kindMeant}
-use Rattle.layout.specs.Rows.{Row, bare, noRow, rowOf, decoded, formDecoded, filledDecoded}
+use Rattle.layout.specs.Rows.{bare, noRow, rowOf, decoded, formDecoded, filledDecoded}
 
 -- the table's numbers, kind by kind
 unfoldable pub codes : Kind → List ℕ

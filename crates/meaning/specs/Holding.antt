@@ -1,12 +1,12 @@
 -- Paper 01, 'The holding': a run of body lines with no header or trailer, and the check of it, code 14.
-use mathlib.Core.Bool.{Bool, true, false, _&&_, _||_}
+use mathlib.Core.Bool.{Bool, true, false, _&&_}
 use mathlib.Core.Option.{Option, none, some}
-use mathlib.Core.List.{List, [], _∷_, _++_}
-use Prim.Native.Nat.{ℕ, zero, suc}
+use mathlib.Core.List.{List, [], _∷_}
+use Prim.Native.Nat.{ℕ, suc}
 use lib.Dec.{leb}
 use lib.ListN.{getD}
 use Rattle.theory.specs.Tri.{isLt}
-use Rattle.base.specs.Lists.{some?, pick, same, keepIf}
+use Rattle.base.specs.Lists.{pick, same, keepIf}
 use Rattle.theory.specs.Lex.{lex}
 use Rattle.theory.specs.Decimal.{dec}
 use Rattle.theory.specs.Limits.{most}

@@ -1,12 +1,12 @@
 -- Paper 01, 'Lines and fields' and 'Numbers given back': codes 4, 5 and 6 of one line, driven by the table.
-use mathlib.Core.Bool.{Bool, true, false, not, _&&_, _||_}
-use mathlib.Core.Option.{Option, none, some}
-use mathlib.Core.List.{List, [], _∷_, _++_}
+use mathlib.Core.Bool.{Bool, true, not}
+use mathlib.Core.Option.{Option}
+use mathlib.Core.List.{List, [], _∷_}
 use Prim.Native.Nat.{ℕ, suc}
 use lib.ListN.{length}
 use Rattle.theory.specs.Tri.{isLt}
 use Rattle.theory.specs.Lex.{lex}
-use Rattle.base.specs.Lists.{pick, ask}
+use Rattle.base.specs.Lists.{ask}
 use Rattle.meaning.specs.Lines.{fieldsOf, hasFields}
 use Rattle.meaning.specs.Forms.{soundAs}
 use Rattle.meaning.specs.Table.{Kind, Field, fields, named, placeFrom, startDate, endDate}

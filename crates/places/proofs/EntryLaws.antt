@@ -47,11 +47,6 @@ pub ruleset kinds = (needs, kind-known, kind-unknown)
 pub content-told : (t : List ℕ) (c : ℕ) → c ≡ contentStart t → take (length t - c) (drop c t) ≡ contentOf t
 content-told t c q = rw (take-all (length t - c) (drop c t) (omega (arith, length-drop c t)), q, content-part t)
 
--- a line's record is of its kind and content
-pub rec-line : (t : List ℕ) (k : Kind) (c : ℕ) → k ≡ known (kindOf (identifier t)) → c ≡ contentStart t → record { kind = k; content = take (length t - c) (drop c t) } ≡ recOf t
-unfolding recOf
-rec-line t k c e q = rw (e, content-told t c q)
-
 -- past the end stands an empty line
 pub line-past : (s : List ℕ) (at : ℕ) → length s < at → [] ≡ lineAt s at
 unfolding lineAt lineLen

@@ -1,5 +1,5 @@
 -- The laws of the lines that entries name: the record of a held line, and of a body line's change.
-use mathlib.Core.Path.{_≡_, refl, sym, ap, subst, _∙_}
+use mathlib.Core.Path.{_≡_, refl, sym, ap, _∙_}
 use mathlib.Core.Bool.{Bool, true, false}
 use mathlib.Core.Option.{Option, none, some, Option·some-injective}
 use mathlib.Core.List.{List, [], _∷_, nil≢cons}
@@ -13,10 +13,8 @@ use Rattle.meaning.specs.Lines.{Line, linesOf, endsWell, identifier}
 use Rattle.meaning.specs.Table.{Kind, kindOf, Role}
 use Rattle.meaning.specs.Records.{Rec, contentOf, changeOf}
 use Rattle.meaning.specs.Holding.{heldTest, heldKind, heldLine}
-use Rattle.meaning.specs.File.{Place, judgeLine, good}
 use Rattle.laws.specs.Body.{kind-in}
 use Rattle.laws.specs.SoundFile.{RoleLine}
-use Rattle.laws.specs.Judgement.{JudgedIs, judged}
 use Rattle.text.proofs.LineLaws.{lines-at, lines-end}
 use Rattle.places.specs.Places.{recOf, lineAt}
 
@@ -51,10 +49,6 @@ pub rec-change : (t : List ℕ) (k : Kind) → kindOf (identifier t) ≡ some k 
 unfolding changeOf
 rec-change t k e = rec-known t k e
 
--- so it is where the line is judged good
-pub rec-good : (p q : Place) (n : ℕ) (l : Line) (k : Kind) → judgeLine p n l ≡ good k q → recOf (l .text) ≡ changeOf k (l .text) .rec
-rec-good p q n l k e = rec-change (l .text) k (subst (JudgedIs p n l) e (judged p n l) .kind)
-
 -- ---- the line at an offset
 
 abbrev firstText : List Line → List ℕ
@@ -69,7 +63,3 @@ line-there s at l ls e = elim (decLe (length s) at) [ yes m ↦ absurd (nil≢co
 -- its record, where it is a held line
 pub held-there : (s : List ℕ) (at n : ℕ) (l : Line) (ls : List Line) (r : Rec) → linesOf (drop at s) ≡ l ∷ ls → heldLine n l ≡ some r → recOf (lineAt s at) ≡ r
 held-there s at n l ls r e q = rw (line-there s at l ls e) (rec-held n l r q)
-
--- and where it is a body line
-pub change-there : (s : List ℕ) (at : ℕ) (l : Line) (ls : List Line) (k : Kind) → linesOf (drop at s) ≡ l ∷ ls → kindOf (identifier (l .text)) ≡ some k → recOf (lineAt s at) ≡ changeOf k (l .text) .rec
-change-there s at l ls k e q = rw (line-there s at l ls e) (rec-change (l .text) k q)

@@ -68,16 +68,7 @@ entry-odd h f at v q =
 pub held-any : (h f g : List ℕ) (v : ℕ) → v % 2 ≡ 0 → entry h f v ≡ entry h g v
 held-any h f g v e = entry-held h f v e ∙ sym (entry-held h g v e)
 
--- an entry of the file does not depend on the holding
-pub filed-any : (h g f : List ℕ) (v : ℕ) → (v % 2 ≡ 0 → ⊥) → entry h f v ≡ entry g f v
-filed-any h g f v e = entry-filed h f v e ∙ sym (entry-filed g f v e)
-
 -- ---- what the first n entries say
-
--- they say what the same entries say in another array
-pub says-same : (h f a b : List ℕ) (n : ℕ) → take n a ≡ take n b → says h f a n ≡ says h f b n
-unfolding says
-says-same h f a b n e = rw e
 
 -- entries of the holding alone say the same beside every file
 pub says-held : (h f g a : List ℕ) (n : ℕ) → T (all (λ v. eqb (v % 2) 0) (take n a)) → says h f a n ≡ says h g a n

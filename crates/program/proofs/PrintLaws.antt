@@ -9,7 +9,6 @@ use borrow.Rule.Slice.PartMut.{putMid}
 use lib.ListN.{length, take, drop, length-append}
 use lib.Seq.{length-take-le}
 use Rattle.io.specs.Counts.{Counts}
-use Rattle.base.specs.Lists.{zeros}
 use Rattle.theory.specs.Answer.{Answer, took, refused}
 use Rattle.meaning.specs.Holding.{written}
 use Rattle.meaning.specs.Load.{load, applied, apply, filled}

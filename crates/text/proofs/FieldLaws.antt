@@ -150,11 +150,6 @@ count-other l q m i x b q′ e h p t k =
     go [] h e = absurd (omega arith)
     go (f ∷ fs) h e = e
 
--- a byte above the comma is passed
-pub count-high : (l : List ℕ) (q : Bool) (m i x : ℕ) → countAt l q m i ≡ x → i < length l → 44 < getD l i 0 → countAt l q m (i + 1) ≡ x
-count-high l q m i x e h g =
-    count-other l q m i x false q e h (sym (high-sep q (getD l i 0) g)) refl (sym (high-stays q (getD l i 0) g))
-
 -- an open quote counts nothing
 pub count-open : (l : List ℕ) (q : Bool) (m i x : ℕ) → countAt l q m i ≡ x → length l ≤ i → q ≡ true → 0 ≡ x
 unfolding quoteAfter

@@ -1,22 +1,21 @@
 -- The laws of the walk that notes where the fields of a line end, and of a field by what is noted.
 use mathlib.Core.Path.{_≡_, refl, ap, _∙_, sym}
-use mathlib.Core.Bool.{Bool, true, false, not, _&&_}
+use mathlib.Core.Bool.{Bool, true, false}
 use mathlib.Core.List.{List, [], _∷_}
 use Prim.Native.Nat.{ℕ, zero, suc, _+_, _-_, _≤_, _<_}
-use native.Mathlib.Nat.{add-zero, zero-add}
-use native.Mathlib.Numerals.{add-one}
+use native.Mathlib.Nat.{add-zero}
 use native.Mathlib.Omega.{arith}
 use native.Mathlib.Decide.{decLt}
-use borrow.Author.Tests.{lt-ltb, le-ltb}
+use borrow.Author.Tests.{lt-ltb}
 use borrow.Author.Needs.{needs}
 use lib.Dec.{ltb, ltb→lt, leb·suc-suc}
 use lib.ListN.{length, getD, drop, take, set, length-set, length-drop}
-use lib.Seq.{drop-drop, drop-cons, getD-set-same, getD-set-other}
+use lib.Seq.{drop-drop, getD-set-same, getD-set-other}
 use Rattle.base.specs.Lists.{pick}
 use Rattle.base.proofs.Walk.{at-cons, at-end}
 use Rattle.meaning.specs.Lines.{isSep, turned, addByte, fieldsFrom, fieldsOf}
 use Rattle.text.specs.Places.{fieldCount, fieldLen, fieldEnd, endsFrom, fieldEnds, Notes}
-use Rattle.text.proofs.FieldLaws.{sep-outside, sep-stays, high-sep, high-stays, fields-some, fields-at, countAt, count-start, count-sep, count-other, count-high, count-open, count-shut}
+use Rattle.text.proofs.FieldLaws.{sep-outside, sep-stays, high-sep, high-stays, fields-some, fields-at, countAt, count-start, count-sep, count-other, count-open, count-shut}
 
 -- ---- as many ends as fields
 

@@ -1,5 +1,5 @@
 -- Where lines, fields and contents stand in the bytes that were lent: the offsets that a walk goes by. Laws of proofs/ tie each to the meaning.
-use mathlib.Core.Bool.{Bool, true, false, _&&_}
+use mathlib.Core.Bool.{Bool, false, _&&_}
 use mathlib.Core.List.{List, [], _∷_}
 use Prim.Native.Nat.{ℕ, suc, _+_, _-_, _≤_, _<_}
 use mathlib.Core.Path.{_≡_}

@@ -80,23 +80,3 @@ module _ (K : Keyed) (H : Holding K) (F : Format (K .Rec) (H .fine)) (Room : Typ
   unfoldable pub undoOf : List ℕ → List ℕ → List ℕ
   unfolding undoHold
   undoOf old b = undoHold b (hold old)
-
-  -- ---- a run of files, each with what was lent for it
-
-  -- the holding that an answer leaves
-  unfoldable pub newOf : List ℕ → Answer → List ℕ
-  newOf old (took new i u d) = new
-  newOf old (refused c l f) = old
-
-  -- the holding after one file
-  unfoldable pub next : List ℕ → Room × List ℕ → List ℕ
-  unfolding newOf
-  next old t = newOf old (apply (t .0) old (t .1))
-
-  -- the way back over one file: its undo, with what was lent for the file
-  unfoldable pub backTurn : List ℕ → Room × List ℕ → Room × List ℕ
-  backTurn old t = (t .0, undoOf old (t .1))
-
-  -- one file is taken
-  unfoldable pub Accepted : List ℕ → Room × List ℕ → Type 0
-  Accepted old t = Applied (t .0) old (t .1) (next old t)

@@ -1,15 +1,15 @@
--- Laws of apply and undo on bytes: what an answer says, and that the undos of a run of files give every holding back.
+-- Laws of apply and undo on bytes: what an answer says, and that the undo of a file gives the holding back.
 use mathlib.Core.Path.{_≡_, refl, ap, subst}
 use mathlib.Core.Option.{Option, none, some}
-use mathlib.Core.List.{List, reverse}
+use mathlib.Core.List.{List}
 use Prim.Native.Nat.{ℕ}
 use lib.Dec.{T}
 use Rattle.base.specs.ListLaws.{all-append, append-all}
 use Rattle.theory.specs.Keyed.{Keyed}
 use Rattle.theory.specs.Step.{ins, upd, del, Change, Test, passes, fails, after, back}
 use Rattle.theory.specs.StepLaws.{passes-fails, fails-passes}
-use Rattle.theory.specs.Trail.{final, trace, Each, undo}
-use Rattle.theory.specs.TrailLaws.{length-undo, ok*, same*, trace*}
+use Rattle.theory.specs.Trail.{final, undo}
+use Rattle.theory.specs.TrailLaws.{length-undo}
 use Rattle.theory.specs.Run.{Out, done, stop, run, Good}
 use Rattle.theory.specs.RunLaws.{run-taken, taken-run, fine-final, fine-undo, good-final, undo-taken, undo-same}
 use Rattle.theory.specs.Answer.{Read, fault, file, Answer, took, count}
@@ -40,15 +40,6 @@ module _ (K : Keyed) (H : Holding K) (F : Format (K .Rec) (H .fine)) (Room : Typ
 
   abbrev undoOf : List ℕ → List ℕ → List ℕ
   undoOf = A.undoOf K H F Room late badLine
-
-  abbrev next : List ℕ → Room × List ℕ → List ℕ
-  next = A.next K H F Room late badLine
-
-  abbrev backTurn : List ℕ → Room × List ℕ → Room × List ℕ
-  backTurn = A.backTurn K H F Room late badLine
-
-  abbrev Accepted : List ℕ → Room × List ℕ → Type 0
-  Accepted = A.Accepted K H F Room late badLine
 
   -- ---- what an answer says
 
@@ -116,31 +107,3 @@ module _ (K : Keyed) (H : Holding K) (F : Format (K .Rec) (H .fine)) (Room : Typ
         takes = undo-taken K (tests room) st cs g (a .takes);
         made = rw (undo-same K (tests room) st cs g (a .takes)) (h .0);
       }
-
-  -- ---- the undos of a run of files
-
-  next-applied : (old : List ℕ) (t : Room × List ℕ) (new : List ℕ) → Applied (t .0) old (t .1) new → next old t ≡ new
-  unfolding A.next
-  next-applied old t new a = rw (apply-took (t .0) old (t .1) new a)
-
-  turn-same : (old : List ℕ) (t : Room × List ℕ) → Unit {0} → Accepted old t → next (next old t) (backTurn old t) ≡ old
-  unfolding A.Accepted A.backTurn
-  turn-same old t i a = next-applied (next old t) (backTurn old t) old (back-one (t .0) old (t .1) (next old t) a)
-
-  turn-ok : (old : List ℕ) (t : Room × List ℕ) → Unit {0} → Accepted old t → Accepted (next old t) (backTurn old t)
-  unfolding A.Accepted A.backTurn
-  turn-ok old t i a = rw (turn-same old t i a) (back-one (t .0) old (t .1) (next old t) a)
-
-  -- of a run of files that are taken one after another
-  module _ (old : List ℕ) (fs : List (Room × List ℕ)) (ok : Each next Accepted old fs) where
-    -- every undo, the last first, is taken
-    pub files-back : Each next Accepted (final next old fs) (undo next backTurn old fs)
-    files-back = ok* next backTurn Accepted (λ b. Unit {0}) (λ s c i a. tt) turn-ok turn-same old fs tt ok
-
-    -- the undos give the first holding back, byte for byte
-    pub files-same : final next (final next old fs) (undo next backTurn old fs) ≡ old
-    files-same = same* next backTurn Accepted (λ b. Unit {0}) (λ s c i a. tt) turn-ok turn-same old fs tt ok
-
-    -- the undos give every holding back, byte for byte, the last first
-    pub files-trace : trace next (final next old fs) (undo next backTurn old fs) ≡ reverse (trace next old fs)
-    files-trace = trace* next backTurn Accepted (λ b. Unit {0}) (λ s c i a. tt) turn-ok turn-same old fs tt ok

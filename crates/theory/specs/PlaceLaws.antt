@@ -19,12 +19,6 @@ use Rattle.theory.specs.Place.{hit, ahead, ranks, rank}
 module _ (K : Keyed) where
   open Keyed K using (Key, Rec, cmp, order, key)
 
-  -- records that stand before the key can be passed over by a look-up
-  pub get-scan : (k : Key) (pre post : List Rec) → T (all (ahead K k) pre) → get K k (pre ++ post) ≡ get K k post
-  unfolding get ahead
-  get-scan k [] post t = refl
-  get-scan k (x ∷ xs) post t = rw (is-gt (cmp k (key x)) (and-l (ahead K k x) _ t)) (get-scan k xs post (and-r (ahead K k x) _ t))
-
   -- a put keeps the records before the key and those after it, and sets what stands at the key between them
   pub put-at : (k : Key) (o : Option Rec) (st : List Rec) → put K k o st ≡ take (rank K k st) st ++ cons? o (drop (rank K k st + hit (get K k st)) st)
   unfolding put get rank

@@ -2,7 +2,7 @@
 use mathlib.Core.Path.{_≡_, refl, ap, _∙_, subst}
 use mathlib.Core.Bool.{Bool}
 use mathlib.Core.Option.{Option, none, some, Option·getD}
-use mathlib.Core.List.{List, [], _∷_, reverse}
+use mathlib.Core.List.{List, [], _∷_}
 use Prim.Native.Nat.{ℕ, suc}
 use native.Mathlib.Omega.{arith}
 use lib.Dec.{T}
@@ -18,8 +18,8 @@ use Rattle.theory.specs.Refs.{apart}
 use Rattle.theory.specs.RefsLaws.{by-key, apart-ne}
 use Rattle.theory.specs.Step.{Op, ins, upd, del, Change, Test, new, at, after, back, judge}
 use Rattle.theory.specs.StepLaws.{judge-ok, ok-judge, after-back, back-allowed, get-after, asc-after, at-new}
-use Rattle.theory.specs.Trail.{final, trace, Through, undo}
-use Rattle.theory.specs.TrailLaws.{keep*, through*, same*, ok*, trace*}
+use Rattle.theory.specs.Trail.{final, Through, undo}
+use Rattle.theory.specs.TrailLaws.{keep*, through*, same*, ok*}
 use Rattle.theory.specs.Run.{Out, done, stop, on, choose, last, free, fineC, run, Ok, Taken, Good, Tells}
 
 module _ (K : Keyed) where
@@ -38,11 +38,6 @@ module _ (K : Keyed) where
   unfolding last
   get-final k st [] a = refl
   get-final k st (c ∷ cs) a = get-final k (after K st c) cs (asc-after K st c a) ∙ ap (last K k cs) (get-step k st c a)
-
-  -- keys still ascend after a run
-  pub asc-final : (st : List Rec) (cs : List (Change Rec)) → Asc K st → Asc K (final (after K) st cs)
-  asc-final st [] a = a
-  asc-final st (c ∷ cs) a = asc-final (after K st c) cs (asc-after K st c a)
 
   -- where no change names the key, none of them decides what stands there
   pub unnamed : (k : Key) (cs : List (Change Rec)) (o : Option Rec) → T (free K k cs) → last K k cs o ≡ o
@@ -148,7 +143,3 @@ module _ (K : Keyed) where
       -- the changes back lead to the first state
       pub undo-same : final (after K) (final (after K) st cs) (undo (after K) (back K) st cs) ≡ st
       undo-same = same* (after K) (back K) (Ok K ts) (Good K ts) good-after good-back good-same st cs g t
-
-      -- the changes back lead through the same states, the last first
-      pub undo-trace : trace (after K) (final (after K) st cs) (undo (after K) (back K) st cs) ≡ reverse (trace (after K) st cs)
-      undo-trace = trace* (after K) (back K) (Ok K ts) (Good K ts) good-after good-back good-same st cs g t

@@ -2,38 +2,16 @@
 use mathlib.Core.Path.{_≡_, refl, sym, ap, ap₂, _∙_}
 use mathlib.Core.Option.{some, Option·some-injective}
 use mathlib.Core.List.{List, [], _∷_}
-use lib.Dec.{T}
-use Rattle.base.specs.Tests.{and-in, and-l, and-r, some≢none}
+use Rattle.base.specs.Tests.{some≢none}
 use Rattle.theory.specs.Tri.{Tri, lt, eq, gt, flip}
-use Rattle.theory.specs.TriLaws.{is-lt}
 use Rattle.theory.specs.Keyed.{Keyed}
-use Rattle.theory.specs.Store.{get, gets, Low, Asc, low?, asc?}
+use Rattle.theory.specs.Store.{get, gets, Low, Asc}
 use Rattle.theory.specs.StoreLaws.{low-down, low-same, get-low}
 
 module _ (K : Keyed) where
   open Keyed K using (Key, Rec, cmp, order, key)
 
   -- ---- the order as a test
-
-  -- where the test holds keys ascend
-  pub asc?-Asc : (st : List Rec) → T (asc? K st) → Asc K st
-  unfolding asc?
-  asc?-Asc [] t = tt
-  asc?-Asc (x ∷ xs) t = (go xs (and-l (low? K (key x) xs) (asc? K xs) t), asc?-Asc xs (and-r (low? K (key x) xs) (asc? K xs) t))
-    where
-      go : (l : List Rec) → T (low? K (key x) l) → Low K (key x) l
-      go [] t = tt
-      go (y ∷ l) t = is-lt (cmp (key x) (key y)) t
-
-  -- where keys ascend the test holds
-  pub Asc-asc? : (st : List Rec) → Asc K st → T (asc? K st)
-  unfolding asc?
-  Asc-asc? [] a = tt
-  Asc-asc? (x ∷ xs) a = and-in (low? K (key x) xs) (asc? K xs) (go xs (a .0)) (Asc-asc? xs (a .1))
-    where
-      go : (l : List Rec) → Low K (key x) l → T (low? K (key x) l)
-      go [] h = tt
-      go (y ∷ l) h = rw h tt
 
   -- ---- a state is known by its look-ups
 

@@ -7,11 +7,6 @@ module _ {S C : Type 0} (after : S → C → S) where
   final s [] = s
   final s (c ∷ cs) = final (after s c) cs
 
-  -- the states from the first to the last
-  abbrev pub trace : S → List C → List S
-  trace s [] = s ∷ []
-  trace s (c ∷ cs) = s ∷ trace (after s c) cs
-
   -- every step is allowed in the state in which it is made
   abbrev pub Each : (S → C → Type 0) → S → List C → Type 0
   Each Ok s [] = Unit {0}

@@ -1,9 +1,9 @@
 -- Laws of steps and the way back: where each step can be taken back, so can any run of them, through the same states.
-use mathlib.Core.Path.{_≡_, refl, sym, ap, _∙_}
-use mathlib.Core.List.{List, [], _∷_, _++_, reverse, reverse-cons}
+use mathlib.Core.Path.{_≡_, refl, _∙_}
+use mathlib.Core.List.{List, [], _∷_, _++_}
 use native.Mathlib.Omega.{arith}
 use lib.ListN.{length, length-append}
-use Rattle.theory.specs.Trail.{final, trace, Each, Through, undo}
+use Rattle.theory.specs.Trail.{final, Each, Through, undo}
 
 module _ {S C : Type 0} (after : S → C → S) where
   -- ---- steps after steps
@@ -17,15 +17,6 @@ module _ {S C : Type 0} (after : S → C → S) where
   pub each-append : (Ok : S → C → Type 0) (s : S) (xs ys : List C) → Each after Ok s xs → Each after Ok (final after s xs) ys → Each after Ok s (xs ++ ys)
   each-append Ok s [] ys a b = b
   each-append Ok s (x ∷ xs) ys a b = (a .0, each-append Ok (after s x) xs ys (a .1) b)
-
-  trace-snoc : (s : S) (xs : List C) (y : C) → trace after s (xs ++ (y ∷ [])) ≡ trace after s xs ++ (after (final after s xs) y ∷ [])
-  trace-snoc s [] y = refl
-  trace-snoc s (x ∷ xs) y = ap (λ l. s ∷ l) (trace-snoc (after s x) xs y)
-
-  -- the way back over one step more begins with that step's
-  pub undo-snoc : (back : S → C → C) (s : S) (cs : List C) (c : C) → undo after back s (cs ++ (c ∷ [])) ≡ back (final after s cs) c ∷ undo after back s cs
-  undo-snoc back s [] c = refl
-  undo-snoc back s (x ∷ cs) c = ap (λ l. l ++ (back s x ∷ [])) (undo-snoc back (after s x) cs c)
 
   -- the way back has as many steps
   pub length-undo : (back : S → C → C) (s : S) (cs : List C) → length (undo after back s cs) ≡ length cs
@@ -64,12 +55,3 @@ module _ {S C : Type 0} (after : S → C → S) where
         let i′ = keep s c i (g .0) in
         each-append Ok (final after s′ cs) (undo after back s′ cs) (back s c ∷ []) (ok* s′ cs i′ (g .1))
         (rw (same* s′ cs i′ (g .1)) (ok s c i (g .0), tt))
-
-    -- the way back goes through the same states, the last first
-    pub trace* : (s : S) (cs : List C) → Inv s → Each after Ok s cs → trace after (final after s cs) (undo after back s cs) ≡ reverse (trace after s cs)
-    trace* s [] i g = refl
-    trace* s (c ∷ cs) i g =
-        let s′ = after s c in
-        let i′ = keep s c i (g .0) in
-        trace-snoc (final after s′ cs) (undo after back s′ cs) (back s c)
-        ∙ rw (same* s′ cs i′ (g .1), same s c i (g .0), trace* s′ cs i′ (g .1)) (sym (reverse-cons s (trace after s′ cs)))

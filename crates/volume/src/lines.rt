@@ -7,7 +7,7 @@ ghost use lib.ListN.{length, getD};
 ghost use Rattle.base.specs.Lists.{ask};
 ghost use Rattle.theory.specs.Decimal.{value};
 ghost use Rattle.meaning.specs.Lines.{fieldsOf};
-ghost use Rattle.meaning.specs.Table.{kindOf, fields};
+ghost use Rattle.meaning.specs.Table.{fields};
 ghost use Rattle.meaning.specs.Records.{opOf};
 ghost use Rattle.meaning.specs.File.{hasRoom};
 ghost use Rattle.layout.specs.Meant.{kindMeant, roleMeant};

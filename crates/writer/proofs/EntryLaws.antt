@@ -1,5 +1,5 @@
 -- The laws of the line of an entry's record.
-use mathlib.Core.Path.{_≡_, refl, sym, ap, _∙_}
+use mathlib.Core.Path.{_≡_, _∙_}
 use mathlib.Core.List.{List, []}
 use Prim.Native.Nat.{ℕ, _+_, _-_, _/_, _%_, _≤_, _<_}
 use native.Mathlib.Omega.{arith}
@@ -7,7 +7,7 @@ use borrow.Author.Needs.{needs}
 use lib.ListN.{length, getD, take, drop, length-drop}
 use lib.Seq.{take-all}
 use Rattle.base.proofs.Walk.{at-end}
-use Rattle.theory.specs.Step.{Op, inv, Change}
+use Rattle.theory.specs.Step.{Op, inv}
 use Rattle.theory.specs.Decimal.{width}
 use Rattle.meaning.specs.Lines.{identifier, fieldsOf}
 use Rattle.meaning.specs.Table.{Kind, kindOf}

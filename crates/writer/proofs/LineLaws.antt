@@ -10,11 +10,11 @@ use lib.ListN.{length, take, drop, length-append, length-drop}
 use lib.Seq.{length-take-le}
 use Rattle.base.specs.Lists.{same, bytes}
 use Rattle.base.specs.ListLaws.{same-eq}
-use Rattle.theory.specs.Step.{Op, ins, upd, del, Change}
+use Rattle.theory.specs.Step.{Op, ins, upd, del}
 use Rattle.theory.specs.Decimal.{width, widthF, dec, value, valueF}
 use Rattle.theory.specs.DecimalLaws.{length-dec}
 use Rattle.meaning.specs.Table.{Kind, kinds, ident}
-use Rattle.meaning.specs.Records.{Rec, letter, changeText}
+use Rattle.meaning.specs.Records.{letter, changeText}
 use Rattle.laws.specs.Kinds.{every}
 use Rattle.text.specs.Front.{inFront}
 use Rattle.text.proofs.PutLaws.{front-then}

@@ -13,7 +13,6 @@ use lib.Seq.{length-take-le, take-add, take-all}
 use Rattle.theory.specs.Step.{Op, ins, inv, Change}
 use Rattle.theory.specs.Run.{inserts}
 use Rattle.meaning.specs.Records.{Rec, changeText, changeTexts, joined}
-use Rattle.meaning.specs.Holding.{written}
 use Rattle.text.specs.Front.{inFront}
 use Rattle.text.proofs.PutLaws.{front-none, front-then}
 use Rattle.places.specs.Places.{entry, says}

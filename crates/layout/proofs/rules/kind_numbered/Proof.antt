@@ -1,5 +1,4 @@
 -- `layout::rules::kind_numbered` meets its contract.
-use borrow.Author.Needs.{needs}
 use borrow.Author.Tests.{ne-eqb}
 use Rattle.meaning.specs.Table.{kinds, ident, numberedAmong}
 use Rattle.base.specs.Lists.{bytes}
