@@ -1,10 +1,11 @@
--- Laws of lists: a test of every element, and runs of bytes that are the same.
-use mathlib.Core.Path.{_≡_, refl, ap₂}
+-- Laws of lists: a test of every element, runs of bytes that are the same, and zeros.
+use mathlib.Core.Path.{_≡_, refl, ap, ap₂}
 use mathlib.Core.Bool.{Bool}
 use mathlib.Core.List.{List, [], _∷_, _++_}
-use Prim.Native.Nat.{ℕ}
+use Prim.Native.Nat.{ℕ, zero, suc}
 use lib.Dec.{T, eqb, eqb-refl, eqb→eq}
-use Rattle.base.specs.Lists.{all, same}
+use lib.ListN.{length}
+use Rattle.base.specs.Lists.{all, same, zeros}
 use Rattle.base.specs.Tests.{and-in, and-l, and-r, bools}
 
 -- ---- a test of every element
@@ -56,3 +57,11 @@ same-eq [] [] t = refl
 same-eq [] (y ∷ b) t = absurd t
 same-eq (x ∷ a) [] t = absurd t
 same-eq (x ∷ a) (y ∷ b) t = ap₂ (λ u v. u ∷ v) (eqb→eq x y (and-l (eqb x y) (same a b) t)) (same-eq a b (and-r (eqb x y) (same a b) t))
+
+-- ---- zeros
+
+-- so many zeros are so many
+pub length-zeros : (n : ℕ) → length (zeros n) ≡ n
+unfolding zeros
+length-zeros zero = refl
+length-zeros (suc n) = ap suc (length-zeros n)

@@ -1,8 +1,8 @@
 -- What stands in the buffers afterwards, and how long they are; and that any two outcomes that meet a statement are equal.
-use mathlib.Core.Path.{_≡_, refl, sym, ap, _∙_, subst}
+use mathlib.Core.Path.{_≡_, refl, sym, _∙_, subst}
 use mathlib.Core.Bool.{Bool, true, false}
 use mathlib.Core.List.{List}
-use Prim.Native.Nat.{ℕ, zero, suc, _-_}
+use Prim.Native.Nat.{ℕ, _-_}
 use native.Mathlib.Omega.{arith}
 use lib.Dec.{T, leb}
 use lib.ListN.{length}
@@ -55,11 +55,6 @@ undo-refused-zeros old b out space n = go (load space old b) n
     go : (x : Answer) → Left (undone out space (undoBytes old b) x)
     go (took new i u d) = either (leb (length (undoBytes old b)) out) _ _ (λ n. absurd (n refl)) (λ n. (refl, refl, refl, refl))
     go (refused c l f) = λ n. (refl, refl, refl, refl)
-
-length-zeros : (n : ℕ) → length (zeros n) ≡ n
-unfolding zeros
-length-zeros zero = refl
-length-zeros (suc n) = ap suc (length-zeros n)
 
 -- any two outcomes that meet a statement are equal
 pub one-outcome : {X : Type 0} (f x y : X) → x ≡ f → y ≡ f → x ≡ y

@@ -13,7 +13,7 @@ use Rattle.base.specs.Tests.{T-true}
 use Rattle.theory.specs.Store.{get}
 use Rattle.theory.specs.Refs.{apart}
 use Rattle.theory.specs.Step.{Op, Change, new}
-use Rattle.theory.specs.Run.{last, choose}
+use Rattle.theory.specs.Run.{last}
 use Rattle.theory.specs.LexLaws.{lex-order}
 use Rattle.theory.specs.RefsLaws.{by-key, apart-ne}
 use Rattle.meaning.specs.Records.{Rec, keyed, keyOf}
@@ -42,16 +42,16 @@ apart-same q k d = go (same q k) refl
 
 naming : (q : List ℕ) (st : List Rec) (whole pre cs : List (Change Rec)) (i : ℕ) (o : Option (ℕ × Op)) (v : Option Rec) → whole ≡ pre ++ cs → i ≡ suc (length pre)
     → NamedSays q st whole o v → NamedSays q st whole (lastNaming q i cs o) (last keyed q cs v)
-unfolding lastNaming last choose
+unfolding lastNaming last
 naming q st whole pre [] i o v e n s = s
 naming q st whole pre (c ∷ cs) i o v e n s =
     let k = keyOf (c .rec) in
-    naming q st whole (pre ++ (c ∷ [])) cs (suc i) (pick (same q k) (some (i, c .op)) o) (choose (apart keyed q k) v (new (c .op) (c .rec)))
+    naming q st whole (pre ++ (c ∷ [])) cs (suc i) (pick (same q k) (some (i, c .op)) o) (pick (apart keyed q k) v (new (c .op) (c .rec)))
     (e ∙ sym (append-assoc pre (c ∷ []) cs)) (omega (arith, n, length-append pre (c ∷ [])))
     (by-key keyed q k (here v) (λ d. rw (apart-same q k d, T-true (apart keyed q k) d) s))
   where
     here : (v : Option Rec) → q ≡ keyOf (c .rec)
-        → NamedSays q st whole (pick (same q (keyOf (c .rec))) (some (i, c .op)) o) (choose (apart keyed q (keyOf (c .rec))) v (new (c .op) (c .rec)))
+        → NamedSays q st whole (pick (same q (keyOf (c .rec))) (some (i, c .op)) o) (pick (apart keyed q (keyOf (c .rec))) v (new (c .op) (c .rec)))
     here v h =
         let k = keyOf (c .rec) in
         let a : apart keyed q k ≡ false = unfold apart in rw (h, lex-order .same k) refl in

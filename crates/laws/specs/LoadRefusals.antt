@@ -6,9 +6,9 @@ use Prim.Native.Nat.{ℕ, suc, _+_, _≤_, _<_}
 use native.Mathlib.Omega.{arith}
 use lib.Dec.{T, eqb}
 use lib.ListN.{length}
-use Rattle.base.specs.Lists.{pick}
+use Rattle.base.specs.Lists.{pick, ask}
 use Rattle.theory.specs.Store.{get}
-use Rattle.theory.specs.Step.{Op, ins, upd, del, Change, Test, fails, need, allowed, codeOf, at, after, judge}
+use Rattle.theory.specs.Step.{Op, ins, upd, del, Change, Test, fails, allowed, codeOf, at, after, judge}
 use Rattle.theory.specs.Run.{Out, done, stop, on, run}
 use Rattle.theory.specs.Answer.{Read, fault, file, Answer, took, refused}
 use Rattle.meaning.specs.Records.{Rec, keyed}
@@ -50,8 +50,8 @@ abbrev CodeIn : Option ℕ → Type 0
 CodeIn none = Unit {0}
 CodeIn (some w) = T (among w stepCodes)
 
-need-in : (b : Bool) (w : ℕ) (rest : Option ℕ) → T (among w stepCodes) → CodeIn rest → CodeIn (need b w rest)
-unfolding need
+need-in : (b : Bool) (w : ℕ) (rest : Option ℕ) → T (among w stepCodes) → CodeIn rest → CodeIn (ask b w rest)
+unfolding ask
 need-in true w rest p r = r
 need-in false w rest p r = p
 

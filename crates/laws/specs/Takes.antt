@@ -7,9 +7,9 @@ use Prim.Native.Nat.{ℕ, _≤_}
 use lib.Dec.{T, leb, leb→le}
 use lib.ListN.{length}
 use Rattle.base.specs.ListLaws.{append-all}
-use Rattle.base.specs.Lists.{all, pick}
+use Rattle.base.specs.Lists.{all, pick, ask}
 use Rattle.base.specs.Tests.{and-l, bools}
-use Rattle.theory.specs.Step.{ins, upd, del, Change, Test, fails, need, after, passes}
+use Rattle.theory.specs.Step.{ins, upd, del, Change, Test, fails, after, passes}
 use Rattle.theory.specs.Trail.{final}
 use Rattle.theory.specs.Run.{Out, done, stop, run, Good}
 use Rattle.theory.specs.Answer.{Read, fault, file, Answer, took, refused, count}
@@ -53,11 +53,11 @@ same-run cs (done st) = refl
 same-run cs (stop n w) = refl
 
 same-start : (room : ℕ) (st : List Rec) (s : Sheet) → fromStart room st s ≡ A.onFile keyed holding format ℕ late badLine room st (file s)
-unfolding fromStart A.onFile fits stepTests fails need A.ifRoom
+unfolding fromStart A.onFile fits stepTests fails ask A.ifRoom
 same-start room st s = go (leb (length (written st)) room)
   where
     go : (c : Bool) → pick c (outcome (s .1) (run keyed (stepTests room) 2 st (s .1))) (refused 13 0 0)
-        ≡ A.ifRoom keyed holding format ℕ late badLine (need c 13 none)
+        ≡ A.ifRoom keyed holding format ℕ late badLine (ask c 13 none)
         (A.outcome keyed holding format ℕ late badLine (s .1) (run keyed (always ++ late room) 2 st (s .1)))
     go true = same-run (s .1) (run keyed (stepTests room) 2 st (s .1))
     go false = refl

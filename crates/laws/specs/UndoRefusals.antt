@@ -6,11 +6,11 @@ use mathlib.Core.List.{List, [], _∷_, _++_}
 use Prim.Native.Nat.{ℕ, suc}
 use lib.Dec.{T, leb, eqb}
 use lib.ListN.{length}
-use Rattle.base.specs.Lists.{pick}
+use Rattle.base.specs.Lists.{pick, ask}
 use Rattle.base.specs.Tests.{and-l, and-r, T-true}
 use Rattle.theory.specs.Store.{get}
 use Rattle.theory.specs.Refs.{met}
-use Rattle.theory.specs.Step.{Change, fails, need, allowed, at, after, judge}
+use Rattle.theory.specs.Step.{Change, fails, allowed, at, after, judge}
 use Rattle.theory.specs.Run.{Out, done, stop, on, run, Taken}
 use Rattle.theory.specs.Limits.{few}
 use Rattle.theory.specs.Answer.{Answer, took, refused}
@@ -32,13 +32,13 @@ abbrev None13 : Option ℕ → Type 0
 None13 none = Unit {0}
 None13 (some w) = w ≡ 13
 
-need-13 : (b : Bool) → None13 (need b 13 none)
-unfolding need
+need-13 : (b : Bool) → None13 (ask b 13 none)
+unfolding ask
 need-13 true = tt
 need-13 false = refl
 
 step-13 : (room space : ℕ) (st : List Rec) (c : Change Rec) → judge keyed (always ++ late room) st c ≡ none → None13 (judge keyed (stepTests space) st c)
-unfolding judge fails stepTests need
+unfolding judge fails stepTests ask
 step-13 room space st c e =
     let st2 = after keyed st c in
     let a = ok-judge keyed (always ++ late room) st c e in

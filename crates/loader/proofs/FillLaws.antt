@@ -1,21 +1,16 @@
 -- The laws of an output: the result in front, then zeros to its end.
-use mathlib.Core.Path.{_≡_, refl, sym, ap, _∙_}
-use mathlib.Core.List.{List, [], _∷_, _++_, append-nil}
-use Prim.Native.Nat.{ℕ, zero, suc, _+_, _-_, _≤_, _<_}
+use mathlib.Core.Path.{_≡_, sym, ap, _∙_}
+use mathlib.Core.List.{List, _++_, append-nil}
+use Prim.Native.Nat.{ℕ, _+_, _-_, _≤_}
 use native.Mathlib.Omega.{arith}
 use borrow.Author.Needs.{needs}
 use borrow.Rule.Slice.PartMut.{putMid}
 use lib.ListN.{length, take, drop, length-append, length-take, length-drop, drop-of-length-le}
 use Rattle.base.specs.Lists.{zeros}
+use Rattle.base.specs.ListLaws.{length-zeros}
 use Rattle.meaning.specs.Load.{filled}
 use Rattle.text.specs.Front.{inFront}
 use Rattle.text.proofs.PutLaws.{front-then}
-
--- so many zeros are so many
-length-zeros : (n : ℕ) → length (zeros n) ≡ n
-unfolding zeros
-length-zeros zero = refl
-length-zeros (suc n) = ap suc (length-zeros n)
 
 -- what is as long as the whole leaves nothing of it
 all-front : (w old : List ℕ) → length old ≤ length w → inFront w old ≡ w

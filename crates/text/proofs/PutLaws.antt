@@ -9,6 +9,7 @@ use borrow.Rule.Slice.PartMut.{putMid}
 use lib.ListN.{length, getD, take, drop, set, length-set, length-append, length-drop}
 use lib.Seq.{drop-set-lt, getD-set-same, drop-cons, take-suc, set-at, append-snoc, take-all, length-take-le, drop-drop, drop-at, take-at}
 use Rattle.base.specs.Lists.{zeros}
+use Rattle.base.specs.ListLaws.{length-zeros}
 use Rattle.base.proofs.Walk.{at-end}
 use Rattle.theory.specs.Decimal.{digits, dec, width}
 use Rattle.theory.specs.DecimalLaws.{length-dec}
@@ -106,12 +107,6 @@ zeros-snoc : (n : ℕ) → zeros (suc n) ≡ zeros n ++ 0 ∷ []
 unfolding zeros
 zeros-snoc zero = refl
 zeros-snoc (suc n) = ap (λ l. 0 ∷ l) (zeros-snoc n)
-
--- so many are so many
-length-zeros : (n : ℕ) → length (zeros n) ≡ n
-unfolding zeros
-length-zeros zero = refl
-length-zeros (suc n) = ap suc (length-zeros n)
 
 -- none yet
 pub zero-start : (old : List ℕ) → old ≡ inFront (zeros 0) old

@@ -5,12 +5,12 @@ use mathlib.Core.List.{List, [], _∷_, _++_}
 use Prim.Native.Nat.{ℕ, suc, _+_, _-_}
 use lib.Dec.{leb}
 use lib.ListN.{length}
-use Rattle.base.specs.Lists.{all}
+use Rattle.base.specs.Lists.{all, ask}
 use Rattle.theory.specs.Keyed.{Keyed}
 use Rattle.theory.specs.Store.{get}
 use Rattle.theory.specs.Refs.{met, meets, clear}
 use Rattle.theory.specs.Decimal.{width}
-use Rattle.theory.specs.Step.{Op, ins, upd, del, Change, Test, at, need, allowed, codeOf}
+use Rattle.theory.specs.Step.{Op, ins, upd, del, Change, Test, at, allowed, codeOf}
 use Rattle.theory.specs.Limits.{most, few}
 use Rattle.theory.specs.Written.{Printed, render, bare}
 
@@ -56,7 +56,7 @@ sizeAfter P del r (some q) st n = n - bare P q - width (length st)
 -- the code with which a change is refused, or none
 unfoldable pub fast : (K : Keyed) (refs : K .Rec → List (K .Key)) (P : Printed (K .Rec)) → ℕ → List (K .Rec) → Change (K .Rec) → Option ℕ
 fast K refs P room st c =
-    need (allowed (c .op) (get K (at K c) st)) (codeOf (c .op))
-    (need (fewAfter (c .op) st) 16
-    (need (metAfter K refs (c .op) (c .rec) st) 12
-    (need (leb (sizeAfter P (c .op) (c .rec) (get K (at K c) st) st (length (render P st))) room) 13 none)))
+    ask (allowed (c .op) (get K (at K c) st)) (codeOf (c .op))
+    (ask (fewAfter (c .op) st) 16
+    (ask (metAfter K refs (c .op) (c .rec) st) 12
+    (ask (leb (sizeAfter P (c .op) (c .rec) (get K (at K c) st) st (length (render P st))) room) 13 none)))

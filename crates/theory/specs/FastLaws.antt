@@ -7,20 +7,21 @@ use Prim.Native.Nat.{ℕ, suc, _≤_}
 use native.Mathlib.Omega.{arith}
 use lib.Dec.{T, leb, leb→le, le→leb}
 use lib.ListN.{length}
+use Rattle.base.specs.Lists.{ask}
 use Rattle.base.specs.Tests.{bools, T-true}
 use Rattle.theory.specs.Keyed.{Keyed}
 use Rattle.theory.specs.Store.{put, get, Asc}
 use Rattle.theory.specs.FoldLaws.{length-put}
 use Rattle.theory.specs.Refs.{met}
 use Rattle.theory.specs.RefsLaws.{met-put, met-del}
-use Rattle.theory.specs.Step.{Op, ins, upd, del, Change, passes, fails, new, at, after, judge, need, allowed, codeOf}
+use Rattle.theory.specs.Step.{Op, ins, upd, del, Change, passes, fails, new, at, after, judge, allowed, codeOf}
 use Rattle.theory.specs.Limits.{most, few}
 use Rattle.theory.specs.Written.{Printed, render}
 use Rattle.theory.specs.WrittenLaws.{length-render, size-ins, size-upd, size-del}
 use Rattle.theory.specs.Fast.{always, fits, tests, fewAfter, metAfter, sizeAfter, fast}
 
-need-same : (b : Bool) (w : ℕ) (o p : Option ℕ) → (T b → o ≡ p) → need b w o ≡ need b w p
-unfolding need
+need-same : (b : Bool) (w : ℕ) (o p : Option ℕ) → (T b → o ≡ p) → ask b w o ≡ ask b w p
+unfolding ask
 need-same true w o p f = f tt
 need-same false w o p f = refl
 

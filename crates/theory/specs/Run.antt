@@ -6,7 +6,7 @@ use mathlib.Core.List.{List, [], _∷_, _++_}
 use Prim.Native.Nat.{ℕ, suc, _+_}
 use lib.Dec.{T}
 use lib.ListN.{length}
-use Rattle.base.specs.Lists.{all}
+use Rattle.base.specs.Lists.{all, pick}
 use Rattle.theory.specs.Keyed.{Keyed}
 use Rattle.theory.specs.Store.{Asc}
 use Rattle.theory.specs.Refs.{apart}
@@ -23,11 +23,6 @@ unfoldable pub on : {S : Type 0} → Option ℕ → ℕ → Out S → Out S
 on none n rest = rest
 on (some w) n rest = stop n w
 
--- the first where the test holds, else the second
-unfoldable pub choose : {A : Type 0} → Bool → A → A → A
-choose true a b = a
-choose false a b = b
-
 -- the changes that insert these records
 abbrev pub inserts : {R : Type 0} → List R → List (Change R)
 inserts [] = []
@@ -39,7 +34,7 @@ module _ (K : Keyed) where
   -- what the last change that names the key leaves there, and o where none names it
   unfoldable pub last : Key → List (Change Rec) → Option Rec → Option Rec
   last k [] o = o
-  last k (c ∷ cs) o = last k cs (choose (apart K k (at K c)) o (new (c .op) (c .rec)))
+  last k (c ∷ cs) o = last k cs (pick (apart K k (at K c)) o (new (c .op) (c .rec)))
 
   -- no change names the key
   abbrev pub free : Key → List (Change Rec) → Bool

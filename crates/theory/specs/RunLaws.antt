@@ -6,7 +6,7 @@ use mathlib.Core.List.{List, [], _∷_}
 use Prim.Native.Nat.{ℕ, suc}
 use native.Mathlib.Omega.{arith}
 use lib.Dec.{T}
-use Rattle.base.specs.Lists.{all}
+use Rattle.base.specs.Lists.{all, pick}
 use Rattle.base.specs.Tests.{and-l, and-r, T-true}
 use Rattle.base.specs.ListLaws.{all-snoc}
 use Rattle.theory.specs.Keyed.{Keyed}
@@ -20,15 +20,15 @@ use Rattle.theory.specs.Step.{Op, ins, upd, del, Change, Test, new, at, 
 use Rattle.theory.specs.StepLaws.{judge-ok, ok-judge, after-back, back-allowed, get-after, asc-after, at-new}
 use Rattle.theory.specs.Trail.{final, Through, undo}
 use Rattle.theory.specs.TrailLaws.{keep*, through*, same*, ok*}
-use Rattle.theory.specs.Run.{Out, done, stop, on, choose, last, free, fineC, run, Ok, Taken, Good, Tells}
+use Rattle.theory.specs.Run.{Out, done, stop, on, last, free, fineC, run, Ok, Taken, Good, Tells}
 
 module _ (K : Keyed) where
   open Keyed K using (Key, Rec, order)
 
   -- ---- what stands at a key afterwards
 
-  get-step : (k : Key) (st : List Rec) (c : Change Rec) → Asc K st → get K k (after K st c) ≡ choose (apart K k (at K c)) (get K k st) (new (c .op) (c .rec))
-  unfolding choose after apart
+  get-step : (k : Key) (st : List Rec) (c : Change Rec) → Asc K st → get K k (after K st c) ≡ pick (apart K k (at K c)) (get K k st) (new (c .op) (c .rec))
+  unfolding after apart
   get-step k st c a =
       by-key K k (at K c) (λ e. rw (e, order .same (at K c)) (get-after K st c a))
       (λ d. rw (T-true (apart K k (at K c)) d) (get-other K k (at K c) _ st (apart-ne K k (at K c) d) (at-new K c) a))
@@ -41,7 +41,7 @@ module _ (K : Keyed) where
 
   -- where no change names the key, none of them decides what stands there
   pub unnamed : (k : Key) (cs : List (Change Rec)) (o : Option Rec) → T (free K k cs) → last K k cs o ≡ o
-  unfolding last choose
+  unfolding last
   unnamed k [] o t = refl
   unnamed k (c ∷ cs) o t = rw (T-true (apart K k (at K c)) (and-l (apart K k (at K c)) _ t)) (unnamed k cs o (and-r (apart K k (at K c)) _ t))
 

@@ -3,7 +3,7 @@ use mathlib.Core.Bool.{Bool, true, false, not}
 use mathlib.Core.Option.{Option, none, some, Option·getD}
 use mathlib.Core.List.{List, [], _∷_}
 use Prim.Native.Nat.{ℕ}
-use Rattle.base.specs.Lists.{some?, all}
+use Rattle.base.specs.Lists.{some?, all, ask}
 use Rattle.theory.specs.Keyed.{Keyed}
 use Rattle.theory.specs.Store.{put, get}
 
@@ -42,11 +42,6 @@ inv del = ins
 
 -- ---- tests in order
 
--- the code where the test fails, else what the rest of the tests gives
-unfoldable pub need : Bool → ℕ → Option ℕ → Option ℕ
-need true w rest = rest
-need false w rest = some w
-
 -- a test of the state, and its code
 abbrev pub Test : Type 0 → Type 0
 Test R = ℕ × (List R → Bool)
@@ -57,9 +52,9 @@ passes ts st = all (λ t. t .1 st) ts
 
 -- the code of the first test that the state fails
 unfoldable pub fails : {R : Type 0} → List (Test R) → List R → Option ℕ
-unfolding need
+unfolding ask
 fails [] st = none
-fails (t ∷ ts) st = need (t .1 st) (t .0) (fails ts st)
+fails (t ∷ ts) st = ask (t .1 st) (t .0) (fails ts st)
 
 -- ---- a step
 
@@ -80,4 +75,4 @@ module _ (K : Keyed) where
 
   -- the code with which a change is refused, or none: first what stands at its key, then the tests of the state after it
   unfoldable pub judge : List (Test Rec) → List Rec → Change Rec → Option ℕ
-  judge ts st c = need (allowed (c .op) (get K (at c) st)) (codeOf (c .op)) (fails ts (after st c))
+  judge ts st c = ask (allowed (c .op) (get K (at c) st)) (codeOf (c .op)) (fails ts (after st c))

@@ -5,23 +5,24 @@ use mathlib.Core.Option.{Option, none, some, Option·getD}
 use mathlib.Core.List.{List, [], _∷_}
 use Prim.Native.Nat.{ℕ}
 use lib.Dec.{T}
+use Rattle.base.specs.Lists.{ask}
 use Rattle.base.specs.Tests.{some≢none, and-in, and-l, and-r}
 use Rattle.theory.specs.Keyed.{Keyed}
 use Rattle.theory.specs.Store.{get, Asc, At}
 use Rattle.theory.specs.StoreLaws.{at-get, get-put, put-back, asc-put}
-use Rattle.theory.specs.Step.{Op, ins, upd, del, Change, new, allowed, codeOf, inv, need, Test, passes, fails, at, after, back, judge}
+use Rattle.theory.specs.Step.{Op, ins, upd, del, Change, new, allowed, codeOf, inv, Test, passes, fails, at, after, back, judge}
 
 -- ---- tests in order
 
 -- no code is given where the test holds and the rest gives none
-pub need-ok : (b : Bool) (w : ℕ) (o : Option ℕ) → T b → o ≡ none → need b w o ≡ none
-unfolding need
+pub need-ok : (b : Bool) (w : ℕ) (o : Option ℕ) → T b → o ≡ none → ask b w o ≡ none
+unfolding ask
 need-ok true w o t e = e
 need-ok false w o t e = absurd t
 
 -- where no code is given the test holds and the rest gives none
-pub ok-need : (b : Bool) (w : ℕ) (o : Option ℕ) → need b w o ≡ none → T b × (o ≡ none)
-unfolding need
+pub ok-need : (b : Bool) (w : ℕ) (o : Option ℕ) → ask b w o ≡ none → T b × (o ≡ none)
+unfolding ask
 ok-need true w o e = (tt, e)
 ok-need false w o e = absurd (some≢none e)
 
