@@ -26,14 +26,7 @@ fn refused(code: u64, line: usize, field: usize) -> Loaded
     ensures { λ r. ⌜ r .answer ≡ answerOf (six code line field 0 0 0) ⌝ }
 {
     Loaded {
-        answer: Answer {
-            code,
-            line,
-            field,
-            inserts: 0,
-            updates: 0,
-            deletes: 0,
-        },
+        answer: volume::check::refused(code, line, field),
         count: 0,
         steps: 0,
         end: 0,

@@ -4,9 +4,8 @@ ghost use Prim.Native.Nat.{_≤_};
 ghost use lib.Dec.{leb};
 ghost use lib.ListN.{length};
 ghost use Rattle.base.specs.Lists.{pick, zeros};
-ghost use Rattle.meaning.specs.Load.{six, filled};
+ghost use Rattle.meaning.specs.Load.{filled};
 ghost use Rattle.text.specs.Front.{inFront};
-ghost use Rattle.volume.specs.Answer.{answerOf};
 ghost use Rattle.loader.specs.Loaded.{undoText, FitsUndo, Lent};
 ghost use Rattle.loader.specs.Outcome.{UndoOutcome};
 use crate::apply::refuse;
@@ -14,6 +13,7 @@ use crate::load::load;
 use text::lines::line_end;
 use text::put;
 use volume::check::Answer;
+use volume::check::refused;
 use writer::room::back_fits;
 use writer::runs::write_back;
 
@@ -72,20 +72,6 @@ fn fill_undo(
     true
 }
 
-// The undo is longer than its output.
-fn too_long() -> Answer
-    ensures { λ r. ⌜ r ≡ answerOf (six 17 0 0 0 0 0) ⌝ }
-{
-    Answer {
-        code: 17,
-        line: 0,
-        field: 0,
-        inserts: 0,
-        updates: 0,
-        deletes: 0,
-    }
-}
-
 // Writes the undo of a file: the six numbers, the undo or zeros in the output, and zeros in the work buffer.
 pub fn undo(holding: &[u8], file: &[u8], out: &mut [u8], work: &mut [u8]) -> Answer
     ensures { λ r. ⌜ UndoOutcome (now (holding .entry)) (now (file .entry)) (length (now (out .entry))) (length (now (work .entry))) r (now (out .exit)) (now (work .exit)) ⌝ }
@@ -105,5 +91,5 @@ pub fn undo(holding: &[u8], file: &[u8], out: &mut [u8], work: &mut [u8]) -> Ans
     if fill_undo(&mut *out, holding, file, &steps, &before, n, end) {
         return answer;
     }
-    too_long()
+    refused(17, 0, 0)
 }

@@ -11,7 +11,7 @@ use crate::bare::bare_length;
 use crate::numbers::put_six;
 use loader::apply::apply;
 use text::put;
-use volume::check::Answer;
+use volume::check::refused;
 
 // The most bytes of an input, and the bytes of the output that apply is given.
 pub const ROOM: usize = 65536;
@@ -34,15 +34,7 @@ fn print_unusable(printed: &mut [u8]) -> usize
     requires { ⌜ 65663 ≤ length (now printed) ⌝ }
     ensures { λ r. ⌜ (r ≡ length (printSix (six 18 0 0 0 0 0))) × (r ≤ 65663) × (now (printed .exit) ≡ inFront (printSix (six 18 0 0 0 0 0)) (now (printed .entry))) ⌝ }
 {
-    let answer = Answer {
-        code: 18,
-        line: 0,
-        field: 0,
-        inserts: 0,
-        updates: 0,
-        deletes: 0,
-    };
-    put_six(&mut *printed, answer)
+    put_six(&mut *printed, refused(18, 0, 0))
 }
 
 // The numbers of apply, and what stands in its output before the zeros: after a refusal that is nothing.

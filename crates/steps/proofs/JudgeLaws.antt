@@ -11,7 +11,7 @@ use mir.Syntax.{w64}
 use mir.Val.{Fits}
 use lib.Dec.{T, leb, leb→le, eqb, eqb→eq}
 use lib.ListN.{length, getD, length-append}
-use Rattle.base.specs.Lists.{all, some?, bytes}
+use Rattle.base.specs.Lists.{all, some?, bytes, ask}
 use Rattle.base.specs.Tests.{and-l, and-r, T-true}
 use Rattle.theory.specs.Store.{get, put}
 use Rattle.theory.specs.Refs.{has, meets, clear}
@@ -19,7 +19,7 @@ use Rattle.theory.specs.Decimal.{width}
 use Rattle.theory.specs.Limits.{most, few}
 use Rattle.theory.specs.Written.{render, bare, size}
 use Rattle.theory.specs.WrittenLaws.{size-ins, size-upd, size-del}
-use Rattle.theory.specs.Step.{Op, ins, upd, del, Change, need, judge, after}
+use Rattle.theory.specs.Step.{Op, ins, upd, del, Change, judge, after}
 use Rattle.theory.specs.Fast.{fast, fewAfter, metAfter, sizeAfter}
 use Rattle.meaning.specs.Table.{Kind, kinds, ident}
 use Rattle.meaning.specs.Records.{Rec, keyed, keyOf, refsOf, letter}
@@ -123,22 +123,22 @@ module _ (h f a : List ℕ) (room : ℕ) (s : State) (y : Ready h f a room s) wh
     -- ---- insert
 
     told-ins : judge keyed (stepTests room) (says h f a (s .count)) (change ins (entry h f v))
-        ≡ need (not (some? (get keyed (keyOf (entry h f v)) (says h f a (s .count))))) 10
-        (need (leb (suc (length (says h f a (s .count)))) most) 16
-        (need (meets keyed refsOf (says h f a (s .count)) (entry h f v)) 12
-        (need (leb (length (render printed (says h f a (s .count))) + bare printed (entry h f v) + width (suc (length (says h f a (s .count))))) room) 13 none)))
+        ≡ ask (not (some? (get keyed (keyOf (entry h f v)) (says h f a (s .count))))) 10
+        (ask (leb (suc (length (says h f a (s .count)))) most) 16
+        (ask (meets keyed refsOf (says h f a (s .count)) (entry h f v)) 12
+        (ask (leb (length (render printed (says h f a (s .count))) + bare printed (entry h f v) + width (suc (length (says h f a (s .count))))) room) 13 none)))
     unfolding fast fewAfter metAfter sizeAfter
     told-ins = fast-step room (says h f a (s .count)) (change ins (entry h f v)) (y .asc) (y .pass)
 
     -- a key that stands is not inserted
     pub ins-held : p .stands ≡ true → Judges h f a room (change ins (entry h f v)) s (record { code = 10; place = p .place; size = s .size })
-    unfolding need
+    unfolding ask
     ins-held t = refused ins 10 (s .size) (rw (told-ins, ← q .there, t)) (λ e. omega arith)
 
     module _ (t : p .stands ≡ false) where
       -- 8,192 records are enough
       pub ins-many : 8192 ≤ s .count → Judges h f a room (change ins (entry h f v)) s (record { code = 16; place = p .place; size = s .size })
-      unfolding need
+      unfolding ask
       ins-many m = refused ins 16 (s .size) (rw (told-ins, ← q .there, t, lt-leb (suc (length (says h f a (s .count)))) most (omega (arith, y .counted)))) (λ e. omega arith)
 
       module _ (m : s .count < 8192) (b : Bool) (r : b ≡ meets keyed refsOf (says h f a (s .count)) (entry h f v)) where
@@ -147,7 +147,7 @@ module _ (h f a : List ℕ) (room : ℕ) (s : State) (y : Ready h f a room s) wh
 
         -- its references must be met
         pub ins-unmet : b ≡ false → Judges h f a room (change ins (entry h f v)) s (record { code = 12; place = p .place; size = s .size })
-        unfolding need
+        unfolding ask
         ins-unmet u = refused ins 12 (s .size) (rw (told-ins, ← q .there, t, few-ok, ← r, u)) (λ e. omega arith)
 
         module _ (u : b ≡ true) (l w : ℕ) (d : l ≡ length (entry h f v .content)) (e : w ≡ width (s .count + 1)) where
@@ -161,7 +161,7 @@ module _ (h f a : List ℕ) (room : ℕ) (s : State) (y : Ready h f a room s) wh
 
           -- it must fit
           pub ins-long : room - s .size < l + 10 + w → Judges h f a room (change ins (entry h f v)) s (record { code = 13; place = p .place; size = s .size })
-          unfolding need
+          unfolding ask
           ins-long x = refused ins 13 (s .size) (rw (told-ins, ← q .there, t, few-ok, ← r, u, grown, lt-leb (s .size + (l + 10 + w)) room (omega (arith, y .fits)))) (λ e. omega arith)
 
           ins-sized : s .size + (l + 10 + w) ≡ length (written (after keyed (says h f a (s .count)) (change ins (entry h f v))))
@@ -170,27 +170,27 @@ module _ (h f a : List ℕ) (room : ℕ) (s : State) (y : Ready h f a room s) wh
 
           -- else it is taken
           pub ins-taken : l + 10 + w ≤ room - s .size → Judges h f a room (change ins (entry h f v)) s (record { code = 0; place = p .place; size = s .size + (l + 10 + w) })
-          unfolding need
+          unfolding ask
           ins-taken x = taken ins (s .size + (l + 10 + w)) (rw (told-ins, ← q .there, t, few-ok, ← r, u, grown, le-leb (s .size + (l + 10 + w)) room (omega (arith, y .fits)))) ins-sized
 
     -- ---- update
 
     -- a key that stands nowhere is not updated
     pub upd-absent : p .stands ≡ false → Judges h f a room (change upd (entry h f v)) s (record { code = 11; place = p .place; size = s .size })
-    unfolding need fast
+    unfolding ask fast
     upd-absent t = refused upd 11 (s .size) (rw (fast-step room (says h f a (s .count)) (change upd (entry h f v)) (y .asc) (y .pass), at-none t)) (λ e. omega arith)
 
     module _ (t : p .stands ≡ true) where
       told-upd : judge keyed (stepTests room) (says h f a (s .count)) (change upd (entry h f v))
-          ≡ need (meets keyed refsOf (says h f a (s .count)) (entry h f v)) 12
-          (need (leb (length (render printed (says h f a (s .count))) + bare printed (entry h f v) - bare printed (entry h f (getD a (p .place) 0))) room) 13 none)
-      unfolding fast fewAfter metAfter sizeAfter need
+          ≡ ask (meets keyed refsOf (says h f a (s .count)) (entry h f v)) 12
+          (ask (leb (length (render printed (says h f a (s .count))) + bare printed (entry h f v) - bare printed (entry h f (getD a (p .place) 0))) room) 13 none)
+      unfolding fast fewAfter metAfter sizeAfter ask
       told-upd = fast-step room (says h f a (s .count)) (change upd (entry h f v)) (y .asc) (y .pass) ∙ rw (at-some t)
 
       module _ (b : Bool) (r : b ≡ meets keyed refsOf (says h f a (s .count)) (entry h f v)) where
         -- its references must be met
         pub upd-unmet : b ≡ false → Judges h f a room (change upd (entry h f v)) s (record { code = 12; place = p .place; size = s .size })
-        unfolding need
+        unfolding ask
         upd-unmet u = refused upd 12 (s .size) (rw (told-upd, ← r, u)) (λ e. omega arith)
 
         module _ (l n : ℕ) (d : l ≡ length (entry h f (getD a (p .place) 0) .content)) (e : n ≡ length (entry h f v .content)) where
@@ -208,31 +208,31 @@ module _ (h f a : List ℕ) (room : ℕ) (s : State) (y : Ready h f a room s) wh
           module _ (u : b ≡ true) where
             -- a record that is no longer always fits
             pub upd-shorter : n ≤ l → Judges h f a room (change upd (entry h f v)) s (record { code = 0; place = p .place; size = s .size - (l - n) })
-            unfolding need
+            unfolding ask
             upd-shorter x = taken upd (s .size - (l - n)) (rw (told-upd, ← r, u, upd-changed, le-leb (s .size + n - l) room (omega (arith, y .fits)))) (omega (arith, upd-sized))
 
             -- a longer one must fit
             pub upd-long : l < n → room - s .size < n - l → Judges h f a room (change upd (entry h f v)) s (record { code = 13; place = p .place; size = s .size })
-            unfolding need
+            unfolding ask
             upd-long x z = refused upd 13 (s .size) (rw (told-upd, ← r, u, upd-changed, lt-leb (s .size + n - l) room (omega (arith, y .fits)))) (λ e. omega arith)
 
             -- else it is taken
             pub upd-longer : l < n → n - l ≤ room - s .size → Judges h f a room (change upd (entry h f v)) s (record { code = 0; place = p .place; size = s .size + (n - l) })
-            unfolding need
+            unfolding ask
             upd-longer x z = taken upd (s .size + (n - l)) (rw (told-upd, ← r, u, upd-changed, le-leb (s .size + n - l) room (omega (arith, y .fits)))) (omega (arith, upd-sized))
 
     -- ---- delete
 
     -- a key that stands nowhere is not deleted
     pub del-absent : p .stands ≡ false → Judges h f a room (change del (entry h f v)) s (record { code = 11; place = p .place; size = s .size })
-    unfolding need fast
+    unfolding ask fast
     del-absent t = refused del 11 (s .size) (rw (fast-step room (says h f a (s .count)) (change del (entry h f v)) (y .asc) (y .pass), at-none t)) (λ e. omega arith)
 
     module _ (t : p .stands ≡ true) where
       told-del : judge keyed (stepTests room) (says h f a (s .count)) (change del (entry h f v))
-          ≡ need (all (clear keyed refsOf (keyOf (entry h f v))) (says h f a (s .count))) 12
-          (need (leb (length (render printed (says h f a (s .count))) - bare printed (entry h f (getD a (p .place) 0)) - width (length (says h f a (s .count)))) room) 13 none)
-      unfolding fast fewAfter metAfter sizeAfter need
+          ≡ ask (all (clear keyed refsOf (keyOf (entry h f v))) (says h f a (s .count))) 12
+          (ask (leb (length (render printed (says h f a (s .count))) - bare printed (entry h f (getD a (p .place) 0)) - width (length (says h f a (s .count)))) room) 13 none)
+      unfolding fast fewAfter metAfter sizeAfter ask
       told-del = fast-step room (says h f a (s .count)) (change del (entry h f v)) (y .asc) (y .pass) ∙ rw (at-some t)
 
       module _ (c : List ℕ) (k : Counted h f a c (s .count)) where
@@ -251,7 +251,7 @@ module _ (h f a : List ℕ) (room : ℕ) (s : State) (y : Ready h f a room s) wh
 
         -- no record may refer to the one that goes
         pub del-met : (getD c (p .place) 0 ≡ 0 → ⊥) → Judges h f a room (change del (entry h f v)) s (record { code = 12; place = p .place; size = s .size })
-        unfolding need
+        unfolding ask
         del-met u = refused del 12 (s .size) (rw (told-del, seen, ne-eqb (getD c (p .place) 0) 0 u)) (λ e. omega arith)
 
       module _ (l w : ℕ) (d : l ≡ length (entry h f (getD a (p .place) 0) .content)) (e : w ≡ width (s .count)) where
@@ -269,7 +269,7 @@ module _ (h f a : List ℕ) (room : ℕ) (s : State) (y : Ready h f a room s) wh
         -- else it is taken
         pub del-taken : (c : List ℕ) → Counted h f a c (s .count) → getD c (p .place) 0 ≡ 0
             → Judges h f a room (change del (entry h f v)) s (record { code = 0; place = p .place; size = s .size - (l + 10 + w) })
-        unfolding need
+        unfolding ask
         del-taken c k u =
             let x : length (render printed (says h f a (s .count))) - bare printed (entry h f (getD a (p .place) 0)) - width (length (says h f a (s .count))) ≤ room = omega (arith, rendered, y .fits) in
             taken del (s .size - (l + 10 + w)) (rw (told-del, seen c k, eq-eqb (getD c (p .place) 0) 0 u, le-leb (length (render printed (says h f a (s .count))) - bare printed (entry h f (getD a (p .place) 0)) - width (length (says h f a (s .count)))) room x)) (omega (arith, del-sized))

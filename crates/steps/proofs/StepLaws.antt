@@ -11,7 +11,7 @@ use mir.Val.{Fits}
 use lib.Dec.{T, leb, leb→le}
 use lib.ListN.{length, getD, take, drop, set, length-append, length-drop, length-set}
 use lib.Seq.{length-take-le}
-use Rattle.base.specs.Lists.{all, some?}
+use Rattle.base.specs.Lists.{all, some?, ask}
 use Rattle.base.specs.ListLaws.{all-both}
 use Rattle.base.specs.Tests.{and-in, and-l, and-r, T-true, T-false}
 use Rattle.theory.specs.Fold.{all?}
@@ -20,7 +20,7 @@ use Rattle.theory.specs.Store.{get, put, Asc}
 use Rattle.theory.specs.StoreLaws.{asc-put}
 use Rattle.theory.specs.Refs.{meets, met}
 use Rattle.theory.specs.Limits.{most, few}
-use Rattle.theory.specs.Step.{Op, ins, upd, del, Change, need, fails, passes, new, codeOf, allowed, judge, after}
+use Rattle.theory.specs.Step.{Op, ins, upd, del, Change, fails, passes, new, codeOf, allowed, judge, after}
 use Rattle.theory.specs.StepLaws.{ok-judge, asc-after}
 use Rattle.meaning.specs.Records.{Rec, keyed, keyOf, refsOf}
 use Rattle.meaning.specs.Table.{role}
@@ -56,8 +56,8 @@ abbrev Coded : Option ℕ → Type 0
 Coded none = Unit {0}
 Coded (some w) = w ≡ 0 → ⊥
 
-need-coded : (b : Bool) (w : ℕ) (o : Option ℕ) → (w ≡ 0 → ⊥) → Coded o → Coded (need b w o)
-unfolding need
+need-coded : (b : Bool) (w : ℕ) (o : Option ℕ) → (w ≡ 0 → ⊥) → Coded o → Coded (ask b w o)
+unfolding ask
 need-coded true w o n c = c
 need-coded false w o n c = n
 
@@ -69,8 +69,8 @@ op-coded del e = omega arith
 tests-coded : (room : ℕ) (st : List Rec) → Coded (fails (stepTests room) st)
 unfolding fails stepTests
 tests-coded room st =
-    need-coded (few st) 16 (need (met keyed refsOf st) 12 (need (fits room st) 13 none)) (λ e. omega arith)
-    (need-coded (met keyed refsOf st) 12 (need (fits room st) 13 none) (λ e. omega arith) (need-coded (fits room st) 13 none (λ e. omega arith) tt))
+    need-coded (few st) 16 (ask (met keyed refsOf st) 12 (ask (fits room st) 13 none)) (λ e. omega arith)
+    (need-coded (met keyed refsOf st) 12 (ask (fits room st) 13 none) (λ e. omega arith) (need-coded (fits room st) 13 none (λ e. omega arith) tt))
 
 judge-coded : (room : ℕ) (st : List Rec) (c : Change Rec) → Coded (judge keyed (stepTests room) st c)
 unfolding judge

@@ -27,7 +27,7 @@ pub struct Answer {
 }
 
 // A refusal counts nothing.
-fn refused(code: u64, line: usize, field: usize) -> Answer
+pub fn refused(code: u64, line: usize, field: usize) -> Answer
     ensures { λ r. ⌜ r ≡ answerOf (six code line field 0 0 0) ⌝ }
 {
     Answer {

@@ -24,7 +24,7 @@ undo-spec =
     (λ c. search needs)  -- same-length-3
     (λ c. search needs)  -- same-length-4
     (λ c. let g = c .before .before .before .before .before .before .before .before .before .before .before .before .before .before .before .before .before .before .before .before .before .before .before .before .before .args in undo-done (g .holding .now) (g .file .now) _ _ _ (length (g .out .now)) (length (g .work .now)) _ (c .before .before .before .before .before .before .before .before .before .before .before .before .before .load .ensures) (c .before .before .before .before .before .before .before .if1 .left) _ (c .before .before .before .fill-undo .ensures .0) _ _ (c .before .before .before .fill-undo .ensures .1) (c .before .before .before .before .before .before .before .before .before .before .before .before .before .before .before .before .before .before .before .zeros .ensures) (c .if2 .taken))  -- returns-2
-    (λ c κs. search needs)  -- too-long-requires
+    (λ c κs. search needs)  -- refused-requires
     (λ c. search needs)  -- same-length-5
     (λ c. search needs)  -- same-length-6
-    (λ c. let g = c .before .before .before .before .before .before .before .before .before .before .before .before .before .before .before .before .before .before .before .before .before .before .before .before .before .before .args in undo-long (g .holding .now) (g .file .now) _ _ _ (length (g .out .now)) (length (g .work .now)) _ (c .before .before .before .before .before .before .before .before .before .before .before .before .before .before .load .ensures) (c .before .before .before .before .before .before .before .before .if1 .left) _ (c .before .before .before .before .fill-undo .ensures .0) _ _ (c .before .before .before .before .fill-undo .ensures .1) (c .before .before .before .before .before .before .before .before .before .before .before .before .before .before .before .before .before .before .before .before .zeros .ensures) (c .before .if2 .left) _ (c .too-long .ensures)))  -- returns-3
+    (λ c. let g = c .before .before .before .before .before .before .before .before .before .before .before .before .before .before .before .before .before .before .before .before .before .before .before .before .before .before .args in undo-long (g .holding .now) (g .file .now) _ _ _ (length (g .out .now)) (length (g .work .now)) _ (c .before .before .before .before .before .before .before .before .before .before .before .before .before .before .load .ensures) (c .before .before .before .before .before .before .before .before .if1 .left) _ (c .before .before .before .before .fill-undo .ensures .0) _ _ (c .before .before .before .before .fill-undo .ensures .1) (c .before .before .before .before .before .before .before .before .before .before .before .before .before .before .before .before .before .before .before .before .zeros .ensures) (c .before .if2 .left) _ (c .refused .ensures)))  -- returns-3
