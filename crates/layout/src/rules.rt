@@ -1,4 +1,4 @@
-// A row of the table, read. Only this file goes by cases on the kind.
+// A row of the table, read. But for a step, which matches on kind and change, only this file goes by cases on the kind.
 ghost use mathlib.Core.Path.{_≡_};
 ghost use Prim.Native.Nat.{_<_};
 ghost use lib.ListN.{length};

@@ -61,7 +61,7 @@ pub fn has_room(role: Role, body: usize) -> bool
 {
     match role {
         Role::HeaderLine => true,
-        Role::BodyLine => body < File::MOST_BODY_LINES,
+        Role::BodyLine => body < File::most_body_lines(),
         Role::MetadataLine => true,
         Role::TrailerLine => true,
     }

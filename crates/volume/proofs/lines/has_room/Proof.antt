@@ -11,6 +11,7 @@ has-room-spec =
     (tie.spec
     (λ c. search needs)  -- enum-told
     (λ c. search needs)  -- enum-told-2
+    (λ c κs. search needs)  -- most-body-lines-requires
     (λ c. search needs)  -- enum-told-3
     (λ c. search needs)  -- enum-told-4
     (λ c. cc)  -- returns
