@@ -11,11 +11,12 @@ use lib.Seq.{length-take-le}
 use Rattle.io.specs.Counts.{Counts}
 use Rattle.theory.specs.Answer.{Answer, took, refused}
 use Rattle.meaning.specs.Holding.{written}
-use Rattle.meaning.specs.Load.{load, applied, apply, filled}
+use Rattle.meaning.specs.Load.{six, load, applied, apply, filled}
 use Rattle.meaning.specs.Program.{printSix, printLoad, program, programRoom, unusable}
 use Rattle.laws.specs.Takes.{TookSays, took-takes}
 use Rattle.text.specs.Front.{inFront}
 use Rattle.text.proofs.PutLaws.{front-then}
+use Rattle.volume.specs.Answer.{answerOf}
 use Rattle.volume.specs.declared.check.Answer.{Answer as Numbers}
 use Rattle.loader.specs.Outcome.{Outcome}
 use Rattle.program.specs.Printed.{inputOf, sixOf, bare}
@@ -70,3 +71,16 @@ counts-in r s h = sym (length-take-le r s h)
 -- what is written is that
 pub print-all : (w p old new : List ℕ) (r : ℕ) → w ≡ p → r ≡ length w → new ≡ inFront w old → r ≤ length new → Counts r new × ((r ≡ length p) × (new ≡ inFront p old))
 print-all w p old new r e q f h = ((h, counts-in r new h), (q ∙ ap length e, f ∙ ap (λ t. inFront t old) e))
+
+-- ---- what is refused before it is read
+
+module _ (a : Numbers) (e : a ≡ answerOf (six 18 0 0 0 0 0)) where
+  -- how much is printed
+  pub unusable-count : (n : ℕ) → n ≡ length (printSix (sixOf a)) → n ≡ length (printSix (six 18 0 0 0 0 0))
+  unusable-count n p = p ∙ ap (λ x. length (printSix (sixOf x))) e
+
+  -- and what
+  pub unusable-done : (old new : List ℕ) → new ≡ inFront (printSix (sixOf a)) old → new ≡ inFront (printSix (six 18 0 0 0 0 0)) old
+  unusable-done old new p = p ∙ ap (λ x. inFront (printSix (sixOf x)) old) e
+
+pub ruleset unusing = (needs, unusable-count, unusable-done)

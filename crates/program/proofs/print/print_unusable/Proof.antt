@@ -1,0 +1,13 @@
+-- `program::print::print_unusable` meets its contract.
+use Rattle.program.proofs.PrintLaws.{unusing}
+use Rattle.program.proofs.print.print_unusable.Statement.{statement}
+use Rattle.program.proofs.print.print_unusable.Tie as tie
+
+pub print-unusable-spec : {M : Type 1} → statement M
+print-unusable-spec =
+    tie.close
+    (tie.spec
+    (λ c κs. search unusing)  -- refused-requires
+    (λ c κs. search unusing)  -- put-six-requires
+    (λ c. search unusing)  -- same-length
+    (λ c. (search unusing, search unusing, search unusing)))  -- returns
