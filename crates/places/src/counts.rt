@@ -8,6 +8,7 @@ ghost use Rattle.theory.specs.Store.{Asc, cons?};
 ghost use Rattle.keys.specs.Numbers.{keyList, referredAs, numbered, refNumbers};
 ghost use Rattle.places.specs.Places.{entry, says};
 ghost use Rattle.places.specs.Counts.{moved, Movable, Open, NotesOne, Notes};
+ghost use Rattle.places.specs.Tags.{Tagged};
 use crate::references::is_same_key;
 use crate::references::references;
 use crate::search::place;
@@ -43,13 +44,14 @@ fn note_one(
     h: &[u8],
     f: &[u8],
     a: &[u64],
+    tags: &[u64],
     counts: &mut [u64],
     n: usize,
     own: Key,
     to: Referred,
     up: bool,
 ) -> bool
-    requires { ⌜ (n ≤ length (now a)) × (n ≤ length (now counts)) × Asc numbered (says (now h) (now f) (now a) n) × Open up (says (now h) (now f) (now a) n) (now counts) (cons? (referredAs to) []) ⌝ }
+    requires { ⌜ (n ≤ length (now a)) × (n ≤ length (now counts)) × Asc numbered (says (now h) (now f) (now a) n) × Open up (says (now h) (now f) (now a) n) (now counts) (cons? (referredAs to) []) × Tagged (now h) (now f) (now a) (now tags) n ⌝ }
     ensures { λ r. ⌜ NotesOne up (says (now (h .entry)) (now (f .entry)) (now (a .entry)) n) (keyList own) (referredAs to) (now (counts .entry)) (now (counts .exit)) r ⌝ }
 {
     let Referred::To(key) = to else {
@@ -58,8 +60,8 @@ fn note_one(
     if is_same_key(key, own) {
         return false;
     }
-    let i = place(h, f, a, n, key);
-    if !stands(h, f, a, n, i, key) {
+    let i = place(h, f, a, tags, n, key);
+    if !stands(h, f, a, tags, n, i, key) {
         return false;
     }
     let count = counts[i];
@@ -68,16 +70,25 @@ fn note_one(
 }
 
 // Whether the references of an entry's record are met, and if so counts them in (up) or out.
-pub fn note(h: &[u8], f: &[u8], a: &[u64], counts: &mut [u64], n: usize, v: u64, up: bool) -> bool
-    requires { ⌜ (n ≤ length (now a)) × (n ≤ length (now counts)) × Asc numbered (says (now h) (now f) (now a) n) × Open up (says (now h) (now f) (now a) n) (now counts) (refNumbers (entry (now h) (now f) v)) ⌝ }
+pub fn note(
+    h: &[u8],
+    f: &[u8],
+    a: &[u64],
+    tags: &[u64],
+    counts: &mut [u64],
+    n: usize,
+    v: u64,
+    up: bool,
+) -> bool
+    requires { ⌜ (n ≤ length (now a)) × (n ≤ length (now counts)) × Asc numbered (says (now h) (now f) (now a) n) × Open up (says (now h) (now f) (now a) n) (now counts) (refNumbers (entry (now h) (now f) v)) × Tagged (now h) (now f) (now a) (now tags) n ⌝ }
     ensures { λ r. ⌜ Notes up (says (now (h .entry)) (now (f .entry)) (now (a .entry)) n) (entry (now (h .entry)) (now (f .entry)) v) (now (counts .entry)) (now (counts .exit)) r ⌝ }
 {
     let named = references(h, f, v);
     let own = named.own;
     let first = named.first;
     let second = named.second;
-    if !note_one(h, f, a, &mut *counts, n, own, first, up) {
+    if !note_one(h, f, a, tags, &mut *counts, n, own, first, up) {
         return false;
     }
-    note_one(h, f, a, &mut *counts, n, own, second, up)
+    note_one(h, f, a, tags, &mut *counts, n, own, second, up)
 }

@@ -8,6 +8,7 @@ ghost use Rattle.meaning.specs.Holding.{isHeld};
 ghost use Rattle.meaning.specs.File.{readFile};
 ghost use Rattle.layout.specs.Meant.{kindMeant};
 ghost use Rattle.places.specs.Counts.{Counted};
+ghost use Rattle.places.specs.Tags.{Tagged};
 ghost use Rattle.volume.specs.Meant.{changeMeant};
 ghost use Rattle.steps.specs.Ready.{Ready, changeAt};
 ghost use Rattle.steps.specs.Run.{isFile, Runs};
@@ -75,13 +76,14 @@ pub fn run(
     h: &[u8],
     f: &[u8],
     a: &mut [u64],
+    tags: &mut [u64],
     counts: &mut [u64],
     steps: &mut [u64],
     before: &mut [u64],
     s: State,
     room: usize,
 ) -> Ran
-    requires { ⌜ Ready (now h) (now f) (now a) room s × Counted (now h) (now f) (now a) (now counts) (s .count) × T (isFile (readFile (now f))) × (4096 ≤ length (now steps)) × (4096 ≤ length (now before)) ⌝ }
+    requires { ⌜ Ready (now h) (now f) (now a) room s × Counted (now h) (now f) (now a) (now counts) (s .count) × T (isFile (readFile (now f))) × (4096 ≤ length (now steps)) × (4096 ≤ length (now before)) × Tagged (now h) (now f) (now a) (now tags) (s .count) ⌝ }
     ensures { λ r. ⌜ Runs (now (h .entry)) (now (f .entry)) (now (a .entry)) (now (a .exit)) (now (steps .exit)) (now (before .exit)) room s r ⌝ }
 {
     let mut at = line_end(f, 0) + 2;
@@ -93,7 +95,17 @@ pub fn run(
         if !is_held(kind) {
             return ended(0, 0, state, n, at);
         }
-        let stepped = step(h, f, at, read, &mut *a, &mut *counts, state, room);
+        let stepped = step(
+            h,
+            f,
+            at,
+            read,
+            &mut *a,
+            &mut *tags,
+            &mut *counts,
+            state,
+            room,
+        );
         let code = stepped.code;
         if code != 0 {
             return ended(code, n + 2, state, n, at);
