@@ -89,7 +89,7 @@ pub fn find_line(holding: &[u8], kind: u64, number: u64) -> Finding
     }
     let mut starts = [0u64; 8192];
     let mut tags = [0u64; 8192];
-    let mut counts = [0u64; 8192];
+    let mut counts = [0u16; 8192];
     let held = read_holding(holding, &mut starts, &mut tags, &mut counts);
     if held.line != 0 {
         return refusal(14, held.line as u64, 0);

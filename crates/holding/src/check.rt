@@ -17,7 +17,7 @@ pub fn check_holding(holding: &[u8]) -> Verdict
 {
     let mut starts = [0u64; 8192];
     let mut tags = [0u64; 8192];
-    let mut counts = [0u64; 8192];
+    let mut counts = [0u16; 8192];
     let held = read_holding(holding, &mut starts, &mut tags, &mut counts);
     if held.line == 0 {
         return Verdict {

@@ -17,7 +17,7 @@ pub fn read_holding(
     holding: &[u8],
     starts: &mut [u64],
     tags: &mut [u64],
-    counts: &mut [u64],
+    counts: &mut [u16],
 ) -> Held
     requires { ⌜ (8192 ≤ length (now starts)) × (8192 ≤ length (now tags)) × (8192 ≤ length (now counts)) ⌝ }
     ensures { λ r. ⌜ HeldIs (now (holding .entry)) r (now (starts .exit)) (now (tags .exit)) (now (counts .exit)) ⌝ }

@@ -17,7 +17,7 @@ pub fn unmet(
     holding: &[u8],
     starts: &[u64],
     tags: &[u64],
-    counts: &mut [u64],
+    counts: &mut [u16],
     count: usize,
 ) -> usize
     requires { ⌜ (count ≤ length (now starts)) × (count ≤ length (now counts)) × (count ≤ 8192) × Asc keyed (says (now holding) (now holding) (now starts) count) × T (all fine (says (now holding) (now holding) (now starts) count)) × Tagged (now holding) (now holding) (now starts) (now tags) count ⌝ }

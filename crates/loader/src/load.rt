@@ -67,7 +67,7 @@ pub fn load(
     ensures { λ r. ⌜ Loads (now (holding .entry)) (now (file .entry)) (now (places .exit)) (now (steps .exit)) (now (before .exit)) room r ⌝ }
 {
     let mut tags = [0u64; 8192];
-    let mut counts = [0u64; 8192];
+    let mut counts = [0u16; 8192];
     let held = read_holding(holding, &mut *places, &mut tags, &mut counts);
     if held.line != 0 {
         return refused(14, held.line, 0);

@@ -215,7 +215,7 @@ module _ (st : List Rec) (a : Asc numbered st) (n : ℕ) (l : n ≡ length st) (
 
 module _ (st : List Rec) (a : Asc numbered st) (n : ℕ) (l : n ≡ length st) where
   -- small counts can be counted in
-  pub open-up : (ks : List (List ℕ)) (w : List ℕ → ℕ) (t : List ℕ) → take n t ≡ byKey w st → ((k : List ℕ) → w k + length ks < 9223372036854775808) → Open true st t ks
+  pub open-up : (ks : List (List ℕ)) (w : List ℕ → ℕ) (t : List ℕ) → take n t ≡ byKey w st → ((k : List ℕ) → w k + length ks < 65536) → Open true st t ks
   unfolding moved
   open-up [] w t e b = tt
   open-up (k ∷ ks) w t e b = λ s. (

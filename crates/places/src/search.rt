@@ -15,7 +15,7 @@ use crate::tags::tag;
 use keys::Key;
 use text::order::Order;
 
-// How k stands to the key of entry v: as their tags do, and only where those are equal is the line read.
+// How k stands to the key of entry v: as their tags do, and only where both have a tag that is not of one key alone is the line read.
 fn by_tags(h: &[u8], f: &[u8], v: u64, its: u64, ours: u64, k: Key) -> Order
     requires { ⌜ (its ≡ tagOf (keyNumbers (entry (now h) (now f) v))) × (ours ≡ tagOf (keyList k)) ⌝ }
     ensures { λ r. ⌜ triOf r ≡ lex (keyList k) (keyNumbers (entry (now (h .entry)) (now (f .entry)) v)) ⌝ }
@@ -25,6 +25,9 @@ fn by_tags(h: &[u8], f: &[u8], v: u64, its: u64, ours: u64, k: Key) -> Order
     }
     if its < ours {
         return Order::After;
+    }
+    if ours % 2 == 0 {
+        return Order::Same;
     }
     against(h, f, v, k)
 }

@@ -139,7 +139,7 @@ pub fn judge_delete(
     f: &[u8],
     a: &[u64],
     tags: &[u64],
-    counts: &[u64],
+    counts: &[u16],
     v: u64,
     s: State,
     room: usize,

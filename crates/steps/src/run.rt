@@ -6,6 +6,7 @@ ghost use lib.ListN.{length};
 ghost use Rattle.meaning.specs.Table.{role};
 ghost use Rattle.meaning.specs.Holding.{isHeld};
 ghost use Rattle.meaning.specs.File.{readFile};
+ghost use Rattle.text.specs.Places.{lineEnd};
 ghost use Rattle.layout.specs.Meant.{kindMeant};
 ghost use Rattle.places.specs.Counts.{Counted};
 ghost use Rattle.places.specs.Tags.{Tagged};
@@ -46,12 +47,11 @@ fn is_held(kind: Kind) -> bool
     }
 }
 
-// The kind and change of the line that starts at `at`.
-fn line_at(f: &[u8], at: usize) -> Line
-    requires { ⌜ at ≤ length (now f) ⌝ }
+// The kind and change of the line that starts at `at` and ends at `end`.
+fn line_at(f: &[u8], at: usize, end: usize) -> Line
+    requires { ⌜ (end ≡ lineEnd (now f) at) × (at ≤ end) × (end ≤ length (now f)) ⌝ }
     ensures { λ r. ⌜ (kindMeant (r .kind) ≡ changeAt (now (f .entry)) at .rec .kind) × (changeMeant (r .change) ≡ changeAt (now (f .entry)) at .op) ⌝ }
 {
-    let end = line_end(f, at);
     let text = &f[at..end];
     let kind = line_kind(text);
     known(kind, text)
@@ -77,7 +77,7 @@ pub fn run(
     f: &[u8],
     a: &mut [u64],
     tags: &mut [u64],
-    counts: &mut [u64],
+    counts: &mut [u16],
     steps: &mut [u64],
     before: &mut [u64],
     s: State,
@@ -90,7 +90,8 @@ pub fn run(
     let mut n = 0;
     let mut state = s;
     while at < f.len() {
-        let read = line_at(f, at);
+        let end = line_end(f, at);
+        let read = line_at(f, at, end);
         let kind = read.kind;
         if !is_held(kind) {
             return ended(0, 0, state, n, at);
@@ -113,7 +114,7 @@ pub fn run(
         steps[n] = 2 * (at as u64) + 1;
         before[n] = stepped.before;
         state = stepped.state;
-        at = line_end(f, at) + 2;
+        at = end + 2;
         n += 1;
     }
     ended(0, 0, state, n, at)

@@ -12,6 +12,7 @@ use crate::judge::judge_delete;
 use crate::judge::judge_insert;
 use crate::judge::judge_update;
 use layout::kinds::Kind;
+use places::counts;
 use places::counts::note;
 use places::moves::close;
 use places::moves::open;
@@ -32,7 +33,7 @@ fn insert(
     f: &[u8],
     a: &mut [u64],
     tags: &mut [u64],
-    counts: &mut [u64],
+    counts: &mut [u16],
     v: u64,
     s: State,
     room: usize,
@@ -55,7 +56,7 @@ fn insert(
     let next = count + 1;
     open(&mut *a, count, i, v);
     open(&mut *tags, count, i, entry_tag(h, f, v));
-    open(&mut *counts, count, i, 0);
+    counts::open(&mut *counts, count, i, 0);
     note(h, f, a, tags, &mut *counts, next, v, true);
     Stepped {
         code: 0,
@@ -70,7 +71,7 @@ fn update(
     f: &[u8],
     a: &mut [u64],
     tags: &[u64],
-    counts: &mut [u64],
+    counts: &mut [u16],
     v: u64,
     s: State,
     room: usize,
@@ -107,7 +108,7 @@ fn delete(
     f: &[u8],
     a: &mut [u64],
     tags: &mut [u64],
-    counts: &mut [u64],
+    counts: &mut [u16],
     v: u64,
     s: State,
     room: usize,
@@ -131,7 +132,7 @@ fn delete(
     note(h, f, a, tags, &mut *counts, count, gone, false);
     close(&mut *a, count, i);
     close(&mut *tags, count, i);
-    close(&mut *counts, count, i);
+    counts::close(&mut *counts, count, i);
     Stepped {
         code: 0,
         state: State {
@@ -161,7 +162,7 @@ pub fn step(
     line: Line,
     a: &mut [u64],
     tags: &mut [u64],
-    counts: &mut [u64],
+    counts: &mut [u16],
     s: State,
     room: usize,
 ) -> Stepped

@@ -9,5 +9,6 @@ by-tags-spec =
     (tie.spec
     (λ c. search tagorder)  -- returns
     (λ c. search tagorder)  -- returns-2
+    (λ c. search tagorder)  -- returns-3
     (λ c κs. search tagorder)  -- against-requires
-    (λ c. search tagorder))  -- returns-3
+    (λ c. search tagorder))  -- returns-4
