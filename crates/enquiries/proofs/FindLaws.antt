@@ -40,6 +40,8 @@ use Rattle.holding.specs.declared.read.Held.{Held}
 use Rattle.holding.specs.Read.{faultOf, recordsOf, HeldIs}
 use Rattle.holding.proofs.ReadLaws.{held-sound}
 use Rattle.places.specs.Places.{says}
+use Rattle.places.specs.Counts.{byKey}
+use Rattle.places.specs.Tags.{tagOf, Tagged}
 use Rattle.base.specs.Lists.{zeros}
 use Rattle.layout.specs.Rows.{padded}
 use Rattle.enquiries.specs.declared.finding.Finding.{Finding}
@@ -154,8 +156,8 @@ no-kind kind b e f = go (numberedAmong enquiries kind) (sym e ∙ f)
     go (some k) z = let y : _≡_ {A = Bool} true false = z in absurd (let x : _≡_ {A = ℕ} 0 1 = cc in omega arith)
 
 -- a fault that was read is that of an unsound holding
-pub unsounds : (h : List ℕ) (r : Held) (a t : List ℕ) → HeldIs h r a t → (r .line ≡ 0 → ⊥) → readHolding h ≡ unsound (r .line)
-unsounds h r a t w z = go (readHolding h) (w .line)
+pub unsounds : (h : List ℕ) (r : Held) (a o t : List ℕ) → HeldIs h r a o t → (r .line ≡ 0 → ⊥) → readHolding h ≡ unsound (r .line)
+unsounds h r a o t w z = go (readHolding h) (w .line)
   where
     go : (u : meaning.Held) → r .line ≡ faultOf u → u ≡ unsound (r .line)
     go (sound st) q = absurd (unfold faultOf in z q)
@@ -189,7 +191,7 @@ count-lines n (r ∷ rs) = ap suc (count-lines (suc n) rs)
 
 -- ---- the held line
 
-module _ (s : List ℕ) (a : List ℕ) (r : Held) (kind n : ℕ) (w : Enquired s a r kind) where
+module _ (s a o : List ℕ) (r : Held) (kind n : ℕ) (w : Enquired s a o r kind) where
   -- the holding's records
   abbrev st : List Rec
   st = recordsOf (readHolding s)
@@ -208,6 +210,10 @@ module _ (s : List ℕ) (a : List ℕ) (r : Held) (kind n : ℕ) (w : Enquired s
   -- the array has them all
   pub held-space : r .count ≤ length a
   held-space = omega (arith, held-few, w .space)
+
+  -- the tags are those of their keys
+  pub held-tagged : Tagged s s a o (r .count)
+  held-tagged = record { space = w .tagSpace; told = w .read .tagged (w .sound) ∙ ap (byKey tagOf) (sym (w .read .listed (w .sound) .says s)) }
 
   -- the state that it says is in order by numbers
   pub held-asc : Asc numbered (says s s a (r .count))
@@ -236,13 +242,13 @@ module _ (s : List ℕ) (a : List ℕ) (r : Held) (kind n : ℕ) (w : Enquired s
       unfolding heldPart
       held-there u v = rw (place, ne-eqb l 0 u) v
 
-pub ruleset held = (needs, held-few, held-space, held-asc, held-in, held-absent, held-there)
+pub ruleset held = (needs, held-few, held-space, held-tagged, held-asc, held-in, held-absent, held-there)
 
 -- ---- find
 
 -- what is read of a sound holding serves an enquiry
-pub enquired : (h a c : List ℕ) (r : Held) (kind : ℕ) (b : Bool) → b ≡ some? (numberedAmong enquiries kind) → b ≡ true → HeldIs h r a c → r .line ≡ 0 → 8192 ≤ length a → Enquired h a r kind
-enquired h a c r kind b e t w z l = record { asked = sym e ∙ t; counts = c; read = w; sound = z; space = l }
+pub enquired : (h a o c : List ℕ) (r : Held) (kind : ℕ) (b : Bool) → b ≡ some? (numberedAmong enquiries kind) → b ≡ true → HeldIs h r a o c → r .line ≡ 0 → 8192 ≤ length a → 8192 ≤ length o → Enquired h a o r kind
+enquired h a o c r kind b e t w z l m = record { asked = sym e ∙ t; counts = c; read = w; sound = z; space = l; tagSpace = m }
 
 module _ (s : List ℕ) (kind n : ℕ) (x : Finding) (b : Bool) (e : b ≡ some? (numberedAmong enquiries kind)) where
   -- 15 for a kind that can't be asked for
@@ -251,15 +257,15 @@ module _ (s : List ℕ) (kind n : ℕ) (x : Finding) (b : Bool) (e : b ≡ some?
   find-other f w = rw (no-kind kind b e f) w
 
   -- 14 for an unsound holding
-  pub find-unsound : (r : Held) (a t : List ℕ) → b ≡ true → HeldIs s r a t → (r .line ≡ 0 → ⊥) → x ≡ findingOf (refusal 14 (r .line) 0) → x ≡ findingOf (find s kind n)
+  pub find-unsound : (r : Held) (a o t : List ℕ) → b ≡ true → HeldIs s r a o t → (r .line ≡ 0 → ⊥) → x ≡ findingOf (refusal 14 (r .line) 0) → x ≡ findingOf (find s kind n)
   unfolding find findKind findIn
-  find-unsound r a t f h z w = rw (asked-is kind (sym e ∙ f) .known, unsounds s r a t h z) w
+  find-unsound r a o t f h z w = rw (asked-is kind (sym e ∙ f) .known, unsounds s r a o t h z) w
 
   -- else the held line
-  pub find-held : (r : Held) (a t : List ℕ) → b ≡ true → HeldIs s r a t → r .line ≡ 0 → x ≡ findingOf (heldPart s (heldAt (kind ∷ n ∷ []) 0 (recordsOf (readHolding s))))
+  pub find-held : (r : Held) (a o t : List ℕ) → b ≡ true → HeldIs s r a o t → r .line ≡ 0 → x ≡ findingOf (heldPart s (heldAt (kind ∷ n ∷ []) 0 (recordsOf (readHolding s))))
       → x ≡ findingOf (find s kind n)
   unfolding find findKind findIn
-  find-held r a t f h z w = let k = asked-is kind (sym e ∙ f) in rw (k .known, held-sound s (sym (h .line) ∙ z), ← (k .number)) w
+  find-held r a o t f h z w = let k = asked-is kind (sym e ∙ f) in rw (k .known, held-sound s (sym (h .line) ∙ z), ← (k .number)) w
 
 pub ruleset finds = (needs, not-true, not-false, find-other, find-unsound, find-held)
 

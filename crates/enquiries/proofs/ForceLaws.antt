@@ -216,8 +216,8 @@ module _ (s t : List ℕ) (kind n : ℕ) (x : Finding) (k : Asked kind) (z : che
   last-named l q w = rw (on-lines, q) w
 
 -- the kind was asked for
-pub last-asked : (h a : List ℕ) (r : Held) (kind : ℕ) → Enquired h a r kind → Asked kind
-last-asked h a r kind w = asked-is kind (w .asked)
+pub last-asked : (h a o : List ℕ) (r : Held) (kind : ℕ) → Enquired h a o r kind → Asked kind
+last-asked h a o r kind w = asked-is kind (w .asked)
 
 pub ruleset last = (needs, named-from, named-to, last-asked, last-held, last-deleted, last-named)
 
@@ -228,11 +228,11 @@ module _ (s t : List ℕ) (kind n : ℕ) (x : Finding) (b : Bool) (e : b ≡ som
   force-other f w = rw (no-kind kind b e f) w
 
   -- 14 for an unsound holding
-  pub force-unsound : (r : Held) (a c : List ℕ) → b ≡ true → HeldIs s r a c → (r .line ≡ 0 → ⊥) → x ≡ findingOf (refusal 14 (r .line) 0) → x ≡ findingOf (inForce s t kind n)
+  pub force-unsound : (r : Held) (a o c : List ℕ) → b ≡ true → HeldIs s r a o c → (r .line ≡ 0 → ⊥) → x ≡ findingOf (refusal 14 (r .line) 0) → x ≡ findingOf (inForce s t kind n)
   unfolding inForce inForceKind inForceHeld
-  force-unsound r a c f h z w = rw (asked-is kind (sym e ∙ f) .known, unsounds s r a c h z) w
+  force-unsound r a o c f h z w = rw (asked-is kind (sym e ∙ f) .known, unsounds s r a o c h z) w
 
-  module _ (u : b ≡ true) (r : Held) (a i : List ℕ) (h : HeldIs s r a i) (v : r .line ≡ 0) where
+  module _ (u : b ≡ true) (r : Held) (a o i : List ℕ) (h : HeldIs s r a o i) (v : r .line ≡ 0) where
     -- then the file is judged
     on-file : inForce s t kind n ≡ inForceFile s t (kind ∷ n ∷ []) (recordsOf (readHolding s)) (readFile t)
     unfolding inForce inForceKind inForceHeld

@@ -10,6 +10,7 @@ ghost use lib.ListN.{length};
 ghost use Rattle.theory.specs.Store.{Asc};
 ghost use Rattle.keys.specs.Numbers.{numbered, keyList};
 ghost use Rattle.places.specs.Places.{says};
+ghost use Rattle.places.specs.Tags.{Tagged};
 ghost use Rattle.holding.specs.Read.{recordsOf};
 ghost use Rattle.enquiries.specs.Finding.{findingOf};
 ghost use Rattle.enquiries.specs.Handed.{Handed};
@@ -49,23 +50,30 @@ pub fn asked_key(kind: u64, number: u64) -> Key
 }
 
 // The line of the record with that key, counted from 1, or 0.
-pub fn line_of(holding: &[u8], starts: &[u64], count: usize, key: Key) -> usize
-    requires { ⌜ (count ≤ length (now starts)) × (count ≤ 8192) × Asc numbered (says (now holding) (now holding) (now starts) count) ⌝ }
+pub fn line_of(holding: &[u8], starts: &[u64], tags: &[u64], count: usize, key: Key) -> usize
+    requires { ⌜ (count ≤ length (now starts)) × (count ≤ 8192) × Tagged (now holding) (now holding) (now starts) (now tags) count × Asc numbered (says (now holding) (now holding) (now starts) count) ⌝ }
     ensures { λ r. ⌜ r ≡ lineFound (keyList key) (says (now (holding .entry)) (now (holding .entry)) (now (starts .entry)) count) ⌝ }
 {
-    let i = place(holding, holding, starts, count, key);
-    if stands(holding, holding, starts, count, i, key) {
+    let i = place(holding, holding, starts, tags, count, key);
+    if stands(holding, holding, starts, tags, count, i, key) {
         return i + 1;
     }
     0
 }
 
 // The held line of the record of that kind and number, in a sound holding that was read; 11 where none is held.
-pub fn held_line(holding: &[u8], starts: &[u64], held: Held, kind: u64, number: u64) -> Finding
-    requires { ⌜ Enquired (now holding) (now starts) held kind ⌝ }
+pub fn held_line(
+    holding: &[u8],
+    starts: &[u64],
+    tags: &[u64],
+    held: Held,
+    kind: u64,
+    number: u64,
+) -> Finding
+    requires { ⌜ Enquired (now holding) (now starts) (now tags) held kind ⌝ }
     ensures { λ r. ⌜ r ≡ findingOf (heldPart (now (holding .entry)) (heldAt (kind ∷ number ∷ []) 0 (recordsOf (readHolding (now (holding .entry)))))) ⌝ }
 {
-    let n = line_of(holding, starts, held.count, asked_key(kind, number));
+    let n = line_of(holding, starts, tags, held.count, asked_key(kind, number));
     if n == 0 {
         return refusal(11, 0, 0);
     }
@@ -80,12 +88,13 @@ pub fn find_line(holding: &[u8], kind: u64, number: u64) -> Finding
         return refusal(15, 0, 0);
     }
     let mut starts = [0u64; 8192];
-    let mut counts = [0u64; 8192];
-    let held = read_holding(holding, &mut starts, &mut counts);
+    let mut tags = [0u64; 8192];
+    let mut counts = [0u16; 8192];
+    let held = read_holding(holding, &mut starts, &mut tags, &mut counts);
     if held.line != 0 {
         return refusal(14, held.line as u64, 0);
     }
-    held_line(holding, &starts, held, kind, number)
+    held_line(holding, &starts, &tags, held, kind, number)
 }
 
 // The line of the record of that kind and number.

@@ -27,15 +27,16 @@ fn last_line(
     holding: &[u8],
     file: &[u8],
     starts: &[u64],
+    tags: &[u64],
     held: Held,
     kind: u64,
     number: u64,
 ) -> Finding
-    requires { ⌜ Enquired (now holding) (now starts) held kind × (checkFile (now file) .code ≡ 0) ⌝ }
+    requires { ⌜ Enquired (now holding) (now starts) (now tags) held kind × (checkFile (now file) .code ≡ 0) ⌝ }
     ensures { λ r. ⌜ r ≡ findingOf (inForceFile (now (holding .entry)) (now (file .entry)) (kind ∷ number ∷ []) (recordsOf (readHolding (now (holding .entry)))) (readFile (now (file .entry)))) ⌝ }
 {
     match last_naming(file, asked_key(kind, number)) {
-        Naming::Unnamed => held_line(holding, starts, held, kind, number),
+        Naming::Unnamed => held_line(holding, starts, tags, held, kind, number),
         Naming::Deleted => refusal(11, 0, 0),
         Naming::Named(line) => line_found(file, line, true),
     }
@@ -49,8 +50,9 @@ pub fn line_in_force(holding: &[u8], file: &[u8], kind: u64, number: u64) -> Fin
         return refusal(15, 0, 0);
     }
     let mut starts = [0u64; 8192];
-    let mut counts = [0u64; 8192];
-    let held = read_holding(holding, &mut starts, &mut counts);
+    let mut tags = [0u64; 8192];
+    let mut counts = [0u16; 8192];
+    let held = read_holding(holding, &mut starts, &mut tags, &mut counts);
     if held.line != 0 {
         return refusal(14, held.line as u64, 0);
     }
@@ -58,7 +60,7 @@ pub fn line_in_force(holding: &[u8], file: &[u8], kind: u64, number: u64) -> Fin
     if checked.code != 0 {
         return refusal(checked.code, checked.line as u64, checked.field as u64);
     }
-    last_line(holding, file, &starts, held, kind, number)
+    last_line(holding, file, &starts, &tags, held, kind, number)
 }
 
 // The record in force of that kind and number.

@@ -28,6 +28,7 @@ use Rattle.keys.specs.Numbers.{refNumbers}
 use Rattle.keys.specs.KeyLaws.{meets-agree}
 use Rattle.places.specs.Places.{entry, says}
 use Rattle.places.specs.Counts.{times, refers, tally, byKey, moved, Open, Notes}
+use Rattle.places.specs.Tags.{tagOf, Tagged}
 use Rattle.places.proofs.SaysLaws.{length-says, says-at}
 use Rattle.places.proofs.ReferenceLaws.{asc-told}
 use Rattle.places.proofs.CountLaws.{refs-few, tally-few, tally-more, by-cong, by-nothing, count-all, open-up, has-all}
@@ -176,11 +177,11 @@ held-sound h z = sound-told (readHolding h) (read-counted h) z
 
 -- ---- both passes
 
-module _ (h a : List ℕ) (r : Held) (s : ReadAs h (scan 1 none (linesOf h)) r a) where
+module _ (h a g : List ℕ) (r : Held) (s : ReadAs h (scan 1 none (linesOf h)) r a g) where
   -- a fault of the first pass is the holding's
-  pub read-faulty : (t : List ℕ) → (r .line ≡ 0 → ⊥) → HeldIs h r a t
+  pub read-faulty : (t : List ℕ) → (r .line ≡ 0 → ⊥) → HeldIs h r a g t
   unfolding readHolding
-  read-faulty t m = record { line = go (scan 1 none (linesOf h)) (s .line); listed = λ z. absurd (m z); told = λ z. absurd (m z) }
+  read-faulty t m = record { line = go (scan 1 none (linesOf h)) (s .line); listed = λ z. absurd (m z); tagged = λ z. absurd (m z); told = λ z. absurd (m z) }
     where
       go : (w : meaning.Held) → r .line ≡ faultOf w → r .line ≡ faultOf (onScan w)
       go (sound st) e = absurd (m (unfold faultOf in e))
@@ -212,12 +213,17 @@ module _ (h a : List ℕ) (r : Held) (s : ReadAs h (scan 1 none (linesOf h)) r a
     pub read-fines : T (all fine (says h h a (r .count)))
     read-fines = reads .fines
 
+    -- their keys are tagged
+    pub read-tagged : 8192 ≤ length g → Tagged h h a g (r .count)
+    read-tagged l = record { space = l; told = s .tagged z ∙ ap (byKey tagOf) (sym says-is) }
+
     -- the second pass says the rest
-    pub read-told : (t : List ℕ) (x : ℕ) → CountsAs h a (r .count) t x → HeldIs h (record { line = x; count = r .count }) a t
+    pub read-told : (t : List ℕ) (x : ℕ) → CountsAs h a (r .count) t x → HeldIs h (record { line = x; count = r .count }) a g t
     unfolding readHolding onScan
     read-told t x e = record {
       line = e .line ∙ ap faultOf (sym same);
       listed = λ y. subst (λ w. Listed h a (r .count) (recordsOf w)) (sym same) (kept (referring st 1 st) (refer-is st 0 st) (sym (e .line) ∙ y));
+      tagged = λ y. subst (λ w. take (r .count) g ≡ byKey tagOf (recordsOf w)) (sym same) (tags (referring st 1 st) (refer-is st 0 st) (sym (e .line) ∙ y));
       told = λ y. subst (λ w. take (r .count) t ≡ byKey (tally (recordsOf w)) (recordsOf w)) (sym same) (counts (referring st 1 st) (refer-is st 0 st) (sym (e .line) ∙ y) (e .told y));
     }
       where
@@ -231,15 +237,19 @@ module _ (h a : List ℕ) (r : Held) (s : ReadAs h (scan 1 none (linesOf h)) r a
         kept (sound t) i y = unfold recordsOf in (rw (i, says-is) (s .listed z))
         kept (unsound n) i y = absurd (i (unfold faultOf in y))
 
+        tags : (w : meaning.Held) → Refers st w → faultOf w ≡ 0 → take (r .count) g ≡ byKey tagOf (recordsOf w)
+        tags (sound t) i y = unfold recordsOf in (rw (i, says-is) (s .tagged z))
+        tags (unsound n) i y = absurd (i (unfold faultOf in y))
+
         counts : (w : meaning.Held) → Refers st w → faultOf w ≡ 0 → take (r .count) t ≡ byKey (tally st) st → take (r .count) t ≡ byKey (tally (recordsOf w)) (recordsOf w)
         counts (sound t) i y q = unfold recordsOf in (rw i q)
         counts (unsound n) i y q = absurd (i (unfold faultOf in y))
 
-pub ruleset readings = (needs, read-faulty, read-room, read-few, read-asc, read-fines, read-told)
+pub ruleset readings = (needs, read-faulty, read-room, read-few, read-asc, read-fines, read-tagged, read-told)
 
 -- ---- the three numbers
 
-module _ (h a t : List ℕ) (r : Held) (s : HeldIs h r a t) where
+module _ (h a g t : List ℕ) (r : Held) (s : HeldIs h r a g t) where
   -- a sound holding
   pub check-sound : r .line ≡ 0 → record { code = 0; line = 0; field = 0 } ≡ verdictOf (checkHolding h)
   unfolding checkHolding heldNumbers

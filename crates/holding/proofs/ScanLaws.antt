@@ -2,7 +2,7 @@
 use mathlib.Core.Path.{_≡_, refl, sym, ap, ap₂, subst, _∙_}
 use mathlib.Core.Bool.{Bool, true, false, _&&_}
 use mathlib.Core.Option.{Option, none, some}
-use mathlib.Core.List.{List, [], _∷_, _++_, append-assoc, append-nil}
+use mathlib.Core.List.{List, [], _∷_, _++_, append-assoc, append-nil, map-append}
 use Prim.Native.Nat.{ℕ, zero, suc, _+_, _-_, _*_, _/_, _%_, _≤_, _<_}
 use native.Mathlib.Numerals.{add-one}
 use native.Mathlib.Omega.{arith}
@@ -41,6 +41,8 @@ use Rattle.keys.specs.declared.Key.{Key}
 use Rattle.keys.specs.Numbers.{keyList, keyNumbers}
 use Rattle.keys.specs.KeyLaws.{key-agrees}
 use Rattle.places.specs.Places.{recOf, lineAt, entry, says}
+use Rattle.places.specs.Counts.{byKey}
+use Rattle.places.specs.Tags.{tagOf}
 use Rattle.places.proofs.SaysLaws.{entry-even, says-more, says-held, length-says}
 use Rattle.places.proofs.EntryLaws.{content-told}
 use Rattle.places.proofs.LineLaws.{held-there}
@@ -116,12 +118,13 @@ join-add st r (unsound n) = refl
 abbrev pub Beside : List ℕ → Option (List ℕ) → Type 0
 Beside k lo = (r : Rec) → T (fine r) → isLt (lex k (keyNumbers r)) ≡ above lo r
 
--- n lines were read up to `at`, the last of key k, and their starts are in a
-pub record Scanning (h a : List ℕ) (n at : ℕ) (k : List ℕ) : Type 0 where
+-- n lines were read up to `at`, the last of key k, and their starts are in a, with their tags in g
+pub record Scanning (h a g : List ℕ) (n at : ℕ) (k : List ℕ) : Type 0 where
   pub lo : Option (List ℕ)
   pub left : scan 1 none (linesOf h) ≡ joinHeld (says h h a n) (scan (suc n) lo (linesOf (drop at h)))
   pub beside : Beside k lo
   pub even : T (all (λ v. eqb (v % 2) 0) (take n a))
+  pub tagged : take n g ≡ byKey tagOf (says h h a n)
   pub few : n ≤ most
 
 -- every kind's number is above 0
@@ -135,9 +138,13 @@ unfolding above lex andThen keyNumbers
 zeros-beside r f = rw (is-cmpN 0 (value (ident (r .kind))) lt (kind-low (r .kind)))
 
 -- at the start nothing was read
-pub scan-start : (h a : List ℕ) → Scanning h a 0 0 (0 ∷ 0 ∷ 0 ∷ 0 ∷ [])
+pub scan-start : (h a g : List ℕ) → Scanning h a g 0 0 (0 ∷ 0 ∷ 0 ∷ 0 ∷ [])
 unfolding says
-scan-start h a = record { lo = none; left = join-nil (scan 1 none (linesOf h)); beside = zeros-beside; even = tt; few = omega arith }
+scan-start h a g = record { lo = none; left = join-nil (scan 1 none (linesOf h)); beside = zeros-beside; even = tt; tagged = refl; few = omega arith }
+
+-- the tag of a record more
+tags-more : (c : List ℕ) (n i : ℕ) (st : List Rec) (r : Rec) → n < length c → take n c ≡ byKey tagOf st → i ≡ tagOf (keyNumbers r) → take (n + 1) (set c n i) ≡ byKey tagOf (st ++ (r ∷ []))
+tags-more c n i st r l e q = rw (add-one n, take-suc-set c n i l, e, q) (sym (map-append (λ x. tagOf (keyNumbers x)) st (r ∷ [])))
 
 -- ---- a line in order
 
@@ -212,39 +219,40 @@ module _ (h : List ℕ) (at e : ℕ) (b : Bool) (g : at < length h) (q : e ≡ p
       → joinHeld st (scan (suc n) lo (linesOf (drop at h))) ≡ joinHeld st′ (scan (suc (n + 1)) (some (keyOf r)) (linesOf (drop (e + 2) h)))
   line-on n lo r st st′ f w c = rw (line-next n lo, f, join-add st r _, c, w, add-one n)
 
-  module _ (a : List ℕ) (n : ℕ) (k : List ℕ) (s : Scanning h a n at k) (x : Next) (v : keyTaken x ≡ nextAs (n + 1) k (recordAs judged (heldAs (n + 1) b judged))) where
+  module _ (a c : List ℕ) (n : ℕ) (k : List ℕ) (s : Scanning h a c n at k) (x : Next) (v : keyTaken x ≡ nextAs (n + 1) k (recordAs judged (heldAs (n + 1) b judged))) where
     found : Nexts (suc n) (s .lo) (recordAs judged (heldAs (suc n) b judged)) (λ r. scan (suc (suc n)) (some (keyOf r)) rest) (keyTaken x)
     found =
         rw (v, add-one n)
         (next-in (suc n) k (s .lo) (s .beside) (recordAs judged (heldAs (suc n) b judged)) (held-fine (suc n) (firstLine (drop at h)) (recordAs judged (heldAs (suc n) b judged)) (subst (HeldIs (suc n) (firstLine (drop at h))) (line-held (suc n)) (held-out (suc n) (firstLine (drop at h))))) (λ r. scan (suc (suc n)) (some (keyOf r)) rest))
 
     -- a line that is faulty or out of order is the lowest
-    pub scan-stop : x ≡ Faulty → ReadAs h (scan 1 none (linesOf h)) (record { line = n + 1; count = 0 }) a
+    pub scan-stop : x ≡ Faulty → ReadAs h (scan 1 none (linesOf h)) (record { line = n + 1; count = 0 }) a c
     unfolding faultOf
     scan-stop y =
         let f : onHeld (suc n) (s .lo) (recordAs judged (heldAs (suc n) b judged)) (λ r. scan (suc (suc n)) (some (keyOf r)) rest) ≡ unsound (suc n) = rw y at found in
         let w : scan 1 none (linesOf h) ≡ unsound (suc n) = s .left ∙ rw (line-next n (s .lo), f) in
-        record { line = rw w (add-one n); listed = λ z. absurd (omega (arith, z)) }
+        record { line = rw w (add-one n); listed = λ z. absurd (omega (arith, z)); tagged = λ z. absurd (omega (arith, z)) }
 
-    -- there is room for the start of one that is taken
-    pub scan-room : (j : Key) → x ≡ Taken j → 8192 ≤ length a → n < length a
-    scan-room j y l =
+    -- there is room for the start of one that is taken, and for its tag
+    pub scan-room : (j : Key) (o : List ℕ) → x ≡ Taken j → 8192 ≤ length o → n < length o
+    scan-room j o y l =
         let t : Took (suc n) (s .lo) (recordAs judged (heldAs (suc n) b judged)) (λ r. scan (suc (suc n)) (some (keyOf r)) rest) (keyList j) = rw y at found in
         omega (arith, t .few)
 
     -- and it leaves those after it
-    pub scan-turn : (j : Key) → x ≡ Taken j → 8192 ≤ length a → Scanning h (set a n (2 * at)) (n + 1) (e + 2) (keyList j)
-    scan-turn j y l =
+    pub scan-turn : (j : Key) (i : ℕ) → x ≡ Taken j → 8192 ≤ length a → 8192 ≤ length c → i ≡ tagOf (keyList j) → Scanning h (set a n (2 * at)) (set c n i) (n + 1) (e + 2) (keyList j)
+    scan-turn j i y l o p =
         let t : Took (suc n) (s .lo) (recordAs judged (heldAs (suc n) b judged)) (λ r. scan (suc (suc n)) (some (keyOf r)) rest) (keyList j) = rw y at found in
         let r : Rec = t .taken in
         let m : n < length a = omega (arith, t .few) in
-        let i : entry h h (2 * at) ≡ r = entry-even h h at (2 * at) (omega arith) ∙ held-there h at (suc n) (firstLine (drop at h)) rest r (lines-at h at g) (line-held (suc n) ∙ t .held) in
-        let c : says h h (set a n (2 * at)) (n + 1) ≡ says h h a n ++ (r ∷ []) = says-more h h a n (2 * at) m ∙ rw i in
+        let f : entry h h (2 * at) ≡ r = entry-even h h at (2 * at) (omega arith) ∙ held-there h at (suc n) (firstLine (drop at h)) rest r (lines-at h at g) (line-held (suc n) ∙ t .held) in
+        let d : says h h (set a n (2 * at)) (n + 1) ≡ says h h a n ++ (r ∷ []) = says-more h h a n (2 * at) m ∙ rw f in
         record {
           lo = some (keyOf r);
-          left = s .left ∙ line-on n (s .lo) r (says h h a n) (says h h (set a n (2 * at)) (n + 1)) (t .goes) (next-there (suc n) r (t .held)) c;
+          left = s .left ∙ line-on n (s .lo) r (says h h a n) (says h h (set a n (2 * at)) (n + 1)) (t .goes) (next-there (suc n) r (t .held)) d;
           beside = λ z f. rw (t .key) (beside-key r (t .sounds) z f);
           even = rw (add-one n, take-suc-set a n (2 * at) m) (all-snoc (λ v. eqb (v % 2) 0) (take n a) (2 * at) (s .even) (yes-eqb {a = 2 * at % 2} {b = 0} (omega arith)));
+          tagged = rw d (tags-more c n i (says h h a n) r (omega (arith, t .few)) (s .tagged) (p ∙ ap tagOf (t .key)));
           few = omega (arith, t .few);
         }
       where
@@ -252,9 +260,9 @@ module _ (h : List ℕ) (at e : ℕ) (b : Bool) (g : at < length h) (q : e ≡ p
         beside-key r f z g = unfold above in (ap isLt (key-agrees r z f g))
 
 -- at the end all lines are sound and in order
-pub scan-done : (h a k : List ℕ) (n at : ℕ) → Scanning h a n at k → length h ≤ at → 8192 ≤ length a → ReadAs h (scan 1 none (linesOf h)) (record { line = 0; count = n }) a
+pub scan-done : (h a c k : List ℕ) (n at : ℕ) → Scanning h a c n at k → length h ≤ at → 8192 ≤ length a → ReadAs h (scan 1 none (linesOf h)) (record { line = 0; count = n }) a c
 unfolding scan faultOf recordsOf
-scan-done h a k n at s g l =
+scan-done h a c k n at s g l =
     let w : meaning.scan 1 none (linesOf h) ≡ sound (says h h a n) = s .left ∙ rw (lines-end h at g, append-nil) in
     record {
       line = rw w;
@@ -264,6 +272,7 @@ scan-done h a k n at s g l =
         even = s .even;
         few = s .few;
       });
+      tagged = λ z. rw w (s .tagged);
     }
 
 -- another start in the array leaves its length

@@ -12,6 +12,7 @@ use Rattle.meaning.specs.Holding as meaning
 use Rattle.meaning.specs.Holding.{sound, unsound, referring, readHolding}
 use Rattle.places.specs.Places.{says}
 use Rattle.places.specs.Counts.{tally, byKey}
+use Rattle.places.specs.Tags.{tagOf}
 use Rattle.holding.specs.declared.read.Held.{Held}
 
 -- the lowest faulty line; a sound holding has none, which is 0
@@ -31,18 +32,20 @@ pub record Listed (h a : List ℕ) (n : ℕ) (st : List Rec) : Type 0 where
   pub even : T (all (λ v. eqb (v % 2) 0) (take n a))
   pub few : n ≤ most
 
--- the answer tells the lowest faulty line of what was read, or its records and where they stand
-pub record ReadAs (h : List ℕ) (s : meaning.Held) (r : Held) (a : List ℕ) : Type 0 where
+-- the answer tells the lowest faulty line of what was read, or its records, where they stand and the tags of their keys
+pub record ReadAs (h : List ℕ) (s : meaning.Held) (r : Held) (a g : List ℕ) : Type 0 where
   pub line : r .line ≡ faultOf s
   pub listed : r .line ≡ 0 → Listed h a (r .count) (recordsOf s)
+  pub tagged : r .line ≡ 0 → take (r .count) g ≡ byKey tagOf (recordsOf s)
 
 -- the lowest record whose references are not all met, or 0 and how often the records refer to each of them
 pub record CountsAs (h a : List ℕ) (n : ℕ) (t : List ℕ) (r : ℕ) : Type 0 where
   pub line : r ≡ faultOf (referring (says h h a n) 1 (says h h a n))
   pub told : r ≡ 0 → take n t ≡ byKey (tally (says h h a n)) (says h h a n)
 
--- the lowest faulty line of a holding, or its records, where they stand and how often they refer to each of them
-pub record HeldIs (h : List ℕ) (r : Held) (a t : List ℕ) : Type 0 where
+-- the lowest faulty line of a holding, or its records, where they stand, the tags of their keys and how often they refer to each of them
+pub record HeldIs (h : List ℕ) (r : Held) (a g t : List ℕ) : Type 0 where
   pub line : r .line ≡ faultOf (readHolding h)
   pub listed : r .line ≡ 0 → Listed h a (r .count) (recordsOf (readHolding h))
+  pub tagged : r .line ≡ 0 → take (r .count) g ≡ byKey tagOf (recordsOf (readHolding h))
   pub told : r .line ≡ 0 → take (r .count) t ≡ byKey (tally (recordsOf (readHolding h))) (recordsOf (readHolding h))

@@ -16,8 +16,9 @@ pub fn check_holding(holding: &[u8]) -> Verdict
     ensures { λ r. ⌜ r ≡ verdictOf (checkHolding (now (holding .entry))) ⌝ }
 {
     let mut starts = [0u64; 8192];
-    let mut counts = [0u64; 8192];
-    let held = read_holding(holding, &mut starts, &mut counts);
+    let mut tags = [0u64; 8192];
+    let mut counts = [0u16; 8192];
+    let held = read_holding(holding, &mut starts, &mut tags, &mut counts);
     if held.line == 0 {
         return Verdict {
             code: 0,

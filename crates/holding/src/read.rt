@@ -11,16 +11,22 @@ pub struct Held {
     pub count: usize,
 }
 
-// Judges a holding, and leaves where its lines start, twice, in the front of `starts`, and how often each is referred to in `counts`.
-pub fn read_holding(holding: &[u8], starts: &mut [u64], counts: &mut [u64]) -> Held
-    requires { ⌜ (8192 ≤ length (now starts)) × (8192 ≤ length (now counts)) ⌝ }
-    ensures { λ r. ⌜ HeldIs (now (holding .entry)) r (now (starts .exit)) (now (counts .exit)) ⌝ }
+// Judges a holding, and leaves where its lines start, twice, in the front of `starts`, the tags of their keys in `tags`, and how often
+// each is referred to in `counts`.
+pub fn read_holding(
+    holding: &[u8],
+    starts: &mut [u64],
+    tags: &mut [u64],
+    counts: &mut [u16],
+) -> Held
+    requires { ⌜ (8192 ≤ length (now starts)) × (8192 ≤ length (now tags)) × (8192 ≤ length (now counts)) ⌝ }
+    ensures { λ r. ⌜ HeldIs (now (holding .entry)) r (now (starts .exit)) (now (tags .exit)) (now (counts .exit)) ⌝ }
 {
-    let held = scan(holding, &mut *starts);
+    let held = scan(holding, &mut *starts, &mut *tags);
     if held.line != 0 {
         return held;
     }
     let count = held.count;
-    let line = unmet(holding, &*starts, &mut *counts, count);
+    let line = unmet(holding, &*starts, &*tags, &mut *counts, count);
     Held { line, count }
 }

@@ -15,6 +15,7 @@ use keys::key_of;
 use keys::order;
 use layout::kinds::KindFound;
 use layout::limits::Holding;
+use places::tags::tag;
 use text::fields::content_start;
 use text::lines::ends_at;
 use text::lines::plain_end;
@@ -45,10 +46,10 @@ fn next_key(text: &[u8], ended: bool, n: usize, before: Key) -> Next
     }
 }
 
-// The lowest faulty line, or 0 and where each line starts, twice: an entry of the holding.
-pub fn scan(holding: &[u8], starts: &mut [u64]) -> Held
-    requires { ⌜ 8192 ≤ length (now starts) ⌝ }
-    ensures { λ r. ⌜ ReadAs (now (holding .entry)) (scan 1 none (linesOf (now (holding .entry)))) r (now (starts .exit)) ⌝ }
+// The lowest faulty line, or 0 and where each line starts, twice: an entry of the holding; with the tag of each key.
+pub fn scan(holding: &[u8], starts: &mut [u64], tags: &mut [u64]) -> Held
+    requires { ⌜ (8192 ≤ length (now starts)) × (8192 ≤ length (now tags)) ⌝ }
+    ensures { λ r. ⌜ ReadAs (now (holding .entry)) (scan 1 none (linesOf (now (holding .entry)))) r (now (starts .exit)) (now (tags .exit)) ⌝ }
 {
     let mut before = Key {
         kind: 0,
@@ -66,6 +67,7 @@ pub fn scan(holding: &[u8], starts: &mut [u64]) -> Held
             return Held { line, count: 0 };
         };
         starts[count] = 2 * at as u64;
+        tags[count] = tag(key);
         before = key;
         count = line;
         at = end + 2;

@@ -27,6 +27,7 @@ use Rattle.laws.specs.Checks.{held-bytes}
 use Rattle.text.specs.Places.{lineEnd}
 use Rattle.places.specs.Places.{says}
 use Rattle.places.specs.Counts.{Counted}
+use Rattle.places.specs.Tags.{Tagged}
 use Rattle.volume.specs.declared.check.Answer.{Answer as Six′}
 use Rattle.volume.specs.Answer.{answerOf}
 use Rattle.holding.specs.declared.read.Held.{Held}
@@ -46,15 +47,15 @@ use Rattle.loader.proofs.FrameLaws.{frame-ends, frame-opens, frame-copi
 -- ---- each refusal
 
 -- 14 for an unsound holding
-pub load-unsound : (h f : List ℕ) (room : ℕ) (r : Held) (a k : List ℕ) → HeldIs h r a k → (r .line ≡ 0 → ⊥) → load room h f ≡ refused 14 (r .line) 0
+pub load-unsound : (h f : List ℕ) (room : ℕ) (r : Held) (a o k : List ℕ) → HeldIs h r a o k → (r .line ≡ 0 → ⊥) → load room h f ≡ refused 14 (r .line) 0
 unfolding load
-load-unsound h f room r a k w n = go (readHolding h) (w .line)
+load-unsound h f room r a o k w n = go (readHolding h) (w .line)
   where
     go : (u : meaning.Held) → r .line ≡ faultOf u → onHolding room f u ≡ refused 14 (r .line) 0
     go (sound st) e = absurd (unfold faultOf in n e)
     go (unsound m) e = unfold faultOf onHolding in rw e
 
-module _ (h f : List ℕ) (room : ℕ) (r : Held) (a tl : List ℕ) (w : HeldIs h r a tl) (z : r .line ≡ 0) where
+module _ (h f : List ℕ) (room : ℕ) (r : Held) (a o tl : List ℕ) (w : HeldIs h r a o tl) (z : r .line ≡ 0) where
   -- the holding's records
   abbrev st : List Rec
   st = recordsOf (readHolding h)
@@ -137,6 +138,12 @@ module _ (h f : List ℕ) (room : ℕ) (r : Held) (a tl : List ℕ) (w : HeldIs 
               heldShort = v;
               fileShort = x;
             }
+
+        -- tagged
+        pub load-tagged : 8192 ≤ length o → Tagged h f a o (r .count)
+        load-tagged p =
+            let y : says h f a (r .count) ≡ st = w .listed z .says f in
+            record { space = p; told = rw y (w .tagged z) }
 
         -- and counted
         pub load-counted : 8192 ≤ length tl → Counted h f a tl (r .count)

@@ -59,8 +59,9 @@ pub fn load(
     requires { ⌜ (8192 ≤ length (now places)) × (4096 ≤ length (now steps)) × (4096 ≤ length (now before)) × (room < 9223372036854775808) ⌝ }
     ensures { λ r. ⌜ Loads (now (holding .entry)) (now (file .entry)) (now (places .exit)) (now (steps .exit)) (now (before .exit)) room r ⌝ }
 {
-    let mut counts = [0u64; 8192];
-    let held = read_holding(holding, &mut *places, &mut counts);
+    let mut tags = [0u64; 8192];
+    let mut counts = [0u16; 8192];
+    let held = read_holding(holding, &mut *places, &mut tags, &mut counts);
     if held.line != 0 {
         return refused(14, held.line, 0);
     }
@@ -77,6 +78,7 @@ pub fn load(
         holding,
         file,
         &mut *places,
+        &mut tags,
         &mut counts,
         &mut *steps,
         &mut *before,

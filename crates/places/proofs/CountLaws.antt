@@ -215,7 +215,7 @@ module _ (st : List Rec) (a : Asc numbered st) (n : ℕ) (l : n ≡ length st) (
 
 module _ (st : List Rec) (a : Asc numbered st) (n : ℕ) (l : n ≡ length st) where
   -- small counts can be counted in
-  pub open-up : (ks : List (List ℕ)) (w : List ℕ → ℕ) (t : List ℕ) → take n t ≡ byKey w st → ((k : List ℕ) → w k + length ks < 9223372036854775808) → Open true st t ks
+  pub open-up : (ks : List (List ℕ)) (w : List ℕ → ℕ) (t : List ℕ) → take n t ≡ byKey w st → ((k : List ℕ) → w k + length ks < 65536) → Open true st t ks
   unfolding moved
   open-up [] w t e b = tt
   open-up (k ∷ ks) w t e b = λ s. (
@@ -252,15 +252,15 @@ module _ (w : List ℕ → ℕ) (t k : List ℕ) (st : List Rec) (n i : ℕ) (e 
   rest : (j : ℕ) → take (n - j) (drop j t) ≡ byKey w (drop j st)
   rest j = sym (drop-take j n t) ∙ ap (drop j) e ∙ sym (map-drop (λ x. w (keyNumbers x)) j st)
 
-  -- a count of nothing in the room made for a record that nothing refers to
-  pub count-open : (x : Rec) → n < length t → i ≤ n → get numbered k st ≡ none → w (keyNumbers x) ≡ 0 → take (n + 1) (opened t n i 0) ≡ byKey w (put numbered k (some x) st)
-  count-open x l m g z =
+  -- the number of a record more in the room made for it
+  pub count-open : (x : Rec) (v : ℕ) → n < length t → i ≤ n → get numbered k st ≡ none → w (keyNumbers x) ≡ v → take (n + 1) (opened t n i v) ≡ byKey w (put numbered k (some x) st)
+  count-open x v l m g z =
       let p : put numbered k (some x) st ≡ take i st ++ (x ∷ drop i st) = put-at numbered k (some x) st ∙ rw (g, ← r, add-zero i) in
-      open-take t n i 0 m l
-      ∙ ap₂ (λ y u. y ++ (0 ∷ u)) (front m) (rest i)
+      open-take t n i v m l
+      ∙ ap₂ (λ y u. y ++ (v ∷ u)) (front m) (rest i)
       ∙ sym (ap (byKey w) p ∙ map-append (λ y. w (keyNumbers y)) (take i st) (x ∷ drop i st) ∙ rw z)
 
-  -- closed up over the count of a record that is gone
+  -- closed up over the number of a record that is gone
   pub count-close : (q : Rec) → n ≤ length t → i < n → get numbered k st ≡ some q → take (n - 1) (closed t n i) ≡ byKey w (put numbered k none st)
   count-close q l m g =
       let p : put numbered k none st ≡ take i st ++ drop (i + 1) st = put-at numbered k none st ∙ rw (g, ← r) in
@@ -268,7 +268,7 @@ module _ (w : List ℕ → ℕ) (t k : List ℕ) (st : List Rec) (n i : ℕ) (e 
       ∙ ap₂ (λ y u. y ++ u) (front (omega arith)) (rest (i + 1))
       ∙ sym (ap (byKey w) p ∙ map-append (λ y. w (keyNumbers y)) (take i st) (drop (i + 1) st))
 
--- another record of the same key has the same count
+-- another record of the same key has the same number
 pub count-same : (w : List ℕ → ℕ) (x q : Rec) (st : List Rec) → get numbered (keyNumbers x) st ≡ some q → byKey w (put numbered (keyNumbers x) (some x) st) ≡ byKey w st
 unfolding put puts get gets
 count-same w x q [] g = absurd (some≢none (sym g))

@@ -36,7 +36,7 @@ module _ (st : List Rec) (n : ℕ) (t : List ℕ) (l : n ≡ length st) (a : Asc
 
   module _ (g : get numbered (keyNumbers x) st ≡ none) (c : n < length t) (d : i ≤ n) where
     room-told : take (n + 1) (opened t n i 0) ≡ byKey (tally st) new
-    room-told = count-open (tally st) t (keyNumbers x) st n i e r x c d g (tally-absent st (keyNumbers x) m g)
+    room-told = count-open (tally st) t (keyNumbers x) st n i e r x 0 c d g (tally-absent st (keyNumbers x) m g)
 
     room-length : n + 1 ≡ length new
     room-length = omega (arith, rw g at (length-put numbered (keyNumbers x) (some x) st))

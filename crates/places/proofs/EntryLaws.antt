@@ -78,7 +78,7 @@ pub ruleset recordkey = (needs, key-line)
 pub ruleset lineorder = (needs, order-line)
 
 -- the numbers of a key, one by one
-key-numbers : (k : Kind) (c : List ℕ) → keyNumbers (record { kind = k; content = c }) ≡ laidOut k .number ∷ (numberAt k c (getD (laidOut k .key) 0 0) ∷ restNumbers k c)
+pub key-numbers : (k : Kind) (c : List ℕ) → keyNumbers (record { kind = k; content = c }) ≡ laidOut k .number ∷ (numberAt k c (getD (laidOut k .key) 0 0) ∷ restNumbers k c)
 unfolding restNumbers
 key-numbers k c = sym (key-is k c (laidOut k) (numberAt k c (getD (laidOut k .key) 0 0)) (numberAt k c (getD (laidOut k .key) 1 0)) (numberAt k c (getD (laidOut k .key) 2 0)) refl refl refl refl)
 

@@ -3,6 +3,7 @@ pub mod HeadLaws
 pub mod NumberLaws
 pub mod SaysLaws
 pub mod EntryLaws
+pub mod TagLaws
 pub mod SearchLaws
 pub mod MoveLaws
 pub mod LineLaws

@@ -8,7 +8,7 @@ use native.Mathlib.Omega.{arith}
 use native.Mathlib.Numerals.{add-one}
 use borrow.Author.Needs.{needs}
 use borrow.Author.Tests.{not-true, not-false}
-use mir.Syntax.{w64}
+use mir.Syntax.{w16}
 use mir.Val.{Fits}
 use lib.Dec.{T}
 use lib.ListN.{length, getD, take, set}
@@ -60,7 +60,7 @@ pub ruleset clearing = (needs, clear-start, clear-turn, clear-done)
 
 module _ (up : Bool) (c : ℕ) (m : Movable up c) where
   -- one up can be written
-  pub up-fits : up ≡ true → Fits w64 (c + 1)
+  pub up-fits : up ≡ true → Fits w16 (c + 1)
   up-fits t = record { fits = omega (arith, subst (λ b. Movable b c) t m) }
 
   -- one down is not below 0

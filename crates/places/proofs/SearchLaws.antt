@@ -22,7 +22,9 @@ use Rattle.text.specs.declared.order.Order.{Order}
 use Rattle.text.specs.Order.{triOf}
 use Rattle.keys.specs.Numbers.{keyNumbers, numbered}
 use Rattle.places.specs.Places.{entry, says}
+use Rattle.places.specs.Tags.{tagOf, Tagged}
 use Rattle.places.proofs.SaysLaws.{length-says, says-at, says-split}
+use Rattle.places.proofs.TagLaws.{tagged-in, tagged-at}
 
 -- ---- the search
 
@@ -79,7 +81,16 @@ placing-in h f a n k low high g m = omega (arith, g .order, g .within)
 pub mid-in : (h f a : List ℕ) (n : ℕ) (k : List ℕ) (low high : ℕ) → Placing h f a n k low high → n ≤ length a → low < high → low + (high - low) / 2 < length a
 mid-in h f a n k low high g l y = omega (arith, g .within)
 
-pub ruleset placing = (needs, placing-start, placing-up, placing-down, placing-done, placing-in, mid-in)
+module _ (h f a t : List ℕ) (n : ℕ) (k : List ℕ) (low high : ℕ) (g : Placing h f a n k low high) (l : n ≤ length a) (u : Tagged h f a t n) (y : low < high) where
+  -- so is its tag
+  pub mid-tag-in : low + (high - low) / 2 < length t
+  mid-tag-in = tagged-in h f a t n u l (low + (high - low) / 2) (omega (arith, g .within))
+
+  -- which is that of its key
+  pub mid-tag : getD t (low + (high - low) / 2) 0 ≡ tagOf (keyNumbers (entry h f (getD a (low + (high - low) / 2) 0)))
+  mid-tag = tagged-at h f a t n u l (low + (high - low) / 2) (omega (arith, g .within))
+
+pub ruleset placing = (needs, placing-start, placing-up, placing-down, placing-done, placing-in, mid-in, mid-tag-in, mid-tag)
 
 -- ---- what stands at the place
 
@@ -128,4 +139,4 @@ module _ (h f a : List ℕ) (n i : ℕ) (k : List ℕ) (l : n ≤ length a) (r :
       go eq t = refl
       go gt t = absurd t
 
-pub ruleset standing = (needs, stands-past, stands-at)
+pub ruleset standing = (needs, stands-past, stands-at, tagged-in, tagged-at)

@@ -52,7 +52,7 @@ moved false m c = c - m
 
 -- a count can be moved by one
 abbrev pub Movable : Bool → ℕ → Type 0
-Movable true c = c < 9223372036854775808
+Movable true c = c < 65535
 Movable false c = 1 ≤ c
 
 -- the counts beside the records of st with one reference counted in or out, at the place of its key

@@ -16,6 +16,7 @@ ghost use Rattle.keys.specs.Numbers.{keyList, referredAs, refAt, numbered};
 ghost use Rattle.places.specs.Places.{recOf, lineAt, entry, says, metBy};
 ghost use Rattle.places.specs.Fields.{firstField, byField};
 ghost use Rattle.places.specs.References.{RefersAs};
+ghost use Rattle.places.specs.Tags.{Tagged};
 use crate::entries::key_at;
 use crate::fields::first_field;
 use crate::fields::line_start;
@@ -116,8 +117,8 @@ pub fn is_same_key(a: Key, b: Key) -> bool
 }
 
 // Whether one reference of the record whose key is `own` is met.
-fn is_met(h: &[u8], f: &[u8], a: &[u64], n: usize, own: Key, to: Referred) -> bool
-    requires { ⌜ (n ≤ length (now a)) × Asc numbered (says (now h) (now f) (now a) n) ⌝ }
+fn is_met(h: &[u8], f: &[u8], a: &[u64], tags: &[u64], n: usize, own: Key, to: Referred) -> bool
+    requires { ⌜ (n ≤ length (now a)) × Tagged (now h) (now f) (now a) (now tags) n × Asc numbered (says (now h) (now f) (now a) n) ⌝ }
     ensures { λ r. ⌜ r ≡ metBy (says (now (h .entry)) (now (f .entry)) (now (a .entry)) n) (keyList own) (referredAs to) ⌝ }
 {
     let Referred::To(key) = to else {
@@ -126,21 +127,21 @@ fn is_met(h: &[u8], f: &[u8], a: &[u64], n: usize, own: Key, to: Referred) -> bo
     if is_same_key(key, own) {
         return false;
     }
-    let i = place(h, f, a, n, key);
-    stands(h, f, a, n, i, key)
+    let i = place(h, f, a, tags, n, key);
+    stands(h, f, a, tags, n, i, key)
 }
 
 // Whether the references of an entry's record are met among the first n entries, which are those of sound records in key order.
-pub fn meets(h: &[u8], f: &[u8], a: &[u64], n: usize, v: u64) -> bool
-    requires { ⌜ (n ≤ length (now a)) × Asc keyed (says (now h) (now f) (now a) n) × T (all fine (says (now h) (now f) (now a) n)) × T (fine (entry (now h) (now f) v)) ⌝ }
+pub fn meets(h: &[u8], f: &[u8], a: &[u64], tags: &[u64], n: usize, v: u64) -> bool
+    requires { ⌜ (n ≤ length (now a)) × Tagged (now h) (now f) (now a) (now tags) n × Asc keyed (says (now h) (now f) (now a) n) × T (all fine (says (now h) (now f) (now a) n)) × T (fine (entry (now h) (now f) v)) ⌝ }
     ensures { λ r. ⌜ r ≡ meets keyed refsOf (says (now (h .entry)) (now (f .entry)) (now (a .entry)) n) (entry (now (h .entry)) (now (f .entry)) v) ⌝ }
 {
     let named = references(h, f, v);
     let own = named.own;
     let first = named.first;
     let second = named.second;
-    if !is_met(h, f, a, n, own, first) {
+    if !is_met(h, f, a, tags, n, own, first) {
         return false;
     }
-    is_met(h, f, a, n, own, second)
+    is_met(h, f, a, tags, n, own, second)
 }

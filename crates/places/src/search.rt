@@ -5,23 +5,45 @@ ghost use lib.ListN.{length};
 ghost use Rattle.base.specs.Lists.{some?};
 ghost use Rattle.theory.specs.Store.{get, Asc};
 ghost use Rattle.theory.specs.Place.{rank};
-ghost use Rattle.keys.specs.Numbers.{keyList, numbered};
-ghost use Rattle.places.specs.Places.{says};
+ghost use Rattle.theory.specs.Lex.{lex};
+ghost use Rattle.text.specs.Order.{triOf};
+ghost use Rattle.keys.specs.Numbers.{keyList, keyNumbers, numbered};
+ghost use Rattle.places.specs.Places.{entry, says};
+ghost use Rattle.places.specs.Tags.{tagOf, Tagged};
 use crate::entries::against;
+use crate::tags::tag;
 use keys::Key;
 use text::order::Order;
 
+// How k stands to the key of entry v: as their tags do, and only where both have a tag that is not of one key alone is the line read.
+fn by_tags(h: &[u8], f: &[u8], v: u64, its: u64, ours: u64, k: Key) -> Order
+    requires { ⌜ (its ≡ tagOf (keyNumbers (entry (now h) (now f) v))) × (ours ≡ tagOf (keyList k)) ⌝ }
+    ensures { λ r. ⌜ triOf r ≡ lex (keyList k) (keyNumbers (entry (now (h .entry)) (now (f .entry)) v)) ⌝ }
+{
+    if ours < its {
+        return Order::Before;
+    }
+    if its < ours {
+        return Order::After;
+    }
+    if ours % 2 == 0 {
+        return Order::Same;
+    }
+    against(h, f, v, k)
+}
+
 // Where k stands among the first n entries, or would stand: a search by halves.
-pub fn place(h: &[u8], f: &[u8], a: &[u64], n: usize, k: Key) -> usize
-    requires { ⌜ (n ≤ length (now a)) × Asc numbered (says (now h) (now f) (now a) n) ⌝ }
+pub fn place(h: &[u8], f: &[u8], a: &[u64], tags: &[u64], n: usize, k: Key) -> usize
+    requires { ⌜ (n ≤ length (now a)) × Tagged (now h) (now f) (now a) (now tags) n × Asc numbered (says (now h) (now f) (now a) n) ⌝ }
     ensures { λ r. ⌜ (r ≡ rank numbered (keyList k) (says (now (h .entry)) (now (f .entry)) (now (a .entry)) n)) × (r ≤ n) ⌝ }
 {
+    let ours = tag(k);
     let mut low = 0;
     let mut high = n;
     while low < high {
         let mid = low + (high - low) / 2;
         let next = mid + 1;
-        match against(h, f, a[mid], k) {
+        match by_tags(h, f, a[mid], tags[mid], ours, k) {
             Order::Before => high = mid,
             Order::Same => high = mid,
             Order::After => low = next,
@@ -31,14 +53,14 @@ pub fn place(h: &[u8], f: &[u8], a: &[u64], n: usize, k: Key) -> usize
 }
 
 // Whether k stands at its place i.
-pub fn stands(h: &[u8], f: &[u8], a: &[u64], n: usize, i: usize, k: Key) -> bool
-    requires { ⌜ (n ≤ length (now a)) × (i ≡ rank numbered (keyList k) (says (now h) (now f) (now a) n)) ⌝ }
+pub fn stands(h: &[u8], f: &[u8], a: &[u64], tags: &[u64], n: usize, i: usize, k: Key) -> bool
+    requires { ⌜ (n ≤ length (now a)) × Tagged (now h) (now f) (now a) (now tags) n × (i ≡ rank numbered (keyList k) (says (now h) (now f) (now a) n)) ⌝ }
     ensures { λ r. ⌜ r ≡ some? (get numbered (keyList k) (says (now (h .entry)) (now (f .entry)) (now (a .entry)) n)) ⌝ }
 {
     if n <= i {
         return false;
     }
-    match against(h, f, a[i], k) {
+    match by_tags(h, f, a[i], tags[i], tag(k), k) {
         Order::Before => false,
         Order::Same => true,
         Order::After => false,

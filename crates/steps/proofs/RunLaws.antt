@@ -35,6 +35,7 @@ use Rattle.text.proofs.LineLaws.{lines-at, lines-end}
 use Rattle.layout.specs.declared.kinds.Kind as code
 use Rattle.layout.specs.Meant.{kindMeant}
 use Rattle.places.specs.Counts.{Counted}
+use Rattle.places.specs.Tags.{Tagged}
 use Rattle.places.specs.Places.{known, recOf, lineAt, says}
 use Rattle.places.proofs.EntryLaws.{line-here}
 use Rattle.places.proofs.LineLaws.{role-known}
@@ -98,11 +99,12 @@ Backed h f a₀ s₀ a s cs steps before n =
     undo (after keyed) (back keyed) (says h f a (s .count)) cs ++ stepsBack h f steps before n ≡ undo (after keyed) (back keyed) (says h f a₀ (s₀ .count)) (changesOf (readFile f))
 
 -- what is left to run from `at` on, after n steps, ends as the whole run does
-pub record Going (h f a₀ : List ℕ) (room : ℕ) (s₀ : State) (a t steps before : List ℕ) (s : State) (at n : ℕ) : Type 0 where
+pub record Going (h f a₀ : List ℕ) (room : ℕ) (s₀ : State) (a o t steps before : List ℕ) (s : State) (at n : ℕ) : Type 0 where
   pub left : Theory.run keyed (stepTests room) (n + 2) (says h f a (s .count)) (bodyFrom (linesOf (drop at f))) ≡ Theory.run keyed (stepTests room) 2 (says h f a₀ (s₀ .count)) (changesOf (readFile f))
   pub backed : Backed h f a₀ s₀ a s (bodyFrom (linesOf (drop at f))) steps before n
   pub rest : linesOf (drop at f) ≡ drop (n + 1) (linesOf f)
   pub ready : Ready h f a room s
+  pub tagged : Tagged h f a o (s .count)
   pub tallied : Counted h f a t (s .count)
   pub fines : T (all fineC (bodyFrom (linesOf (drop at f))))
   pub few : n + length (bodyFrom (linesOf (drop at f))) ≤ mostBody
@@ -117,16 +119,17 @@ lines-after f at e q m =
     ap (λ z. linesOf (drop z f)) (sym i) ∙ sym (ap (drop 1) (lines-at f at m))
 
 -- the walk starts after the header
-pub go-start : (h f a c steps before : List ℕ) (room : ℕ) (s : State) (e : ℕ) → Ready h f a room s → Counted h f a c (s .count) → T (isFile (readFile f)) → 4096 ≤ length steps → 4096 ≤ length before → e ≡ lineEnd f 0 → e ≤ length f
-    → Going h f a room s a c steps before s (e + 2) 0
+pub go-start : (h f a o c steps before : List ℕ) (room : ℕ) (s : State) (e : ℕ) → Ready h f a room s → Tagged h f a o (s .count) → Counted h f a c (s .count) → T (isFile (readFile f)) → 4096 ≤ length steps → 4096 ≤ length before → e ≡ lineEnd f 0 → e ≤ length f
+    → Going h f a room s a o c steps before s (e + 2) 0
 unfolding stepsBack
-go-start h f a c steps before room s e y d t p k q m =
+go-start h f a o c steps before room s e y i d t p k q m =
     let b = body-of f t (readFile f) refl in
     record {
       left = ap (Theory.run keyed (stepTests room) 2 (says h f a (s .count))) (body ∙ b .0);
       backed = append-nil _ ∙ ap (undo (after keyed) (back keyed) (says h f a (s .count))) (body ∙ b .0);
       rest = lines-after f 0 e q full;
       ready = y;
+      tagged = i;
       tallied = d;
       fines = subst (λ cs. T (all fineC cs)) (sym (body ∙ b .0)) (b .1);
       few = omega (arith, ap length (body ∙ b .0), b .3);
@@ -142,7 +145,7 @@ go-start h f a c steps before room s e y d t p k q m =
     body = ap bodyFrom (lines-after f 0 e q full)
 
 -- ---- each way out
-module _ (h f a₀ : List ℕ) (room : ℕ) (s₀ : State) (a t steps before : List ℕ) (s : State) (at n : ℕ) (g : Going h f a₀ room s₀ a t steps before s at n) where
+module _ (h f a₀ : List ℕ) (room : ℕ) (s₀ : State) (a o t steps before : List ℕ) (s : State) (at n : ℕ) (g : Going h f a₀ room s₀ a o t steps before s at n) where
   ended : bodyFrom (linesOf (drop at f)) ≡ [] → Runs h f a₀ a steps before room s₀ (record { code = 0; line = 0; state = s; steps = n; end = at })
   ended e = record {
     ended = run-nil ∙ ap (Theory.run keyed (stepTests room) (n + 2) (says h f a (s .count))) (sym e) ∙ g .left;
@@ -192,7 +195,7 @@ module _ (h f a₀ : List ℕ) (room : ℕ) (s₀ : State) (a t steps before : L
       pub go-before : n < length before
       go-before = omega (arith, few-here, g .beforeSpace)
 
-      module _ (b′ t′ : List ℕ) (r : Stepped) (w : Steps h f a b′ t′ room (changeAt f at) s r) where
+      module _ (b′ o′ t′ : List ℕ) (r : Stepped) (w : Steps h f a b′ o′ t′ room (changeAt f at) s r) where
         run-here : on (judge keyed (stepTests room) (says h f a (s .count)) (changeAt f at)) (n + 2)
             (Theory.run keyed (stepTests room) (suc (n + 2)) (after keyed (says h f a (s .count)) (changeAt f at)) (bodyFrom (linesOf (drop (at + (lineLen (drop at f) + 2)) f))))
             ≡ Theory.run keyed (stepTests room) 2 (says h f a₀ (s₀ .count)) (changesOf (readFile f))
@@ -212,7 +215,7 @@ module _ (h f a₀ : List ℕ) (room : ℕ) (s₀ : State) (a t steps before : L
             halt (some c) e y = unfold on in ap (stop (n + 2)) (sym e)
 
         -- one that is made leaves the lines after it, and what takes it back
-        pub go-turn : (e : ℕ) → r .code ≡ 0 → e ≡ lineEnd f at → e ≤ length f → Going h f a₀ room s₀ b′ t′ (set steps n (2 * at + 1)) (set before n (r .before)) (r .state) (e + 2) (n + 1)
+        pub go-turn : (e : ℕ) → r .code ≡ 0 → e ≡ lineEnd f at → e ≤ length f → Going h f a₀ room s₀ b′ o′ t′ (set steps n (2 * at + 1)) (set before n (r .before)) (r .state) (e + 2) (n + 1)
         unfolding on back
         go-turn e z q m′ =
             let x = w .left z in
@@ -224,6 +227,7 @@ module _ (h f a₀ : List ℕ) (room : ℕ) (s₀ : State) (a t steps before : L
               backed = rw (x .said, ← i) (back-turn h f steps before n at (r .before) (says h f a (s .count)) (bodyFrom (linesOf (drop (at + (lineLen (drop at f) + 2)) f))) _ go-steps go-before (x .stood) (subst (λ cs. Backed h f a₀ s₀ a s cs steps before n) body-here (g .backed)));
               rest = lines-after f at e q m ∙ ap (drop 1) (g .rest) ∙ drop-drop 1 (n + 1) (linesOf f);
               ready = x .ready;
+              tagged = x .tagged;
               tallied = x .tallied;
               fines = rw (← i) (and-r (fineC (changeAt f at)) _ fines-here);
               few = rw (← i) (omega (arith, few-here));

@@ -35,10 +35,11 @@ use Rattle.layout.specs.declared.kinds.Kind.the-variants.{Header, Street, Stree
 use Rattle.layout.specs.Meant.{kindMeant}
 use Rattle.places.specs.Places.{recOf, lineAt, entry, says, opened, closed}
 use Rattle.places.specs.Counts.{tally, byKey, Counted, notedAll, Open, Notes}
+use Rattle.places.specs.Tags.{tagOf, Tagged}
 use Rattle.places.proofs.SaysLaws.{entry-odd, put-says, set-says, close-says}
 use Rattle.places.proofs.SearchLaws.{stands-in}
 use Rattle.places.proofs.ReferenceLaws.{asc-told}
-use Rattle.places.proofs.CountLaws.{length-noted}
+use Rattle.places.proofs.CountLaws.{length-noted, count-open, count-close, count-same}
 use Rattle.places.proofs.CountedLaws.{insert-open, insert-told, old-open, old-met, update-open, update-told, delete-told}
 use Rattle.volume.specs.declared.lines.Change as code-change
 use Rattle.volume.specs.declared.lines.Line.{Line}
@@ -112,8 +113,8 @@ length-closed a n i l m =
 
 module _ (h f a : List ℕ) (room v : ℕ) (s : State) (y : Ready h f a room s) (g : T (fine (entry h f v))) (j : Judged) where
   -- a step that is refused leaves everything as it was
-  pub step-refused : (t : List ℕ) (p : Op) → Judges h f a room (change p (entry h f v)) s j → (j .code ≡ 0 → ⊥) → Steps h f a a t room (change p (entry h f v)) s (record { code = j .code; state = s; before = v })
-  step-refused t p q n = record { coded = q .coded; left = λ z. absurd (n z) }
+  pub step-refused : (o t : List ℕ) (p : Op) → Judges h f a room (change p (entry h f v)) s j → (j .code ≡ 0 → ⊥) → Steps h f a a o t room (change p (entry h f v)) s (record { code = j .code; state = s; before = v })
+  step-refused o t p q n = record { coded = q .coded; left = λ z. absurd (n z) }
 
   module _ (p : Op) (q : Judges h f a room (change p (entry h f v)) s j) (z : j .code ≡ 0) where
     passed : T (allowed p (get keyed (keyOf (entry h f v)) (says h f a (s .count)))) × T (passes (stepTests room) (after keyed (says h f a (s .count)) (change p (entry h f v))))
@@ -153,10 +154,10 @@ module _ (h f a : List ℕ) (room v : ℕ) (s : State) (y : Ready h f a room s) 
       fileShort = y .fileShort;
     }
 
-    stepped : (b t : List ℕ) (m u : ℕ) → says h f b m ≡ after keyed (says h f a (s .count)) (change p (entry h f v)) → m ≡ length (after keyed (says h f a (s .count)) (change p (entry h f v))) → length b ≡ length a
-        → take m t ≡ byKey (tally (says h f b m)) (says h f b m) → 8192 ≤ length t → entry h f u ≡ Option·getD (get keyed (keyOf (entry h f v)) (says h f a (s .count))) (entry h f v)
-        → Steps h f a b t room (change p (entry h f v)) s (record { code = 0; state = record { count = m; size = j .size }; before = u })
-    stepped b t m u e n l c d w = record { coded = sym z ∙ q .coded; left = λ x. record { said = e; ready = ready-next b m e n l; tallied = record { space = d; told = c }; stood = w } }
+    stepped : (b o t : List ℕ) (m u : ℕ) → says h f b m ≡ after keyed (says h f a (s .count)) (change p (entry h f v)) → m ≡ length (after keyed (says h f a (s .count)) (change p (entry h f v))) → length b ≡ length a
+        → Tagged h f b o m → take m t ≡ byKey (tally (says h f b m)) (says h f b m) → 8192 ≤ length t → entry h f u ≡ Option·getD (get keyed (keyOf (entry h f v)) (says h f a (s .count))) (entry h f v)
+        → Steps h f a b o t room (change p (entry h f v)) s (record { code = 0; state = record { count = m; size = j .size }; before = u })
+    stepped b o t m u e n l i c d w = record { coded = sym z ∙ q .coded; left = λ x. record { said = e; ready = ready-next b m e n l; tagged = i; tallied = record { space = d; told = c }; stood = w } }
 
     meets-after : T (all (meets numbered refNumbers (after keyed (says h f a (s .count)) (change p (entry h f v)))) (after keyed (says h f a (s .count)) (change p (entry h f v))))
     meets-after = met-told (after keyed (says h f a (s .count)) (change p (entry h f v))) fines-after met-after
@@ -227,26 +228,40 @@ module _ (h f a : List ℕ) (room v : ℕ) (s : State) (y : Ready h f a room s) 
         put-says h f a (keyNumbers (entry h f v)) (s .count) (j .place) (q .placed) v ins-in (q .within) (get-both (says h f a (s .count)) (entry h f v) (y .fines) g ∙ ins-none)
         ∙ put-both ins q z (some (entry h f v))
 
-    module _ (t : List ℕ) (k : Counted h f a t (s .count)) where
-      -- there is room for one count more
-      pub ins-counts : s .count < length t
-      unfolding few
-      ins-counts = omega (arith, ins-count, k .space, leb→le (length (after keyed st (change ins x))) most (few-after ins q z))
+    ins-space : (o : List ℕ) → 8192 ≤ length o → s .count < length o
+    unfolding few
+    ins-space o l = omega (arith, ins-count, leb→le (length (after keyed st (change ins x))) most (few-after ins q z))
 
+    -- there is room for one tag more
+    pub ins-tags : (o : List ℕ) → Tagged h f a o (s .count) → s .count < length o
+    ins-tags o l = ins-space o (l .space)
+
+    -- and for one count
+    pub ins-counts : (t : List ℕ) → Counted h f a t (s .count) → s .count < length t
+    ins-counts t k = ins-space t (k .space)
+
+    module _ (t : List ℕ) (k : Counted h f a t (s .count)) (o : List ℕ) (l : Tagged h f a o (s .count)) where
       ins-get : get numbered (keyNumbers x) st ≡ none
       ins-get = get-both st x (y .fines) g ∙ ins-none
 
-      module _ (b : List ℕ) (e : b ≡ opened a (s .count) (j .place) v) (u : List ℕ) (w : u ≡ opened t (s .count) (j .place) 0) where
+      module _ (b : List ℕ) (e : b ≡ opened a (s .count) (j .place) v) (i : ℕ) (m : i ≡ tagOf (keyNumbers x)) (c : List ℕ) (n : c ≡ opened o (s .count) (j .place) i) (u : List ℕ) (w : u ≡ opened t (s .count) (j .place) 0) where
         ins-put : says h f b (s .count + 1) ≡ put numbered (keyNumbers x) (some x) st
         ins-put = ap (λ l. says h f l (s .count + 1)) e ∙ put-says h f a (keyNumbers x) (s .count) (j .place) (q .placed) v ins-in (q .within) ins-get
 
+        ins-tagged : Tagged h f b c (s .count + 1)
+        ins-tagged = record {
+          space = omega (arith, ap length n, length-opened o (s .count) (j .place) i (q .within) (ins-tags o l), l .space);
+          told = ap (take (s .count + 1)) n ∙ count-open tagOf o (keyNumbers x) st (s .count) (j .place) (l .told) (q .placed) x i (ins-tags o l) (q .within) ins-get (sym m) ∙ ap (byKey tagOf) (sym ins-put);
+        }
+
         -- its references can be counted in
-        pub ins-asked : (s .count + 1 ≤ length b) × (s .count + 1 ≤ length u) × Asc numbered (says h f b (s .count + 1)) × Open true (says h f b (s .count + 1)) u (refNumbers x)
+        pub ins-asked : (s .count + 1 ≤ length b) × (s .count + 1 ≤ length u) × Asc numbered (says h f b (s .count + 1)) × Open true (says h f b (s .count + 1)) u (refNumbers x) × Tagged h f b c (s .count + 1)
         ins-asked = (
           omega (arith, ap length e, length-opened a (s .count) (j .place) v (q .within) ins-in, ins-in),
-          omega (arith, ap length w, length-opened t (s .count) (j .place) 0 (q .within) ins-counts, ins-counts),
+          omega (arith, ap length w, length-opened t (s .count) (j .place) 0 (q .within) (ins-counts t k), ins-counts t k),
           new-asc b (s .count + 1) ins-put,
-          rw (ins-put, w) (insert-open st (s .count) t (y .counted) asc-now met-now (ready-few h f a room s y) (k .told) x (j .place) (q .placed) ins-get ins-counts (q .within)),
+          rw (ins-put, w) (insert-open st (s .count) t (y .counted) asc-now met-now (ready-few h f a room s y) (k .told) x (j .place) (q .placed) ins-get (ins-counts t k) (q .within)),
+          ins-tagged,
         )
 
         ins-meets : T (meets numbered refNumbers (put numbered (keyNumbers x) (some x) st) x)
@@ -254,12 +269,13 @@ module _ (h f a : List ℕ) (room v : ℕ) (s : State) (y : Ready h f a room s) 
         ins-meets = rw (put-both ins q z (some x)) (put-all? keyed (meets numbered refNumbers (put keyed (keyOf x) (some x) st)) (keyOf x) (some x) st (meets-after ins q z))
 
         -- an entry more at its place, and its references counted in
-        pub ins-step : (d : List ℕ) (o : Bool) → Notes true (says h f b (s .count + 1)) x u d o → Steps h f a b d room (change ins x) s (record { code = 0; state = record { count = s .count + 1; size = j .size }; before = v })
+        pub ins-step : (d : List ℕ) (o : Bool) → Notes true (says h f b (s .count + 1)) x u d o → Steps h f a b c d room (change ins x) s (record { code = 0; state = record { count = s .count + 1; size = j .size }; before = v })
         ins-step d o r =
-            let c : d ≡ notedAll true (put numbered (keyNumbers x) (some x) st) (opened t (s .count) (j .place) 0) (refNumbers x) = r .noted (r .met ∙ T-true _ (subst (λ l. T (meets numbered refNumbers l x)) (sym ins-put) ins-meets)) ∙ rw (ins-put, w) in
-            stepped ins q z b d (s .count + 1) v (ap (λ l. says h f l (s .count + 1)) e ∙ ins-says) (sym ins-count) (ap length e ∙ length-opened a (s .count) (j .place) v (q .within) ins-in)
-            (said-told b d (s .count + 1) (put numbered (keyNumbers x) (some x) st) ins-put (ap (take (s .count + 1)) c ∙ insert-told st (s .count) t (y .counted) asc-now met-now (ready-few h f a room s y) (k .told) x (j .place) (q .placed) ins-get ins-counts (q .within) ins-meets))
-            (omega (arith, ap length c, length-noted true (put numbered (keyNumbers x) (some x) st) (refNumbers x) (opened t (s .count) (j .place) 0), length-opened t (s .count) (j .place) 0 (q .within) ins-counts, k .space))
+            let p : d ≡ notedAll true (put numbered (keyNumbers x) (some x) st) (opened t (s .count) (j .place) 0) (refNumbers x) = r .noted (r .met ∙ T-true _ (subst (λ l. T (meets numbered refNumbers l x)) (sym ins-put) ins-meets)) ∙ rw (ins-put, w) in
+            stepped ins q z b c d (s .count + 1) v (ap (λ l. says h f l (s .count + 1)) e ∙ ins-says) (sym ins-count) (ap length e ∙ length-opened a (s .count) (j .place) v (q .within) ins-in)
+            ins-tagged
+            (said-told b d (s .count + 1) (put numbered (keyNumbers x) (some x) st) ins-put (ap (take (s .count + 1)) p ∙ insert-told st (s .count) t (y .counted) asc-now met-now (ready-few h f a room s y) (k .told) x (j .place) (q .placed) ins-get (ins-counts t k) (q .within) ins-meets))
+            (omega (arith, ap length p, length-noted true (put numbered (keyNumbers x) (some x) st) (refNumbers x) (opened t (s .count) (j .place) 0), length-opened t (s .count) (j .place) 0 (q .within) (ins-counts t k), k .space))
             (rw ins-none)
 
   -- ---- update
@@ -279,7 +295,7 @@ module _ (h f a : List ℕ) (room v : ℕ) (s : State) (y : Ready h f a room s) 
         set-says h f a (keyNumbers (entry h f v)) (s .count) (j .place) (q .placed) (entry h f (getD a (j .place) 0)) (ready-in h f a room s y) (found-in upd q z (passed upd q z .0)) (found upd q z (passed upd q z .0)) v
         ∙ put-both upd q z (some (entry h f v))
 
-    module _ (t : List ℕ) (k : Counted h f a t (s .count)) where
+    module _ (t : List ℕ) (k : Counted h f a t (s .count)) (o : List ℕ) (l : Tagged h f a o (s .count)) where
       abbrev old : Rec
       old = entry h f (getD a (j .place) 0)
 
@@ -287,15 +303,16 @@ module _ (h f a : List ℕ) (room v : ℕ) (s : State) (y : Ready h f a room s) 
       upd-get = found upd q z (passed upd q z .0)
 
       -- the references of the record that stood there can be counted out
-      pub upd-asked : (s .count ≤ length a) × (s .count ≤ length t) × Asc numbered st × Open false st t (refNumbers old)
+      pub upd-asked : (s .count ≤ length a) × (s .count ≤ length t) × Asc numbered st × Open false st t (refNumbers old) × Tagged h f a o (s .count)
       upd-asked = (
         ready-in h f a room s y,
         omega (arith, ready-few h f a room s y, k .space),
         asc-now,
         old-open st (s .count) t (y .counted) asc-now met-now (ready-few h f a room s y) (k .told) x (j .place) (q .placed) old upd-get,
+        l,
       )
 
-      module _ (u : List ℕ) (o : Bool) (r : Notes false st old t u o) where
+      module _ (u : List ℕ) (i : Bool) (r : Notes false st old t u i) where
         upd-out : u ≡ notedAll false st t (refNumbers old)
         upd-out = r .noted (r .met ∙ T-true _ (old-met st (s .count) t (y .counted) asc-now met-now (ready-few h f a room s y) (k .told) x (j .place) (q .placed) old upd-get))
 
@@ -305,13 +322,17 @@ module _ (h f a : List ℕ) (room v : ℕ) (s : State) (y : Ready h f a room s) 
         upd-put : says h f (set a (j .place) v) (s .count) ≡ put numbered (keyNumbers x) (some x) st
         upd-put = set-says h f a (keyNumbers x) (s .count) (j .place) (q .placed) old (ready-in h f a room s y) (found-in upd q z (passed upd q z .0)) upd-get v
 
+        upd-tagged : Tagged h f (set a (j .place) v) o (s .count)
+        upd-tagged = record { space = l .space; told = l .told ∙ sym (ap (byKey tagOf) upd-put ∙ count-same tagOf x old st upd-get) }
+
         -- then those of the new one in
-        pub upd-asked-new : (s .count ≤ length (set a (j .place) v)) × (s .count ≤ length u) × Asc numbered (says h f (set a (j .place) v) (s .count)) × Open true (says h f (set a (j .place) v) (s .count)) u (refNumbers x)
+        pub upd-asked-new : (s .count ≤ length (set a (j .place) v)) × (s .count ≤ length u) × Asc numbered (says h f (set a (j .place) v) (s .count)) × Open true (says h f (set a (j .place) v) (s .count)) u (refNumbers x) × Tagged h f (set a (j .place) v) o (s .count)
         upd-asked-new = (
           omega (arith, length-set a (j .place) v, ready-in h f a room s y),
           omega (arith, upd-long, ready-few h f a room s y, k .space),
           new-asc (set a (j .place) v) (s .count) upd-put,
           rw (upd-put, upd-out) (update-open st (s .count) t (y .counted) asc-now met-now (ready-few h f a room s y) (k .told) x (j .place) (q .placed) old upd-get),
+          upd-tagged,
         )
 
         upd-meets : T (meets numbered refNumbers (put numbered (keyNumbers x) (some x) st) x)
@@ -320,10 +341,11 @@ module _ (h f a : List ℕ) (room v : ℕ) (s : State) (y : Ready h f a room s) 
 
         -- another entry at its place, the old references counted out and the new ones in
         pub upd-step : (d : List ℕ) (p : Bool) → Notes true (says h f (set a (j .place) v) (s .count)) x u d p
-            → Steps h f a (set a (j .place) v) d room (change upd x) s (record { code = 0; state = record { count = s .count; size = j .size }; before = getD a (j .place) 0 })
+            → Steps h f a (set a (j .place) v) o d room (change upd x) s (record { code = 0; state = record { count = s .count; size = j .size }; before = getD a (j .place) 0 })
         upd-step d p w =
             let c : d ≡ notedAll true (put numbered (keyNumbers x) (some x) st) (notedAll false st t (refNumbers old)) (refNumbers x) = w .noted (w .met ∙ T-true _ (subst (λ l. T (meets numbered refNumbers l x)) (sym upd-put) upd-meets)) ∙ rw (upd-put, upd-out) in
-            stepped upd q z (set a (j .place) v) d (s .count) (getD a (j .place) 0) upd-says (sym upd-count) (length-set a (j .place) v)
+            stepped upd q z (set a (j .place) v) o d (s .count) (getD a (j .place) 0) upd-says (sym upd-count) (length-set a (j .place) v)
+            upd-tagged
             (said-told (set a (j .place) v) d (s .count) (put numbered (keyNumbers x) (some x) st) upd-put (ap (take (s .count)) c ∙ update-told st (s .count) t (y .counted) asc-now met-now (ready-few h f a room s y) (k .told) x (j .place) (q .placed) old upd-get upd-meets))
             (omega (arith, ap length c, length-noted true (put numbered (keyNumbers x) (some x) st) (refNumbers x) (notedAll false st t (refNumbers old)), length-noted false st (refNumbers old) t, k .space))
             (rw (found-key upd q z (passed upd q z .0)))
@@ -357,7 +379,7 @@ module _ (h f a : List ℕ) (room v : ℕ) (s : State) (y : Ready h f a room s) 
         close-says h f a (keyNumbers (entry h f v)) (s .count) (j .place) (q .placed) (entry h f (getD a (j .place) 0)) (ready-in h f a room s y) del-place (found del q z (passed del q z .0))
         ∙ put-both del q z none
 
-    module _ (t : List ℕ) (k : Counted h f a t (s .count)) where
+    module _ (t : List ℕ) (k : Counted h f a t (s .count)) (o : List ℕ) (l : Tagged h f a o (s .count)) where
       abbrev gone : Rec
       gone = entry h f (getD a (j .place) 0)
 
@@ -365,15 +387,20 @@ module _ (h f a : List ℕ) (room v : ℕ) (s : State) (y : Ready h f a room s) 
       del-get = found del q z (passed del q z .0)
 
       -- the references of the record that goes can be counted out
-      pub del-asked : (s .count ≤ length a) × (s .count ≤ length t) × Asc numbered st × Open false st t (refNumbers gone)
+      pub del-asked : (s .count ≤ length a) × (s .count ≤ length t) × Asc numbered st × Open false st t (refNumbers gone) × Tagged h f a o (s .count)
       del-asked = (
         ready-in h f a room s y,
         omega (arith, ready-few h f a room s y, k .space),
         asc-now,
         old-open st (s .count) t (y .counted) asc-now met-now (ready-few h f a room s y) (k .told) x (j .place) (q .placed) gone del-get,
+        l,
       )
 
-      module _ (u : List ℕ) (o : Bool) (r : Notes false st gone t u o) where
+      -- the tags are as many as before
+      pub del-tags : s .count ≤ length o
+      del-tags = omega (arith, ready-few h f a room s y, l .space)
+
+      module _ (u : List ℕ) (i : Bool) (r : Notes false st gone t u i) where
         del-out : u ≡ notedAll false st t (refNumbers gone)
         del-out = r .noted (r .met ∙ T-true _ (old-met st (s .count) t (y .counted) asc-now met-now (ready-few h f a room s y) (k .told) x (j .place) (q .placed) gone del-get))
 
@@ -384,23 +411,27 @@ module _ (h f a : List ℕ) (room v : ℕ) (s : State) (y : Ready h f a room s) 
         del-put : says h f (closed a (s .count) (j .place)) (s .count - 1) ≡ put numbered (keyNumbers x) none st
         del-put = close-says h f a (keyNumbers x) (s .count) (j .place) (q .placed) gone (ready-in h f a room s y) del-place del-get
 
-        -- closed up over its place, and over its count
-        pub del-step : (b d : List ℕ) → b ≡ closed a (s .count) (j .place) → d ≡ closed u (s .count) (j .place)
-            → Steps h f a b d room (change del x) s (record { code = 0; state = record { count = s .count - 1; size = j .size }; before = getD a (j .place) 0 })
-        del-step b d e w =
+        -- closed up over its place, its tag and its count
+        pub del-step : (b m d : List ℕ) → b ≡ closed a (s .count) (j .place) → m ≡ closed o (s .count) (j .place) → d ≡ closed u (s .count) (j .place)
+            → Steps h f a b m d room (change del x) s (record { code = 0; state = record { count = s .count - 1; size = j .size }; before = getD a (j .place) 0 })
+        del-step b m d e i w =
             let c : d ≡ closed (notedAll false st t (refNumbers gone)) (s .count) (j .place) = w ∙ ap (λ l. closed l (s .count) (j .place)) del-out in
             let p : says h f b (s .count - 1) ≡ put numbered (keyNumbers x) none st = ap (λ l. says h f l (s .count - 1)) e ∙ del-put in
             let n : s .count ≤ length (notedAll false st t (refNumbers gone)) = omega (arith, del-counts, ap length del-out) in
-            stepped del q z b d (s .count - 1) (getD a (j .place) 0) (ap (λ l. says h f l (s .count - 1)) e ∙ del-says) (omega (arith, del-count)) (ap length e ∙ length-closed a (s .count) (j .place) del-place (ready-in h f a room s y))
+            stepped del q z b m d (s .count - 1) (getD a (j .place) 0) (ap (λ l. says h f l (s .count - 1)) e ∙ del-says) (omega (arith, del-count)) (ap length e ∙ length-closed a (s .count) (j .place) del-place (ready-in h f a room s y))
+            (record {
+              space = omega (arith, ap length i, length-closed o (s .count) (j .place) del-place del-tags, l .space);
+              told = ap (take (s .count - 1)) i ∙ count-close tagOf o (keyNumbers x) st (s .count) (j .place) (l .told) (q .placed) gone del-tags del-place del-get ∙ ap (byKey tagOf) (sym p);
+            })
             (said-told b d (s .count - 1) (put numbered (keyNumbers x) none st) p (ap (take (s .count - 1)) c ∙ delete-told st (s .count) t (y .counted) asc-now met-now (ready-few h f a room s y) (k .told) x (j .place) (q .placed) gone del-get n del-place))
             (omega (arith, ap length w, length-closed u (s .count) (j .place) del-place del-counts, ap length del-out, length-noted false st (refNumbers gone) t, k .space))
             (rw (found-key del q z (passed del q z .0)))
 
-pub ruleset inserted = (needs, step-refused, ins-in, ins-place, ins-fits, ins-counts, ins-step)
+pub ruleset inserted = (needs, step-refused, ins-in, ins-place, ins-fits, ins-tags, ins-counts, ins-step)
 
 pub ruleset updated = (needs, step-refused, upd-in, upd-step)
 
-pub ruleset deleted = (needs, step-refused, del-place, del-in, del-all, del-one, del-counts, del-step)
+pub ruleset deleted = (needs, step-refused, del-place, del-in, del-all, del-one, del-tags, del-counts, del-step)
 
 -- ---- by change, and by kind
 
@@ -447,13 +478,13 @@ module _ (h f : List ℕ) (at : ℕ) (l : Line) (q : Carries f at l) where
   pub odd-fits : (a : List ℕ) (room : ℕ) (s : State) → Ready h f a room s → Fits w64 (2 * at + 1)
   odd-fits a room s y = record { fits = omega (arith, q .inside, y .fileShort) }
 
-  module _ (a b t : List ℕ) (room : ℕ) (s : State) (r : Stepped) where
+  module _ (a b o t : List ℕ) (room : ℕ) (s : State) (r : Stepped) where
     -- a kind that is not held carries no sound record
-    pub step-unheld : (k : code.Kind) → l .kind ≡ k → unheld k ≡ true → Steps h f a b t room (changeAt f at) s r
+    pub step-unheld : (k : code.Kind) → l .kind ≡ k → unheld k ≡ true → Steps h f a b o t room (changeAt f at) s r
     step-unheld k e t = absurd (subst T (ap (λ z. isHeld (role z)) (sym (q .kinded)) ∙ ap (λ z. isHeld (role (kindMeant z))) e ∙ held-is k ∙ ap not t) (fine-held (recOf (lineAt f at)) (q .sound)))
 
     -- the line's change is made
-    pub step-made : (k : code-change.Change) → l .change ≡ k → Steps h f a b t room (change (changeMeant k) (entry h f (2 * at + 1))) s r → Steps h f a b t room (changeAt f at) s r
-    step-made k e u = subst (λ c. Steps h f a b t room c s r) (ap₂ change (ap changeMeant (sym e) ∙ q .changed) filed) u
+    pub step-made : (k : code-change.Change) → l .change ≡ k → Steps h f a b o t room (change (changeMeant k) (entry h f (2 * at + 1))) s r → Steps h f a b o t room (changeAt f at) s r
+    step-made k e u = subst (λ c. Steps h f a b o t room c s r) (ap₂ change (ap changeMeant (sym e) ∙ q .changed) filed) u
 
 pub ruleset stepping = (needs, line-fine, twice-fits, odd-fits, step-unheld, step-made)

@@ -18,6 +18,7 @@ use Rattle.laws.specs.HoldingReadBack.{always}
 use Rattle.keys.specs.Numbers.{keyNumbers, numbered}
 use Rattle.places.specs.Places.{recOf, lineAt, entry, says}
 use Rattle.places.specs.Counts.{Counted}
+use Rattle.places.specs.Tags.{Tagged}
 use Rattle.layout.specs.Meant.{kindMeant}
 use Rattle.volume.specs.Meant.{changeMeant}
 use Rattle.volume.specs.declared.lines.Line.{Line}
@@ -65,17 +66,18 @@ pub record Judges (h f a : List ℕ) (room : ℕ) (c : Change Rec) (s : State) (
   pub within : r .place ≤ s .count
   pub sized : r .code ≡ 0 → r .size ≡ length (written (after keyed (says h f a (s .count)) c))
 
--- the array says the state after the change, ready for the next and counted, and the entry before is of the record that stood at the key, or of the change's own
-pub record Leaves (h f a b t : List ℕ) (room : ℕ) (c : Change Rec) (s : State) (r : Stepped) : Type 0 where
+-- the array says the state after the change, ready for the next, tagged and counted, and the entry before is of the record that stood at the key, or of the change's own
+pub record Leaves (h f a b g t : List ℕ) (room : ℕ) (c : Change Rec) (s : State) (r : Stepped) : Type 0 where
   pub said : says h f b (r .state .count) ≡ after keyed (says h f a (s .count)) c
   pub ready : Ready h f b room (r .state)
+  pub tagged : Tagged h f b g (r .state .count)
   pub tallied : Counted h f b t (r .state .count)
   pub stood : entry h f (r .before) ≡ Option·getD (get keyed (keyOf (c .rec)) (says h f a (s .count))) (c .rec)
 
 -- a step: its code, and where that is 0 what it leaves
-pub record Steps (h f a b t : List ℕ) (room : ℕ) (c : Change Rec) (s : State) (r : Stepped) : Type 0 where
+pub record Steps (h f a b g t : List ℕ) (room : ℕ) (c : Change Rec) (s : State) (r : Stepped) : Type 0 where
   pub coded : r .code ≡ codeNumber (judge keyed (stepTests room) (says h f a (s .count)) c)
-  pub left : r .code ≡ 0 → Leaves h f a b t room c s r
+  pub left : r .code ≡ 0 → Leaves h f a b g t room c s r
 
 -- the line at `at` carries a sound record, and its kind and change are those that were read
 pub record Carries (f : List ℕ) (at : ℕ) (l : Line) : Type 0 where

@@ -11,6 +11,7 @@ ghost use Rattle.meaning.specs.Records.{keyed};
 ghost use Rattle.laws.specs.Body.{fine};
 ghost use Rattle.places.specs.Places.{entry, says};
 ghost use Rattle.places.specs.Counts.{Counted};
+ghost use Rattle.places.specs.Tags.{Tagged};
 ghost use Rattle.steps.specs.Ready.{Ready, change, Finds, Judges};
 use crate::lengths::entry_length;
 use layout::limits::Holding;
@@ -50,13 +51,13 @@ fn verdict(code: u64, place: usize, size: usize) -> Judged
 }
 
 // Looks up the key of an entry's record among the first n entries.
-pub fn find(h: &[u8], f: &[u8], a: &[u64], n: usize, v: u64) -> Found
-    requires { ⌜ (n ≤ length (now a)) × Asc keyed (says (now h) (now f) (now a) n) × T (all fine (says (now h) (now f) (now a) n)) × T (fine (entry (now h) (now f) v)) ⌝ }
+pub fn find(h: &[u8], f: &[u8], a: &[u64], tags: &[u64], n: usize, v: u64) -> Found
+    requires { ⌜ (n ≤ length (now a)) × Asc keyed (says (now h) (now f) (now a) n) × T (all fine (says (now h) (now f) (now a) n)) × T (fine (entry (now h) (now f) v)) × Tagged (now h) (now f) (now a) (now tags) n ⌝ }
     ensures { λ r. ⌜ Finds (now (h .entry)) (now (f .entry)) (now (a .entry)) n v r ⌝ }
 {
     let key = entry_key(h, f, v);
-    let i = place(h, f, a, n, key);
-    let there = stands(h, f, a, n, i, key);
+    let i = place(h, f, a, tags, n, key);
+    let there = stands(h, f, a, tags, n, i, key);
     Found {
         place: i,
         stands: there,
@@ -64,13 +65,21 @@ pub fn find(h: &[u8], f: &[u8], a: &[u64], n: usize, v: u64) -> Found
 }
 
 // An insert of an entry's record.
-pub fn judge_insert(h: &[u8], f: &[u8], a: &[u64], v: u64, s: State, room: usize) -> Judged
-    requires { ⌜ Ready (now h) (now f) (now a) room s × T (fine (entry (now h) (now f) v)) ⌝ }
+pub fn judge_insert(
+    h: &[u8],
+    f: &[u8],
+    a: &[u64],
+    tags: &[u64],
+    v: u64,
+    s: State,
+    room: usize,
+) -> Judged
+    requires { ⌜ Ready (now h) (now f) (now a) room s × T (fine (entry (now h) (now f) v)) × Tagged (now h) (now f) (now a) (now tags) (s .count) ⌝ }
     ensures { λ r. ⌜ Judges (now (h .entry)) (now (f .entry)) (now (a .entry)) room (change ins (entry (now (h .entry)) (now (f .entry)) v)) s r ⌝ }
 {
     let count = s.count;
     let size = s.size;
-    let found = find(h, f, a, count, v);
+    let found = find(h, f, a, tags, count, v);
     let i = found.place;
     let there = found.stands;
     if there {
@@ -79,7 +88,7 @@ pub fn judge_insert(h: &[u8], f: &[u8], a: &[u64], v: u64, s: State, room: usize
     if Holding::MOST_LINES <= count {
         return verdict(16, i, size);
     }
-    let met = meets(h, f, a, count, v);
+    let met = meets(h, f, a, tags, count, v);
     if !met {
         return verdict(12, i, size);
     }
@@ -91,19 +100,27 @@ pub fn judge_insert(h: &[u8], f: &[u8], a: &[u64], v: u64, s: State, room: usize
 }
 
 // An update to an entry's record.
-pub fn judge_update(h: &[u8], f: &[u8], a: &[u64], v: u64, s: State, room: usize) -> Judged
-    requires { ⌜ Ready (now h) (now f) (now a) room s × T (fine (entry (now h) (now f) v)) ⌝ }
+pub fn judge_update(
+    h: &[u8],
+    f: &[u8],
+    a: &[u64],
+    tags: &[u64],
+    v: u64,
+    s: State,
+    room: usize,
+) -> Judged
+    requires { ⌜ Ready (now h) (now f) (now a) room s × T (fine (entry (now h) (now f) v)) × Tagged (now h) (now f) (now a) (now tags) (s .count) ⌝ }
     ensures { λ r. ⌜ Judges (now (h .entry)) (now (f .entry)) (now (a .entry)) room (change upd (entry (now (h .entry)) (now (f .entry)) v)) s r ⌝ }
 {
     let count = s.count;
     let size = s.size;
-    let found = find(h, f, a, count, v);
+    let found = find(h, f, a, tags, count, v);
     let i = found.place;
     let there = found.stands;
     if !there {
         return verdict(11, i, size);
     }
-    if !meets(h, f, a, count, v) {
+    if !meets(h, f, a, tags, count, v) {
         return verdict(12, i, size);
     }
     let old = entry_length(h, f, a[i]);
@@ -122,17 +139,18 @@ pub fn judge_delete(
     h: &[u8],
     f: &[u8],
     a: &[u64],
-    counts: &[u64],
+    tags: &[u64],
+    counts: &[u16],
     v: u64,
     s: State,
     room: usize,
 ) -> Judged
-    requires { ⌜ Ready (now h) (now f) (now a) room s × Counted (now h) (now f) (now a) (now counts) (s .count) × T (fine (entry (now h) (now f) v)) ⌝ }
+    requires { ⌜ Ready (now h) (now f) (now a) room s × Counted (now h) (now f) (now a) (now counts) (s .count) × T (fine (entry (now h) (now f) v)) × Tagged (now h) (now f) (now a) (now tags) (s .count) ⌝ }
     ensures { λ r. ⌜ Judges (now (h .entry)) (now (f .entry)) (now (a .entry)) room (change del (entry (now (h .entry)) (now (f .entry)) v)) s r ⌝ }
 {
     let count = s.count;
     let size = s.size;
-    let found = find(h, f, a, count, v);
+    let found = find(h, f, a, tags, count, v);
     let i = found.place;
     let there = found.stands;
     if !there {

@@ -4,8 +4,10 @@ ghost use Prim.Native.Nat.{_≤_};
 ghost use lib.Dec.{T};
 ghost use lib.ListN.{length};
 ghost use Rattle.meaning.specs.File.{readFile};
+ghost use Rattle.text.specs.Places.{lineEnd};
 ghost use Rattle.layout.specs.Meant.{kindMeant};
 ghost use Rattle.places.specs.Counts.{Counted};
+ghost use Rattle.places.specs.Tags.{Tagged};
 ghost use Rattle.volume.specs.Meant.{changeMeant};
 ghost use Rattle.steps.specs.Ready.{Ready, changeAt};
 ghost use Rattle.steps.specs.Run.{isFile, Runs};
@@ -27,12 +29,11 @@ pub struct Ran {
     pub end: usize,
 }
 
-// The kind and change of the line that starts at `at`.
-fn line_at(f: &[u8], at: usize) -> Line
-    requires { ⌜ at ≤ length (now f) ⌝ }
+// The kind and change of the line that starts at `at` and ends at `end`.
+fn line_at(f: &[u8], at: usize, end: usize) -> Line
+    requires { ⌜ (end ≡ lineEnd (now f) at) × (at ≤ end) × (end ≤ length (now f)) ⌝ }
     ensures { λ r. ⌜ (kindMeant (r .kind) ≡ changeAt (now (f .entry)) at .rec .kind) × (changeMeant (r .change) ≡ changeAt (now (f .entry)) at .op) ⌝ }
 {
-    let end = line_end(f, at);
     let text = &f[at..end];
     let kind = line_kind(text);
     known(kind, text)
@@ -57,25 +58,37 @@ pub fn run(
     h: &[u8],
     f: &[u8],
     a: &mut [u64],
-    counts: &mut [u64],
+    tags: &mut [u64],
+    counts: &mut [u16],
     steps: &mut [u64],
     before: &mut [u64],
     s: State,
     room: usize,
 ) -> Ran
-    requires { ⌜ Ready (now h) (now f) (now a) room s × Counted (now h) (now f) (now a) (now counts) (s .count) × T (isFile (readFile (now f))) × (4096 ≤ length (now steps)) × (4096 ≤ length (now before)) ⌝ }
+    requires { ⌜ Ready (now h) (now f) (now a) room s × Counted (now h) (now f) (now a) (now counts) (s .count) × T (isFile (readFile (now f))) × (4096 ≤ length (now steps)) × (4096 ≤ length (now before)) × Tagged (now h) (now f) (now a) (now tags) (s .count) ⌝ }
     ensures { λ r. ⌜ Runs (now (h .entry)) (now (f .entry)) (now (a .entry)) (now (a .exit)) (now (steps .exit)) (now (before .exit)) room s r ⌝ }
 {
     let mut at = line_end(f, 0) + 2;
     let mut n = 0;
     let mut state = s;
     while at < f.len() {
-        let read = line_at(f, at);
+        let end = line_end(f, at);
+        let read = line_at(f, at, end);
         let kind = read.kind;
         if !is_held(kind) {
             return ended(0, 0, state, n, at);
         }
-        let stepped = step(h, f, at, read, &mut *a, &mut *counts, state, room);
+        let stepped = step(
+            h,
+            f,
+            at,
+            read,
+            &mut *a,
+            &mut *tags,
+            &mut *counts,
+            state,
+            room,
+        );
         let code = stepped.code;
         if code != 0 {
             return ended(code, n + 2, state, n, at);
@@ -83,7 +96,7 @@ pub fn run(
         steps[n] = 2 * (at as u64) + 1;
         before[n] = stepped.before;
         state = stepped.state;
-        at = line_end(f, at) + 2;
+        at = end + 2;
         n += 1;
     }
     ended(0, 0, state, n, at)

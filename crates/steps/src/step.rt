@@ -5,15 +5,18 @@ ghost use Rattle.theory.specs.Step.{ins, upd, del};
 ghost use Rattle.laws.specs.Body.{fine};
 ghost use Rattle.places.specs.Places.{entry};
 ghost use Rattle.places.specs.Counts.{Counted};
+ghost use Rattle.places.specs.Tags.{Tagged};
 ghost use Rattle.steps.specs.Ready.{Ready, change, changeAt, Carries, Steps};
 use crate::judge::State;
 use crate::judge::judge_delete;
 use crate::judge::judge_insert;
 use crate::judge::judge_update;
 use layout::kinds::Kind;
+use places::counts;
 use places::counts::note;
 use places::moves::close;
 use places::moves::open;
+use places::tags::entry_tag;
 use volume::lines::Change;
 use volume::lines::Line;
 
@@ -29,15 +32,16 @@ fn insert(
     h: &[u8],
     f: &[u8],
     a: &mut [u64],
-    counts: &mut [u64],
+    tags: &mut [u64],
+    counts: &mut [u16],
     v: u64,
     s: State,
     room: usize,
 ) -> Stepped
-    requires { ⌜ Ready (now h) (now f) (now a) room s × Counted (now h) (now f) (now a) (now counts) (s .count) × T (fine (entry (now h) (now f) v)) ⌝ }
-    ensures { λ r. ⌜ Steps (now (h .entry)) (now (f .entry)) (now (a .entry)) (now (a .exit)) (now (counts .exit)) room (change ins (entry (now (h .entry)) (now (f .entry)) v)) s r ⌝ }
+    requires { ⌜ Ready (now h) (now f) (now a) room s × Counted (now h) (now f) (now a) (now counts) (s .count) × T (fine (entry (now h) (now f) v)) × Tagged (now h) (now f) (now a) (now tags) (s .count) ⌝ }
+    ensures { λ r. ⌜ Steps (now (h .entry)) (now (f .entry)) (now (a .entry)) (now (a .exit)) (now (tags .exit)) (now (counts .exit)) room (change ins (entry (now (h .entry)) (now (f .entry)) v)) s r ⌝ }
 {
-    let judged = judge_insert(h, f, a, v, s, room);
+    let judged = judge_insert(h, f, a, tags, v, s, room);
     let code = judged.code;
     let i = judged.place;
     let size = judged.size;
@@ -51,8 +55,9 @@ fn insert(
     let count = s.count;
     let next = count + 1;
     open(&mut *a, count, i, v);
-    open(&mut *counts, count, i, 0);
-    note(h, f, a, &mut *counts, next, v, true);
+    open(&mut *tags, count, i, entry_tag(h, f, v));
+    counts::open(&mut *counts, count, i, 0);
+    note(h, f, a, tags, &mut *counts, next, v, true);
     Stepped {
         code: 0,
         state: State { count: next, size },
@@ -65,15 +70,16 @@ fn update(
     h: &[u8],
     f: &[u8],
     a: &mut [u64],
-    counts: &mut [u64],
+    tags: &[u64],
+    counts: &mut [u16],
     v: u64,
     s: State,
     room: usize,
 ) -> Stepped
-    requires { ⌜ Ready (now h) (now f) (now a) room s × Counted (now h) (now f) (now a) (now counts) (s .count) × T (fine (entry (now h) (now f) v)) ⌝ }
-    ensures { λ r. ⌜ Steps (now (h .entry)) (now (f .entry)) (now (a .entry)) (now (a .exit)) (now (counts .exit)) room (change upd (entry (now (h .entry)) (now (f .entry)) v)) s r ⌝ }
+    requires { ⌜ Ready (now h) (now f) (now a) room s × Counted (now h) (now f) (now a) (now counts) (s .count) × T (fine (entry (now h) (now f) v)) × Tagged (now h) (now f) (now a) (now tags) (s .count) ⌝ }
+    ensures { λ r. ⌜ Steps (now (h .entry)) (now (f .entry)) (now (a .entry)) (now (a .exit)) (now (tags .entry)) (now (counts .exit)) room (change upd (entry (now (h .entry)) (now (f .entry)) v)) s r ⌝ }
 {
-    let judged = judge_update(h, f, a, v, s, room);
+    let judged = judge_update(h, f, a, tags, v, s, room);
     let code = judged.code;
     let i = judged.place;
     let size = judged.size;
@@ -86,9 +92,9 @@ fn update(
     }
     let count = s.count;
     let before = a[i];
-    note(h, f, a, &mut *counts, count, before, false);
+    note(h, f, a, tags, &mut *counts, count, before, false);
     a[i] = v;
-    note(h, f, a, &mut *counts, count, v, true);
+    note(h, f, a, tags, &mut *counts, count, v, true);
     Stepped {
         code: 0,
         state: State { count, size },
@@ -101,15 +107,16 @@ fn delete(
     h: &[u8],
     f: &[u8],
     a: &mut [u64],
-    counts: &mut [u64],
+    tags: &mut [u64],
+    counts: &mut [u16],
     v: u64,
     s: State,
     room: usize,
 ) -> Stepped
-    requires { ⌜ Ready (now h) (now f) (now a) room s × Counted (now h) (now f) (now a) (now counts) (s .count) × T (fine (entry (now h) (now f) v)) ⌝ }
-    ensures { λ r. ⌜ Steps (now (h .entry)) (now (f .entry)) (now (a .entry)) (now (a .exit)) (now (counts .exit)) room (change del (entry (now (h .entry)) (now (f .entry)) v)) s r ⌝ }
+    requires { ⌜ Ready (now h) (now f) (now a) room s × Counted (now h) (now f) (now a) (now counts) (s .count) × T (fine (entry (now h) (now f) v)) × Tagged (now h) (now f) (now a) (now tags) (s .count) ⌝ }
+    ensures { λ r. ⌜ Steps (now (h .entry)) (now (f .entry)) (now (a .entry)) (now (a .exit)) (now (tags .exit)) (now (counts .exit)) room (change del (entry (now (h .entry)) (now (f .entry)) v)) s r ⌝ }
 {
-    let judged = judge_delete(h, f, a, counts, v, s, room);
+    let judged = judge_delete(h, f, a, tags, counts, v, s, room);
     let code = judged.code;
     let i = judged.place;
     let size = judged.size;
@@ -122,9 +129,10 @@ fn delete(
     }
     let count = s.count;
     let gone = a[i];
-    note(h, f, a, &mut *counts, count, gone, false);
+    note(h, f, a, tags, &mut *counts, count, gone, false);
     close(&mut *a, count, i);
-    close(&mut *counts, count, i);
+    close(&mut *tags, count, i);
+    counts::close(&mut *counts, count, i);
     Stepped {
         code: 0,
         state: State {
@@ -153,12 +161,13 @@ pub fn step(
     at: usize,
     line: Line,
     a: &mut [u64],
-    counts: &mut [u64],
+    tags: &mut [u64],
+    counts: &mut [u16],
     s: State,
     room: usize,
 ) -> Stepped
-    requires { ⌜ Ready (now h) (now f) (now a) room s × Counted (now h) (now f) (now a) (now counts) (s .count) × Carries (now f) at line ⌝ }
-    ensures { λ r. ⌜ Steps (now (h .entry)) (now (f .entry)) (now (a .entry)) (now (a .exit)) (now (counts .exit)) room (changeAt (now (f .entry)) at) s r ⌝ }
+    requires { ⌜ Ready (now h) (now f) (now a) room s × Counted (now h) (now f) (now a) (now counts) (s .count) × Carries (now f) at line × Tagged (now h) (now f) (now a) (now tags) (s .count) ⌝ }
+    ensures { λ r. ⌜ Steps (now (h .entry)) (now (f .entry)) (now (a .entry)) (now (a .exit)) (now (tags .exit)) (now (counts .exit)) room (changeAt (now (f .entry)) at) s r ⌝ }
 {
     let kind = line.kind;
     let change = line.change;
@@ -174,8 +183,8 @@ pub fn step(
         Kind::Trailer => return unchanged(s, v),
     }
     match change {
-        Change::Insert => insert(h, f, a, counts, v, s, room),
-        Change::Update => update(h, f, a, counts, v, s, room),
-        Change::Delete => delete(h, f, a, counts, v, s, room),
+        Change::Insert => insert(h, f, a, tags, counts, v, s, room),
+        Change::Update => update(h, f, a, tags, counts, v, s, room),
+        Change::Delete => delete(h, f, a, tags, counts, v, s, room),
     }
 }

@@ -22,13 +22,17 @@ pub fn ends_at(s: &[u8], i: usize) -> bool
     s[next] == 10
 }
 
-// Where the line that starts at `at` ends: at the next CR LF, or where the bytes do.
+// Where the line that starts at `at` ends: at the next CR LF, or where the bytes do. Most bytes are above a CR.
 pub fn line_end(s: &[u8], at: usize) -> usize
     requires { ⌜ at ≤ length (now s) ⌝ }
     ensures { λ r. ⌜ (r ≡ lineEnd (now (s .entry)) at) × (at ≤ r) × (r ≤ length (now (s .entry))) ⌝ }
 {
     let mut i = at;
     while i < s.len() {
+        if 13 < s[i] {
+            i += 1;
+            continue;
+        }
         if ends_at(s, i) {
             return i;
         }

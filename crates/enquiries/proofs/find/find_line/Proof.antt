@@ -14,9 +14,11 @@ find-line-spec =
     (λ c. search finds)  -- returns
     (λ c. search finds)  -- slice-aggregate-read-holding
     (λ c. search finds)  -- slice-aggregate-read-holding-2
+    (λ c. search finds)  -- slice-aggregate-read-holding-3
     (λ c κs. search finds)  -- read-holding-requires
     (λ c κs. search finds)  -- refusal-requires-2
     (λ c. search finds)  -- returns-2
     (λ c. search finds)  -- slice-aggregate-held-line
-    (λ c κs. let r = c .before .before .before .before .before in let i = r .before .before .before in enquired _ _ _ _ _ _ (i .before .is-enquired .ensures) (not-false _ (i .if1 .left)) (r .read-holding .ensures) (c .before .if2 .left) (search needs))  -- held-line-requires
+    (λ c. search finds)  -- slice-aggregate-held-line-2
+    (λ c κs. enquired _ _ _ _ _ _ _ (c .before .before .before .before .before .before .before .before .before .before .before .before .is-enquired .ensures) (not-false _ (c .before .before .before .before .before .before .before .before .before .before .before .if1 .left)) (c .before .before .before .before .before .before .before .read-holding .ensures) (c .before .before .if2 .left) (search needs) (search needs))  -- held-line-requires
     (λ c. search finds))  -- returns-3

@@ -1,5 +1,5 @@
 -- `enquiries::in_force::line_in_force` meets its contract.
-use Rattle.enquiries.proofs.ForceLaws.{force, faultless}
+use Rattle.enquiries.proofs.ForceLaws.{force, faultless, force-last}
 use Rattle.enquiries.proofs.FindLaws.{enquired}
 use borrow.Author.Needs.{needs}
 use borrow.Author.Tests.{not-false}
@@ -15,6 +15,7 @@ line-in-force-spec =
     (λ c. search force)  -- returns
     (λ c. search force)  -- slice-aggregate-read-holding
     (λ c. search force)  -- slice-aggregate-read-holding-2
+    (λ c. search force)  -- slice-aggregate-read-holding-3
     (λ c κs. search force)  -- read-holding-requires
     (λ c κs. search force)  -- refusal-requires-2
     (λ c. search force)  -- returns-2
@@ -22,5 +23,6 @@ line-in-force-spec =
     (λ c κs. search force)  -- refusal-requires-3
     (λ c. search force)  -- returns-3
     (λ c. search force)  -- slice-aggregate-last-line
-    (λ c κs. let d = c .before .before .before .before in let r = d .before .before .before .before in let i = r .before .before .before in (enquired _ _ _ _ _ _ (i .before .is-enquired .ensures) (not-false _ (i .if1 .left)) (r .read-holding .ensures) (d .if2 .left) (search needs), faultless _ _ (c .before .before .before .check-file .ensures) (c .before .if3 .left)))  -- last-line-requires
-    (λ c. search force))  -- returns-4
+    (λ c. search force)  -- slice-aggregate-last-line-2
+    (λ c κs. (enquired _ _ _ _ _ _ _ (c .before .before .before .before .before .before .before .before .before .before .before .before .before .before .before .is-enquired .ensures) (not-false _ (c .before .before .before .before .before .before .before .before .before .before .before .before .before .before .if1 .left)) (c .before .before .before .before .before .before .before .before .before .before .read-holding .ensures) (c .before .before .before .before .before .if2 .left) (search needs) (search needs), faultless _ _ (c .before .before .before .before .check-file .ensures) (c .before .before .if3 .left)))  -- last-line-requires
+    (λ c. force-last _ _ _ _ _ _ (c .before .before .before .before .before .before .before .before .before .before .before .before .before .before .before .before .is-enquired .ensures) (not-false _ (c .before .before .before .before .before .before .before .before .before .before .before .before .before .before .before .if1 .left)) _ _ _ _ (c .before .before .before .before .before .before .before .before .before .before .before .read-holding .ensures) (c .before .before .before .before .before .before .if2 .left) (c .last-line .ensures)))  -- returns-4

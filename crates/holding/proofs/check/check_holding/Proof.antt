@@ -9,6 +9,7 @@ check-holding-spec =
     (tie.spec
     (λ c. search checks)  -- slice-aggregate-read-holding
     (λ c. search checks)  -- slice-aggregate-read-holding-2
+    (λ c. search checks)  -- slice-aggregate-read-holding-3
     (λ c κs. search checks)  -- read-holding-requires
     (λ c. search checks)  -- returns
     (λ c. search checks))  -- returns-2

@@ -1,6 +1,5 @@
 -- `holding::scan::scan` meets its contract.
-use Rattle.holding.proofs.ScanLaws.{scanning}
-use Rattle.holding.proofs.ScanLaws.{Scanning, scan-turn}
+use Rattle.holding.proofs.ScanLaws.{scanning, Scanning, scan-turn}
 use Rattle.keys.specs.Numbers.{keyList}
 use Prim.Native.Nat.{_-_, _≤_}
 use mathlib.Core.Path.{_≡_}
@@ -12,8 +11,8 @@ pub scan-spec : {M : Type 1} → statement M
 scan-spec =
     tie.close
     (tie.spec
-    (λ holding starts₀ before₀ count₀ at₀ starts before count at. Scanning holding starts count at (keyList before) × (8192 ≤ length starts) × (length starts ≡ length starts₀))
-    (λ holding starts₀ before₀ count₀ at₀ starts before count at. length holding - at)
+    (λ holding starts₀ tags₀ before₀ count₀ at₀ starts tags before count at. Scanning holding starts tags count at (keyList before) × (8192 ≤ length starts) × (length starts ≡ length starts₀) × (8192 ≤ length tags) × (length tags ≡ length tags₀))
+    (λ holding starts₀ tags₀ before₀ count₀ at₀ starts tags before count at. length holding - at)
     (λ c. search scanning)  -- loop-holds
     (λ c κs. search scanning)  -- plain-end-requires
     (λ c. search scanning)  -- add-line
@@ -25,12 +24,17 @@ scan-spec =
     (λ c. search scanning)  -- enum-known-next
     (λ c. search scanning)  -- enum-told
     (λ c. search scanning)  -- same-length
+    (λ c. search scanning)  -- same-length-2
     (λ c. search scanning)  -- returns
     (λ c. search scanning)  -- mul-starts
     (λ c. search scanning)  -- mul-starts-2
     (λ c. search scanning)  -- slice-write-starts
+    (λ c κs. search scanning)  -- tag-requires
+    (λ c. search scanning)  -- mul-tags
+    (λ c. search scanning)  -- slice-write-tags
     (λ c. search scanning)  -- add-at
     (λ c. search scanning)  -- loop-less
-    (λ c. (scan-turn _ _ _ _ (c .before .before .before .before .before .before .before .loop-test .taken) (c .before .before .before .before .before .before .plain-end .ensures .0) (c .before .before .before .before .ends-at .ensures) _ _ _ (c .before .before .before .before .before .before .before .before .loop .inv .0) _ (c .before .before .before .next-key .ensures) _ (c .before .next .given .1) (c .before .before .before .before .before .before .before .before .loop .inv .1), search scanning, search scanning))  -- loop-again
-    (λ c. search scanning)  -- same-length-2
+    (λ c. (scan-turn _ _ _ _ (c .before .before .before .before .before .before .before .before .loop-test .taken) (c .before .before .before .before .before .before .before .plain-end .ensures .0) (c .before .before .before .before .before .ends-at .ensures) _ _ _ _ (c .before .before .before .before .before .before .before .before .before .loop .inv .0) _ (c .before .before .before .before .next-key .ensures) _ _ (c .before .before .next .given .1) (c .before .before .before .before .before .before .before .before .before .loop .inv .1) (c .before .before .before .before .before .before .before .before .before .loop .inv .3) (c .tag .ensures), search scanning, search scanning, search scanning, search scanning))  -- loop-again
+    (λ c. search scanning)  -- same-length-3
+    (λ c. search scanning)  -- same-length-4
     (λ c. search scanning))  -- returns-2

@@ -12,8 +12,8 @@ pub unmet-spec : {M : Type 1} → statement M
 unmet-spec =
     tie.close
     (tie.spec
-    (λ holding starts counts₀ count i₀ counts i. Counting holding starts count counts i × (length counts ≡ length counts₀))
-    (λ holding starts counts₀ count i₀ counts i. count - i)
+    (λ holding starts tags counts₀ count i₀ counts i. Counting holding starts count counts i × (length counts ≡ length counts₀))
+    (λ holding starts tags counts₀ count i₀ counts i. count - i)
     (λ c κs. search unmets)  -- clear-requires
     (λ c. search unmets)  -- loop-holds
     (λ c. search unmets)  -- mul-entry
@@ -24,6 +24,6 @@ unmet-spec =
     (λ c. search unmets)  -- returns
     (λ c. search unmets)  -- add-i
     (λ c. search unmets)  -- loop-less
-    (λ c. let p = c .before .before .before .before .before .before .before .before .before .before .before .before .before .before .before .pre in (unmet-turn _ _ _ _ _ (c .before .before .before .before .before .before .before .loop .inv .0) (p .0) (p .2) (c .before .before .before .before .before .before .loop-test .taken) (p .3) (p .4) _ _ (c .before .before .before .note .ensures) (not-false _ (c .if1 .left)), search needs))  -- loop-again
+    (λ c. let p = c .before .before .before .before .before .before .before .before .before .before .before .before .before .before .before .before .pre in (unmet-turn _ _ _ _ _ (c .before .before .before .before .before .before .before .loop .inv .0) (p .0) (p .2) (c .before .before .before .before .before .before .loop-test .taken) (p .3) (p .4) _ _ (c .before .before .before .note .ensures) (not-false _ (c .if1 .left)), search needs))  -- loop-again
     (λ c. search unmets)  -- same-length-2
     (λ c. search unmets))  -- returns-2

@@ -9,15 +9,18 @@ pub place-spec : {M : Type 1} → statement M
 place-spec =
     tie.close
     (tie.spec
-    (λ h f a n k low₀ high₀ low high. Placing h f a n (keyList k) low high)
-    (λ h f a n k low₀ high₀ low high. high - low)
+    (λ h f a tags n k ours low₀ high₀ low high. Placing h f a n (keyList k) low high)
+    (λ h f a tags n k ours low₀ high₀ low high. high - low)
+    (λ c κs. search placing)  -- tag-requires
     (λ c. search placing)  -- loop-holds
     (λ c. search placing)  -- sub-mid
     (λ c. search placing)  -- add-mid
     (λ c. search placing)  -- add-next
-    (λ c. search placing)  -- mul-against
-    (λ c. search placing)  -- shared-slice-read-against
-    (λ c κs. search placing)  -- against-requires
+    (λ c. search placing)  -- mul-by-tags
+    (λ c. search placing)  -- shared-slice-read-by-tags
+    (λ c. search placing)  -- mul-by-tags-2
+    (λ c. search placing)  -- shared-slice-read-by-tags-2
+    (λ c κs. search placing)  -- by-tags-requires
     (λ c. search placing)  -- enum-told
     (λ c. search placing)  -- loop-less
     (λ c. search placing)  -- loop-again

@@ -8,9 +8,12 @@ stands-spec =
     tie.close
     (tie.spec
     (λ c. search standing)  -- returns
-    (λ c. search standing)  -- mul-against
-    (λ c. search standing)  -- shared-slice-read-against
-    (λ c κs. search standing)  -- against-requires
+    (λ c. search standing)  -- mul-by-tags
+    (λ c. search standing)  -- shared-slice-read-by-tags
+    (λ c. search standing)  -- mul-by-tags-2
+    (λ c. search standing)  -- shared-slice-read-by-tags-2
+    (λ c κs. search standing)  -- tag-requires
+    (λ c κs. search standing)  -- by-tags-requires
     (λ c. search standing)  -- enum-told
     (λ c. search standing)  -- enum-told-2
     (λ c. search standing)  -- enum-told-3

@@ -7,7 +7,6 @@ pub line-at-spec : {M : Type 1} → statement M
 line-at-spec =
     tie.close
     (tie.spec
-    (λ c κs. search lineat)  -- line-end-requires
     (λ c. search lineat)  -- sub-text
     (λ c. search lineat)  -- part-text-start
     (λ c. search lineat)  -- part-text-end

@@ -31,10 +31,13 @@ step-spec =
     (λ c κs. search stepping)  -- delete-requires
     (λ c. search stepping)  -- same-length
     (λ c. search stepping)  -- same-length-2
-    (λ c. search stepping)  -- returns-4
     (λ c. search stepping)  -- same-length-3
+    (λ c. search stepping)  -- returns-4
     (λ c. search stepping)  -- same-length-4
-    (λ c. search stepping)  -- returns-5
     (λ c. search stepping)  -- same-length-5
     (λ c. search stepping)  -- same-length-6
+    (λ c. search stepping)  -- returns-5
+    (λ c. search stepping)  -- same-length-7
+    (λ c. search stepping)  -- same-length-8
+    (λ c. search stepping)  -- same-length-9
     (λ c. search stepping))  -- returns-6

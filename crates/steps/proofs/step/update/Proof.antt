@@ -1,7 +1,6 @@
 -- `steps::step::update` meets its contract.
+use Rattle.steps.proofs.StepLaws.{updated, upd-in, upd-asked, upd-asked-new, upd-step}
 use borrow.Author.Needs.{needs}
-use Rattle.steps.proofs.StepLaws.{upd-in, upd-asked, upd-asked-new, upd-step}
-use Rattle.steps.proofs.StepLaws.{updated}
 use Rattle.steps.proofs.step.update.Statement.{statement}
 use Rattle.steps.proofs.step.update.Tie as tie
 
@@ -13,11 +12,11 @@ update-spec =
     (λ c. search updated)  -- same-length
     (λ c. search updated)  -- returns
     (λ c. search updated)  -- mul-before
-    (λ c. let i = upd-in _ _ _ _ _ _ (c .before .before .before .before .before .before .before .before .pre .0) (c .before .before .before .before .before .before .before .before .pre .2) _ (c .before .before .judge-update .ensures) (c .before .if1 .left) in search (needs, i))  -- slice-read-before
-    (λ c κs. upd-asked _ _ _ _ _ _ (c .before .before .before .before .before .before .before .before .before .before .pre .0) (c .before .before .before .before .before .before .before .before .before .before .pre .2) _ (c .before .before .before .before .judge-update .ensures) (c .before .before .before .if1 .left) _ (c .before .before .before .before .before .before .before .before .before .before .pre .1))  -- note-requires
+    (λ c. let i = upd-in _ _ _ _ _ _ (c .before .before .before .before .before .before .before .before .before .pre .0) (c .before .before .before .before .before .before .before .before .before .pre .2) _ (c .before .before .judge-update .ensures) (c .before .if1 .left) in search (needs, i))  -- slice-read-before
+    (λ c κs. upd-asked _ _ _ _ _ _ (c .before .before .before .before .before .before .before .before .before .before .before .pre .0) (c .before .before .before .before .before .before .before .before .before .before .before .pre .2) _ (c .before .before .before .before .judge-update .ensures) (c .before .before .before .if1 .left) _ (c .before .before .before .before .before .before .before .before .before .before .before .pre .1) _ (c .before .before .before .before .before .before .before .before .before .before .before .pre .3))  -- note-requires
     (λ c. search updated)  -- mul-a
-    (λ c. let i = upd-in _ _ _ _ _ _ (c .before .before .before .before .before .before .before .before .before .before .before .before .before .pre .0) (c .before .before .before .before .before .before .before .before .before .before .before .before .before .pre .2) _ (c .before .before .before .before .before .before .before .judge-update .ensures) (c .before .before .before .before .before .before .if1 .left) in search (needs, i))  -- slice-write-a
-    (λ c κs. upd-asked-new _ _ _ _ _ _ (c .before .before .before .before .before .before .before .before .before .before .before .before .before .before .before .pre .0) (c .before .before .before .before .before .before .before .before .before .before .before .before .before .before .before .pre .2) _ (c .before .before .before .before .before .before .before .before .before .judge-update .ensures) (c .before .before .before .before .before .before .before .before .if1 .left) _ (c .before .before .before .before .before .before .before .before .before .before .before .before .before .before .before .pre .1) _ _ (c .before .before .before .before .note .ensures))  -- note-requires-2
+    (λ c. let i = upd-in _ _ _ _ _ _ (c .before .before .before .before .before .before .before .before .before .before .before .before .before .before .pre .0) (c .before .before .before .before .before .before .before .before .before .before .before .before .before .before .pre .2) _ (c .before .before .before .before .before .before .before .judge-update .ensures) (c .before .before .before .before .before .before .if1 .left) in search (needs, i))  -- slice-write-a
+    (λ c κs. upd-asked-new _ _ _ _ _ _ (c .before .before .before .before .before .before .before .before .before .before .before .before .before .before .before .before .pre .0) (c .before .before .before .before .before .before .before .before .before .before .before .before .before .before .before .before .pre .2) _ (c .before .before .before .before .before .before .before .before .before .judge-update .ensures) (c .before .before .before .before .before .before .before .before .if1 .left) _ (c .before .before .before .before .before .before .before .before .before .before .before .before .before .before .before .before .pre .1) _ (c .before .before .before .before .before .before .before .before .before .before .before .before .before .before .before .before .pre .3) _ _ (c .before .before .before .before .note .ensures))  -- note-requires-2
     (λ c. search updated)  -- same-length-2
     (λ c. search updated)  -- same-length-3
-    (λ c. upd-step _ _ _ _ _ _ (c .before .before .before .before .before .before .before .before .before .before .before .before .before .before .before .before .before .before .pre .0) (c .before .before .before .before .before .before .before .before .before .before .before .before .before .before .before .before .before .before .pre .2) _ (c .before .before .before .before .before .before .before .before .before .before .before .before .judge-update .ensures) (c .before .before .before .before .before .before .before .before .before .before .before .if1 .left) _ (c .before .before .before .before .before .before .before .before .before .before .before .before .before .before .before .before .before .before .pre .1) _ _ (c .before .before .before .before .before .before .before .note .ensures) _ _ (c .before .before .note2 .ensures)))  -- returns-2
+    (λ c. upd-step _ _ _ _ _ _ (c .before .before .before .before .before .before .before .before .before .before .before .before .before .before .before .before .before .before .before .pre .0) (c .before .before .before .before .before .before .before .before .before .before .before .before .before .before .before .before .before .before .before .pre .2) _ (c .before .before .before .before .before .before .before .before .before .before .before .before .judge-update .ensures) (c .before .before .before .before .before .before .before .before .before .before .before .if1 .left) _ (c .before .before .before .before .before .before .before .before .before .before .before .before .before .before .before .before .before .before .before .pre .1) _ (c .before .before .before .before .before .before .before .before .before .before .before .before .before .before .before .before .before .before .before .pre .3) _ _ (c .before .before .before .before .before .before .before .note .ensures) _ _ (c .before .before .note2 .ensures)))  -- returns-2
