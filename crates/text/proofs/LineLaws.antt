@@ -77,13 +77,13 @@ line-turn s i x b e h q t = omega (arith, step)
     step : lineLen (drop i s) ≡ suc (lineLen (drop (i + 1) s))
     step = rw (at-cons s i h) (rw (rw (at-cons s i h) at (sym q ∙ t)))
 
--- and so is a byte above a CR
-pub line-above : (s : List ℕ) (i x : ℕ) → lineEnd s i ≡ x → i < length s → 13 < getD s i 0 → lineEnd s (i + 1) ≡ x
-line-above s i x e h b = line-turn s i x false e h (sym (rw (at-cons s i h) (go (drop (i + 1) s)))) refl
+-- and so is a byte that is no CR
+pub line-other : (s : List ℕ) (i x : ℕ) → lineEnd s i ≡ x → i < length s → (getD s i 0 ≡ 13 → ⊥) → lineEnd s (i + 1) ≡ x
+line-other s i x e h b = line-turn s i x false e h (sym (rw (at-cons s i h) (go (drop (i + 1) s)))) refl
   where
     go : (r : List ℕ) → endsHere (getD s i 0 ∷ r) ≡ false
     go [] = refl
-    go (y ∷ r) = rw (ne-eqb (getD s i 0) 13 (λ q. omega arith))
+    go (y ∷ r) = rw (ne-eqb (getD s i 0) 13 b)
 
 -- so do the bytes' end
 pub line-done : (s : List ℕ) (i x : ℕ) → lineEnd s i ≡ x → length s ≤ i → i ≡ x
@@ -93,7 +93,13 @@ line-done s i x e h = omega (arith, step)
     step : lineLen (drop i s) ≡ 0
     step = rw (at-end s i h)
 
-pub ruleset line = (needs, line-stop, line-turn, line-above, line-done)
+pub ruleset tocr = (needs, line-other)
+
+-- with the bytes after it that are none
+pub line-on : (s : List ℕ) (i r x : ℕ) (b : Bool) → lineEnd s r ≡ lineEnd s (i + 1) → lineEnd s i ≡ x → i < length s → b ≡ endsHere (drop i s) → b ≡ false → lineEnd s r ≡ x
+line-on s i r x b u e h q t = u ∙ line-turn s i x b e h q t
+
+pub ruleset line = (needs, line-stop, line-on, line-done)
 
 -- ---- the lines of the meaning
 

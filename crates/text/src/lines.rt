@@ -22,21 +22,32 @@ pub fn ends_at(s: &[u8], i: usize) -> bool
     s[next] == 10
 }
 
-// Where the line that starts at `at` ends: at the next CR LF, or where the bytes do. Most bytes are above a CR.
+// Past the bytes from `at` on that are no CR: no line ends before that.
+fn to_cr(s: &[u8], at: usize) -> usize
+    requires { ⌜ at ≤ length (now s) ⌝ }
+    ensures { λ r. ⌜ (lineEnd (now (s .entry)) r ≡ lineEnd (now (s .entry)) at) × (at ≤ r) × (r ≤ length (now (s .entry))) ⌝ }
+{
+    let mut i = at;
+    while i < s.len() {
+        if s[i] == 13 {
+            return i;
+        }
+        i += 1;
+    }
+    i
+}
+
+// Where the line that starts at `at` ends: at the next CR LF, or where the bytes do.
 pub fn line_end(s: &[u8], at: usize) -> usize
     requires { ⌜ at ≤ length (now s) ⌝ }
     ensures { λ r. ⌜ (r ≡ lineEnd (now (s .entry)) at) × (at ≤ r) × (r ≤ length (now (s .entry))) ⌝ }
 {
-    let mut i = at;
+    let mut i = to_cr(s, at);
     while i < s.len() {
-        if 13 < s[i] {
-            i += 1;
-            continue;
-        }
         if ends_at(s, i) {
             return i;
         }
-        i += 1;
+        i = to_cr(s, i + 1);
     }
     i
 }
