@@ -11,12 +11,10 @@ use borrow.Author.Tests.{lt-ltb, le-ltb, le-leb, lt-leb, ltb-true}
 use lib.Dec.{ltb, leb, leb·suc-suc}
 use lib.ListN.{length, getD, take, drop, length-take, length-drop}
 use Rattle.base.specs.Lists.{pick}
-use Rattle.base.proofs.Walk.{at-end}
 use Rattle.meaning.specs.Lines.{Line, linesOf}
 use Rattle.meaning.specs.Enquiries.{spanned}
 use Rattle.text.specs.Places.{lineLen, lineEnd}
 use Rattle.text.proofs.LineLaws.{lines-at, lines-end}
-use Rattle.enquiries.specs.declared.lines.Span.{Span}
 use Rattle.enquiries.specs.Handed.{LineIs}
 
 -- no line

@@ -1,12 +1,12 @@
 -- What an enquiry hands back, by the meaning's answer.
 use mathlib.Core.Path.{_≡_}
-use mathlib.Core.Bool.{Bool, true, false, not, _&&_}
+use mathlib.Core.Bool.{true, false, not, _&&_}
 use mathlib.Core.List.{List, [], _∷_}
 use Prim.Native.Nat.{ℕ, _-_, _≤_}
 use denote.Ref.{RefT}
 use lib.Dec.{leb}
 use lib.ListN.{length, getD, take, drop}
-use Rattle.meaning.specs.Lines.{Line, linesOf, fieldsOf, oddQuotes}
+use Rattle.meaning.specs.Lines.{linesOf, fieldsOf, oddQuotes}
 use Rattle.meaning.specs.Load.{Three}
 use Rattle.meaning.specs.Enquiries.{Slice, first, second, Found, spanned, fieldsSpanned}
 use Rattle.text.specs.Parts.{StandsIn}

@@ -1,9 +1,9 @@
 -- The laws of one line of a holding: which way out of the tests is which answer, and that the answer is the meaning's.
 use mathlib.Core.Path.{_≡_, refl, sym, ap, _∙_}
-use mathlib.Core.Bool.{Bool, true, false, not, _&&_}
+use mathlib.Core.Bool.{Bool, true, false}
 use mathlib.Core.Option.{Option, none, some}
 use mathlib.Core.List.{List, [], _∷_, _++_, map}
-use Prim.Native.Nat.{ℕ, _+_, _-_, _≤_, _<_}
+use Prim.Native.Nat.{ℕ, _+_, _-_}
 use native.Mathlib.Nat.{sub-zero}
 use native.Mathlib.Omega.{arith}
 use borrow.Author.Needs.{needs}
@@ -18,7 +18,7 @@ use Rattle.meaning.specs.Lines.{Line, endsWell, fieldsOf, identifier, hasFields
 use Rattle.meaning.specs.Table.{Kind, role, fields, kindOf, named, placeFrom, startDate, endDate}
 use Rattle.meaning.specs.Sound as meant
 use Rattle.meaning.specs.Sound.{datesAgree, fieldFault, formFault}
-use Rattle.meaning.specs.Records.{Rec, contentOf, letter}
+use Rattle.meaning.specs.Records.{contentOf, letter}
 use Rattle.meaning.specs.Holding.{isHeld, isSound, heldTest, heldKind, heldLine}
 use Rattle.text.specs.Front.{inFront}
 use Rattle.text.proofs.NumberLaws.{width-most}

@@ -3,7 +3,7 @@ use mathlib.Core.Path.{_≡_, refl, sym, ap, subst, _∙_}
 use mathlib.Core.Bool.{Bool, true, false, _&&_}
 use mathlib.Core.Option.{Option, none, some}
 use mathlib.Core.List.{List, [], _∷_, _++_}
-use Prim.Native.Nat.{ℕ, zero, suc, _+_, _-_, _≤_, _<_}
+use Prim.Native.Nat.{ℕ, suc, _+_, _-_, _≤_, _<_}
 use native.Mathlib.Numerals.{add-one}
 use native.Mathlib.Omega.{arith}
 use borrow.Author.Needs.{needs}
@@ -33,7 +33,6 @@ use Rattle.places.proofs.SaysLaws.{length-says, says-at}
 use Rattle.places.proofs.ReferenceLaws.{asc-told}
 use Rattle.places.proofs.CountLaws.{refs-few, tally-few, tally-more, by-cong, by-nothing, count-all, open-up, has-all}
 use Rattle.holding.specs.declared.read.Held.{Held}
-use Rattle.holding.specs.declared.check.Verdict.{Verdict}
 use Rattle.holding.specs.Read.{faultOf, recordsOf, Listed, ReadAs, CountsAs, HeldIs}
 use Rattle.holding.specs.Verdict.{verdictOf}
 

@@ -1,21 +1,21 @@
 -- The laws of the walk over the lines: the next key, and what is read so far with what is left.
-use mathlib.Core.Path.{_≡_, refl, sym, ap, ap₂, subst, _∙_}
+use mathlib.Core.Path.{_≡_, refl, sym, ap, subst, _∙_}
 use mathlib.Core.Bool.{Bool, true, false, _&&_}
 use mathlib.Core.Option.{Option, none, some}
 use mathlib.Core.List.{List, [], _∷_, _++_, append-assoc, append-nil, map-append}
-use Prim.Native.Nat.{ℕ, zero, suc, _+_, _-_, _*_, _/_, _%_, _≤_, _<_}
+use Prim.Native.Nat.{ℕ, suc, _+_, _-_, _*_, _%_, _≤_, _<_}
 use native.Mathlib.Numerals.{add-one}
 use native.Mathlib.Omega.{arith}
 use borrow.Author.Needs.{needs}
-use borrow.Author.Tests.{eq-eqb, le-leb, lt-leb}
+use borrow.Author.Tests.{le-leb, lt-leb}
 use lib.Dec.{T, eqb, leb, leb→le}
 use lib.ListN.{length, take, drop, set, length-set}
 use lib.Seq.{take-suc-set}
 use mir.Facts.{yes-eqb}
-use Rattle.base.specs.Lists.{all, pick, keepIf, bytes}
+use Rattle.base.specs.Lists.{all, keepIf, bytes}
 use Rattle.base.specs.Tests.{and-r, some≢none}
 use Rattle.base.specs.ListLaws.{all-snoc}
-use Rattle.theory.specs.Tri.{Tri, lt, eq, gt, isLt}
+use Rattle.theory.specs.Tri.{lt, isLt}
 use Rattle.theory.specs.Lex.{andThen, lex}
 use Rattle.theory.specs.LexLaws.{is-cmpN}
 use Rattle.theory.specs.Limits.{most}
@@ -40,7 +40,7 @@ use Rattle.layout.specs.Meant.{kindMeant, kindFound}
 use Rattle.keys.specs.declared.Key.{Key}
 use Rattle.keys.specs.Numbers.{keyList, keyNumbers}
 use Rattle.keys.specs.KeyLaws.{key-agrees}
-use Rattle.places.specs.Places.{recOf, lineAt, entry, says}
+use Rattle.places.specs.Places.{entry, says}
 use Rattle.places.specs.Counts.{byKey}
 use Rattle.places.specs.Tags.{tagOf}
 use Rattle.places.proofs.SaysLaws.{entry-even, says-more, says-held, length-says}
@@ -50,7 +50,7 @@ use Rattle.holding.specs.declared.scan.Next.{Next}
 use Rattle.holding.specs.declared.scan.Next.the-variants.{Taken, Faulty}
 use Rattle.holding.specs.declared.read.Held.{Held}
 use Rattle.holding.specs.Held.{heldAs, recordAs, nextAs, keyTaken}
-use Rattle.holding.specs.Read.{faultOf, recordsOf, Listed, ReadAs}
+use Rattle.holding.specs.Read.{faultOf, recordsOf, ReadAs}
 use Rattle.holding.proofs.HeldLaws.{held-is}
 
 -- ---- the next key

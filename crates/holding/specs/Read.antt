@@ -1,7 +1,6 @@
 -- What is read of a holding: its lowest faulty line, or its records and where they stand.
 use mathlib.Core.Path.{_≡_}
-use mathlib.Core.Bool.{Bool}
-use mathlib.Core.List.{List, [], _∷_}
+use mathlib.Core.List.{List, []}
 use Prim.Native.Nat.{ℕ, _%_, _≤_}
 use lib.Dec.{T, eqb}
 use lib.ListN.{length, take}

@@ -20,7 +20,7 @@ use Rattle.meaning.specs.Holding.{sound, unsound, readHolding, written}
 use Rattle.meaning.specs.Load.{six, fits, stepTests, outcome, fromStart, onFile, onHolding, load, checked, checkFile, undoSheet, undoHeld, undoBytes}
 use Rattle.laws.specs.Body.{fine}
 use Rattle.laws.specs.HoldingReadBack.{always, holding, heldRecords}
-use Rattle.laws.specs.FileRefusals.{ReadIn, among, fileCodes, file-codes}
+use Rattle.laws.specs.FileRefusals.{ReadIn, among, file-codes}
 use Rattle.laws.specs.SoundHolding.{held-is-sound}
 use Rattle.laws.specs.SoundFile.{SoundFile, read-sound}
 use Rattle.laws.specs.Checks.{held-bytes}

@@ -10,13 +10,13 @@ use borrow.Author.Needs.{needs}
 use borrow.Author.Tests.{le-leb, lt-leb, eq-eqb, ne-eqb}
 use mir.Syntax.{w64}
 use mir.Val.{Fits}
-use lib.Dec.{T, eqb, eqb→eq}
-use lib.ListN.{length, getD, take, drop, length-take, length-map}
+use lib.Dec.{eqb, eqb→eq}
+use lib.ListN.{length, getD, length-take, length-map}
 use lib.Seq.{getD-take, getD-drop}
 use Rattle.base.specs.Lists.{pick}
 use Rattle.theory.specs.Tri.{Tri, lt, eq, gt, flip}
 use Rattle.theory.specs.Lex.{cmpN, Is, andThen, lex}
-use Rattle.theory.specs.LexLaws.{cmpN-is, is-cmpN, lex-order}
+use Rattle.theory.specs.LexLaws.{cmpN-is, lex-order}
 use Rattle.meaning.specs.Records.{Rec}
 use Rattle.layout.specs.Rows.{laidOut}
 use Rattle.keys.specs.declared.Key.{Key}
