@@ -22,6 +22,7 @@ use crate::hand::hand;
 use holding::read::Held;
 use holding::read::read_holding;
 use keys::Key;
+use layout::limits::Holding;
 use layout::records::Blpu;
 use layout::records::Street;
 use places::search::place;
@@ -87,9 +88,9 @@ pub fn find_line(holding: &[u8], kind: u64, number: u64) -> Finding
     if !is_enquired(kind) {
         return refusal(15, 0, 0);
     }
-    let mut starts = [0u64; 8192];
-    let mut tags = [0u64; 8192];
-    let mut counts = [0u16; 8192];
+    let mut starts = [0u64; Holding::MOST_LINES];
+    let mut tags = [0u64; Holding::MOST_LINES];
+    let mut counts = [0u16; Holding::MOST_LINES];
     let held = read_holding(holding, &mut starts, &mut tags, &mut counts);
     if held.line != 0 {
         return refusal(14, held.line as u64, 0);

@@ -20,6 +20,7 @@ use crate::naming::Naming;
 use crate::naming::last_naming;
 use holding::read::Held;
 use holding::read::read_holding;
+use layout::limits::Holding;
 use volume::check::check_file;
 
 // The last body line of that kind and number in a sound file, or the held line where none names it; 11 where that is a delete.
@@ -49,9 +50,9 @@ pub fn line_in_force(holding: &[u8], file: &[u8], kind: u64, number: u64) -> Fin
     if !is_enquired(kind) {
         return refusal(15, 0, 0);
     }
-    let mut starts = [0u64; 8192];
-    let mut tags = [0u64; 8192];
-    let mut counts = [0u16; 8192];
+    let mut starts = [0u64; Holding::MOST_LINES];
+    let mut tags = [0u64; Holding::MOST_LINES];
+    let mut counts = [0u16; Holding::MOST_LINES];
     let held = read_holding(holding, &mut starts, &mut tags, &mut counts);
     if held.line != 0 {
         return refusal(14, held.line as u64, 0);

@@ -57,11 +57,11 @@ use Rattle.holding.proofs.HeldLaws.{held-is}
 
 module _ (n : ℕ) (q t : List ℕ) (b : Bool) where
   -- line 8,193 is the fault
-  pub next-many : 8192 < n → none ≡ nextAs n q (recordAs t (heldAs n b t))
-  next-many h = go (recordAs t (heldAs n b t))
+  pub next-many : (m : ℕ) → m ≡ most → m < n → none ≡ nextAs n q (recordAs t (heldAs n b t))
+  next-many m e h = go (recordAs t (heldAs n b t))
     where
       no : (c : Bool) (k : List ℕ) → none ≡ keepIf (c && leb n most) k
-      no true k = unfold keepIf in (rw (lt-leb n most h))
+      no true k = unfold keepIf in (rw (lt-leb n most (omega arith)))
       no false k = unfold keepIf in refl
 
       go : (o : Option Rec) → none ≡ nextAs n q o
@@ -82,9 +82,9 @@ module _ (n : ℕ) (q t : List ℕ) (b : Bool) where
           rw (← p, e, y, ← w)
 
       -- a key after the one before is taken
-      pub next-taken : n ≤ 8192 → x ≡ Before → some j ≡ nextAs n q (recordAs t (heldAs n b t))
+      pub next-taken : (m : ℕ) → m ≡ most → n ≤ m → x ≡ Before → some j ≡ nextAs n q (recordAs t (heldAs n b t))
       unfolding keepIf
-      next-taken h s = sym (next-by ∙ rw (s, le-leb n most h))
+      next-taken m i h s = sym (next-by ∙ rw (s, le-leb n most (omega arith)))
 
       -- the same key is out of order
       pub next-same : x ≡ Same → none ≡ nextAs n q (recordAs t (heldAs n b t))

@@ -3,6 +3,7 @@ ghost use mathlib.Core.Path.{_≡_};
 ghost use Rattle.meaning.specs.Load.{checkHolding};
 ghost use Rattle.holding.specs.Verdict.{verdictOf};
 use crate::read::read_holding;
+use layout::limits::Holding;
 
 // Code, line, field.
 pub struct Verdict {
@@ -15,9 +16,9 @@ pub struct Verdict {
 pub fn check_holding(holding: &[u8]) -> Verdict
     ensures { λ r. ⌜ r ≡ verdictOf (checkHolding (now (holding .entry))) ⌝ }
 {
-    let mut starts = [0u64; 8192];
-    let mut tags = [0u64; 8192];
-    let mut counts = [0u16; 8192];
+    let mut starts = [0u64; Holding::MOST_LINES];
+    let mut tags = [0u64; Holding::MOST_LINES];
+    let mut counts = [0u16; Holding::MOST_LINES];
     let held = read_holding(holding, &mut starts, &mut tags, &mut counts);
     if held.line == 0 {
         return Verdict {

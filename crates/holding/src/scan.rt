@@ -31,7 +31,7 @@ pub enum Next {
 fn next_key(text: &[u8], ended: bool, n: usize, before: Key) -> Next
     ensures { λ r. ⌜ keyTaken r ≡ nextAs n (keyList before) (recordAs (now (text .entry)) (heldAs n ended (now (text .entry)))) ⌝ }
 {
-    if Holding::MOST_LINES < n {
+    if Holding::most_lines() < n {
         return Next::Faulty;
     }
     let KindFound::Known(kind) = held_line(text, ended, n) else {

@@ -8,6 +8,8 @@ ghost use Rattle.meaning.specs.Load.{filled};
 ghost use Rattle.places.specs.Places.{says};
 ghost use Rattle.loader.specs.Outcome.{Outcome};
 use crate::load::load;
+use layout::limits::File;
+use layout::limits::Holding;
 use volume::check::Answer;
 use writer::runs::write_holding;
 
@@ -32,9 +34,9 @@ pub fn fill(out: &mut [u8], holding: &[u8], file: &[u8], places: &[u64], count: 
 pub fn apply(holding: &[u8], file: &[u8], out: &mut [u8]) -> Answer
     ensures { λ r. ⌜ Outcome (now (holding .entry)) (now (file .entry)) (length (now (out .entry))) r (now (out .exit)) ⌝ }
 {
-    let mut places = [0u64; 8192];
-    let mut steps = [0u64; 4096];
-    let mut before = [0u64; 4096];
+    let mut places = [0u64; Holding::MOST_LINES];
+    let mut steps = [0u64; File::MOST_BODY_LINES];
+    let mut before = [0u64; File::MOST_BODY_LINES];
     let room = out.len();
     let loaded = load(holding, file, &mut places, &mut steps, &mut before, room);
     let answer = loaded.answer;

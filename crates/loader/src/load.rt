@@ -6,6 +6,7 @@ ghost use Rattle.meaning.specs.Load.{six};
 ghost use Rattle.volume.specs.Answer.{answerOf};
 ghost use Rattle.loader.specs.Loaded.{Loads};
 use holding::read::read_holding;
+use layout::limits::Holding;
 use steps::judge::State;
 use steps::run::Ran;
 use steps::run::run;
@@ -59,8 +60,8 @@ pub fn load(
     requires { ⌜ (8192 ≤ length (now places)) × (4096 ≤ length (now steps)) × (4096 ≤ length (now before)) × (room < 9223372036854775808) ⌝ }
     ensures { λ r. ⌜ Loads (now (holding .entry)) (now (file .entry)) (now (places .exit)) (now (steps .exit)) (now (before .exit)) room r ⌝ }
 {
-    let mut tags = [0u64; 8192];
-    let mut counts = [0u16; 8192];
+    let mut tags = [0u64; Holding::MOST_LINES];
+    let mut counts = [0u16; Holding::MOST_LINES];
     let held = read_holding(holding, &mut *places, &mut tags, &mut counts);
     if held.line != 0 {
         return refused(14, held.line, 0);

@@ -10,6 +10,8 @@ ghost use Rattle.loader.specs.Loaded.{undoText, FitsUndo, Lent};
 ghost use Rattle.loader.specs.Outcome.{UndoOutcome};
 use crate::apply::refuse;
 use crate::load::load;
+use layout::limits::File;
+use layout::limits::Holding;
 use text::lines::line_end;
 use text::put;
 use volume::check::Answer;
@@ -76,9 +78,9 @@ fn fill_undo(
 pub fn undo(holding: &[u8], file: &[u8], out: &mut [u8], work: &mut [u8]) -> Answer
     ensures { λ r. ⌜ UndoOutcome (now (holding .entry)) (now (file .entry)) (length (now (out .entry))) (length (now (work .entry))) r (now (out .exit)) (now (work .exit)) ⌝ }
 {
-    let mut places = [0u64; 8192];
-    let mut steps = [0u64; 4096];
-    let mut before = [0u64; 4096];
+    let mut places = [0u64; Holding::MOST_LINES];
+    let mut steps = [0u64; File::MOST_BODY_LINES];
+    let mut before = [0u64; File::MOST_BODY_LINES];
     let space = work.len();
     put::zeros(&mut *work);
     let loaded = load(holding, file, &mut places, &mut steps, &mut before, space);

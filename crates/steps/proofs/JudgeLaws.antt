@@ -135,13 +135,13 @@ module _ (h f a : List ℕ) (room : ℕ) (s : State) (y : Ready h f a room s) wh
     unfolding ask
     ins-held t = refused ins 10 (s .size) (rw (told-ins, ← q .there, t)) (λ e. omega arith)
 
-    module _ (t : p .stands ≡ false) where
+    module _ (t : p .stands ≡ false) (limit : ℕ) (limited : limit ≡ most) where
       -- 8,192 records are enough
-      pub ins-many : 8192 ≤ s .count → Judges h f a room (change ins (entry h f v)) s (record { code = 16; place = p .place; size = s .size })
+      pub ins-many : limit ≤ s .count → Judges h f a room (change ins (entry h f v)) s (record { code = 16; place = p .place; size = s .size })
       unfolding ask
       ins-many m = refused ins 16 (s .size) (rw (told-ins, ← q .there, t, lt-leb (suc (length (says h f a (s .count)))) most (omega (arith, y .counted)))) (λ e. omega arith)
 
-      module _ (m : s .count < 8192) (b : Bool) (r : b ≡ meets keyed refsOf (says h f a (s .count)) (entry h f v)) where
+      module _ (m : s .count < limit) (b : Bool) (r : b ≡ meets keyed refsOf (says h f a (s .count)) (entry h f v)) where
         few-ok : leb (suc (length (says h f a (s .count)))) most ≡ true
         few-ok = le-leb (suc (length (says h f a (s .count)))) most (omega (arith, y .counted))
 

@@ -85,7 +85,7 @@ pub fn judge_insert(
     if there {
         return verdict(10, i, size);
     }
-    if Holding::MOST_LINES <= count {
+    if Holding::most_lines() <= count {
         return verdict(16, i, size);
     }
     let met = meets(h, f, a, tags, count, v);

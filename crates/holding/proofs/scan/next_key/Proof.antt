@@ -7,6 +7,7 @@ pub next-key-spec : {M : Type 1} → statement M
 next-key-spec =
     tie.close
     (tie.spec
+    (λ c κs. search nexts)  -- most-lines-requires
     (λ c. search nexts)  -- returns
     (λ c κs. search nexts)  -- held-line-requires
     (λ c. search nexts)  -- enum-known-kind

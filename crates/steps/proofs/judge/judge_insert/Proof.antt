@@ -10,6 +10,7 @@ judge-insert-spec =
     (λ c κs. search inserting)  -- find-requires
     (λ c κs. search inserting)  -- verdict-requires
     (λ c. search inserting)  -- returns
+    (λ c κs. search inserting)  -- most-lines-requires
     (λ c κs. search inserting)  -- verdict-requires-2
     (λ c. search inserting)  -- returns-2
     (λ c κs. search inserting)  -- meets-requires
