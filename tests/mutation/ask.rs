@@ -30,7 +30,7 @@ impl Verdict {
 }
 
 /// What the prover says where a proof's text no longer fits the code, so that no fact was tested.
-const SHAPE: [&str; 5] = ["that can be named from here", "binders, but its type has room", "is expected here", "has no field", "is not in scope"];
+const SHAPE: [&str; 3] = ["that can be named from here", "binders, but its type has room", "is expected here"];
 
 fn is_shape(error: &str) -> bool {
     SHAPE.iter().any(|s| error.contains(s))
@@ -113,7 +113,7 @@ impl Copy {
     }
 
     fn checked(&self) -> String {
-        let asked = Command::new("timeout").args(["600", "rt", "dev", &self.name]).current_dir(&self.root).output().unwrap();
+        let asked = Command::new("timeout").args(["300", "rt", "dev", &self.name]).current_dir(&self.root).output().unwrap();
         let said = [asked.stdout, asked.stderr].map(|s| String::from_utf8_lossy(&s).into_owned()).join("\n");
         format!("\n{said}")
     }
@@ -136,6 +136,7 @@ impl Copy {
         match (verdict(&said), mutants) {
             (whole, [_]) => vec![Some(whole)],
             (Verdict::NotCompiled, _) => mutants.iter().map(|m| is_rejected(m, &said).then_some(Verdict::NotCompiled)).collect(),
+            (Verdict::NoVerdict, _) => mutants.iter().map(|_| None).collect(),
             (_, several) => several.iter().map(|m| verdict_of(m.function.as_ref().unwrap(), &said)).collect(),
         }
     }

@@ -87,7 +87,8 @@ fn run(name: &str, mut left: Vec<Mutant>, wanted: usize) -> Vec<(Verdict, Mutant
             }
         }
         settled[before..].iter().for_each(|(v, m)| println!("{}: {}", m.shown(), v.shown()));
-        alone = alone.saturating_sub(1) + again.len().max((several && settled.len() == before) as usize);
+        let none = several && settled.len() == before && again.is_empty();
+        alone = alone.saturating_sub(1) + if none { chosen.len() } else { again.len() };
         again.into_iter().for_each(|m| left.insert(0, m));
     }
 }

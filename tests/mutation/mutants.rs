@@ -96,7 +96,11 @@ impl Code<'_> {
     /// Whether token `i` stands between two values; otherwise `*`, `-` and the like belong to what follows.
     fn is_between(&self, i: usize) -> bool {
         let before = &self.t[i - 1];
-        matches!(before.text, ")" | "]") || before.class == Class::Number || (before.class == Class::Word && !matches!(before.text, "return" | "mut"))
+        match before.class {
+            Class::Word => !matches!(before.text, "return" | "mut"),
+            Class::Number => true,
+            _ => matches!(before.text, ")" | "]"),
+        }
     }
 
     fn one_token(&self, i: usize) -> Vec<Edit> {
