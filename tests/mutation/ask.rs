@@ -30,7 +30,7 @@ impl Verdict {
 }
 
 /// What the prover says where a proof's text no longer fits the code, so that no fact was tested.
-const SHAPE: [&str; 3] = ["that can be named from here", "binders, but its type has room", "is expected here"];
+const SHAPE: [&str; 4] = ["that can be named from here", "binders, but its type has room", "has no field", "is expected here"];
 
 fn is_shape(error: &str) -> bool {
     SHAPE.iter().any(|s| error.contains(s))
