@@ -11,7 +11,7 @@ use borrow.Author.Needs.{needs}
 use borrow.Author.Tests.{not-true, not-false, eq-eqb, ne-eqb}
 use lib.Dec.{T, eqb, eqb→eq}
 use lib.ListN.{length}
-use Rattle.base.specs.Lists.{pick, all, same, some?, bytes}
+use Rattle.base.specs.Lists.{pick, all, same, some?, bytes, zeros}
 use Rattle.base.specs.Tests.{T-true}
 use Rattle.base.specs.ListLaws.{same-eq, same-refl}
 use Rattle.theory.specs.Tri.{Tri, lt, eq, gt, isEq}
@@ -21,29 +21,29 @@ use Rattle.theory.specs.Decimal.{value, valueF}
 use Rattle.theory.specs.Store.{get, gets, Low, Asc}
 use Rattle.theory.specs.StoreLaws.{low-down}
 use Rattle.theory.specs.Place.{rank, ranks}
+use Rattle.theory.specs.Format.{Sound}
+use Rattle.theory.specs.Run.{inserts}
 use Rattle.meaning.specs.Lines.{linesOf}
 use Rattle.meaning.specs.Table.{Kind, bodyLine, role, street, blpu, ident, fields, keyNames, formNamed, enquiries, numberedAmong}
 use Rattle.meaning.specs.Records.{Rec, ownFields, keyOf, keyed, changeTexts}
 use Rattle.meaning.specs.Enquiries.{first, refusal, partOf, heldAt, heldPart, findIn, findKind, find}
 use Rattle.meaning.specs.Holding as meaning
 use Rattle.meaning.specs.Holding.{sound, unsound, readHolding}
-use Rattle.keys.specs.Numbers.{keyNumbers, numbered}
-use Rattle.keys.specs.KeyLaws.{Agree, get-alike, rank-alike, asc-numbered, number-agrees}
-use Rattle.keys.specs.FieldLaws.{numbersIn, narrow}
-use Rattle.theory.specs.Format.{Sound}
-use Rattle.theory.specs.Run.{inserts}
 use Rattle.laws.specs.LinesAndFields.{endsAll}
 use Rattle.laws.specs.SoundHolding.{held-is-sound}
 use Rattle.laws.specs.Body.{fine}
 use Rattle.laws.specs.HoldingReadBack.{always, holding, heldRecords}
+use Rattle.layout.specs.Rows.{padded}
+use Rattle.keys.specs.Numbers.{keyNumbers, numbered}
+use Rattle.keys.specs.KeyLaws.{Agree, get-alike, rank-alike, asc-numbered, number-agrees}
+use Rattle.keys.specs.FieldLaws.{numbersIn, narrow}
+use Rattle.entries.specs.Tags.{tagOf}
+use Rattle.places.specs.Places.{says}
+use Rattle.places.specs.Counts.{byKey}
+use Rattle.places.specs.Tags.{Tagged}
 use Rattle.holding.specs.declared.read.Held.{Held}
 use Rattle.holding.specs.Read.{faultOf, recordsOf, HeldIs}
 use Rattle.holding.proofs.ReadLaws.{held-sound}
-use Rattle.places.specs.Places.{says}
-use Rattle.places.specs.Counts.{byKey}
-use Rattle.places.specs.Tags.{tagOf, Tagged}
-use Rattle.base.specs.Lists.{zeros}
-use Rattle.layout.specs.Rows.{padded}
 use Rattle.enquiries.specs.declared.finding.Finding.{Finding}
 use Rattle.enquiries.specs.Finding.{findingOf}
 use Rattle.enquiries.specs.Found.{lineFound, Enquired}

@@ -32,8 +32,8 @@ use Rattle.volume.specs.declared.check.Answer.{Answer}
 use Rattle.volume.specs.Answer.{answerOf}
 use Rattle.keys.specs.Numbers.{keyNumbers}
 use Rattle.keys.specs.KeyLaws.{kind-told}
-use Rattle.places.specs.Places.{recOf}
-use Rattle.places.proofs.LineLaws.{role-known}
+use Rattle.entries.specs.Entries.{recOf}
+use Rattle.entries.proofs.LineLaws.{role-known}
 use Rattle.holding.specs.declared.read.Held.{Held}
 use Rattle.holding.specs.Read.{recordsOf, HeldIs}
 use Rattle.holding.proofs.ReadLaws.{held-sound}

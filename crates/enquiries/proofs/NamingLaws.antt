@@ -15,12 +15,12 @@ use Rattle.meaning.specs.Lines.{linesOf, fieldsOf}
 use Rattle.meaning.specs.Records.{opOf}
 use Rattle.text.specs.Places.{lineLen, lineEnd}
 use Rattle.text.proofs.LineLaws.{lines-at, lines-end}
-use Rattle.keys.specs.Numbers.{keyNumbers}
-use Rattle.places.specs.Places.{recOf, lineAt}
-use Rattle.places.proofs.EntryLaws.{line-here}
 use Rattle.volume.specs.declared.lines.Change.{Change}
 use Rattle.volume.specs.declared.lines.Change.the-variants.{Insert, Update, Delete}
 use Rattle.volume.specs.Meant.{changeMeant}
+use Rattle.keys.specs.Numbers.{keyNumbers}
+use Rattle.entries.specs.Entries.{recOf, lineAt}
+use Rattle.entries.proofs.EntryLaws.{line-here}
 use Rattle.enquiries.specs.declared.naming.Naming.{Naming}
 use Rattle.enquiries.specs.declared.naming.Naming.the-variants.{Unnamed, Deleted, Named}
 use Rattle.enquiries.specs.Naming.{saidBy, namedBy, laterOf, lastNamed}

@@ -25,8 +25,8 @@ use Rattle.laws.specs.LinePart.{noLine, part-is}
 use Rattle.laws.specs.Find.{FoundIt, find-finds, finds-find}
 use Rattle.laws.specs.Demand2.{Allowed, afterAll}
 use Rattle.laws.specs.InForce.{NamedSays, in-force}
-use Rattle.places.specs.Places.{recOf}
-use Rattle.places.proofs.LineLaws.{rec-change}
+use Rattle.entries.specs.Entries.{recOf}
+use Rattle.entries.proofs.LineLaws.{rec-change}
 use Rattle.enquiries.specs.Handed.{threeList, lentAs, HandedOf}
 use Rattle.enquiries.proofs.FindLaws.{Asked, asked-is}
 use Rattle.enquiries.proofs.ForceLaws.{body-rec}

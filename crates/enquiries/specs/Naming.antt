@@ -10,7 +10,7 @@ use Rattle.theory.specs.Step.{Op, ins, upd, del}
 use Rattle.meaning.specs.Lines.{Line, fieldsOf}
 use Rattle.meaning.specs.Records.{opOf}
 use Rattle.keys.specs.Numbers.{keyNumbers}
-use Rattle.places.specs.Places.{recOf}
+use Rattle.entries.specs.Entries.{recOf}
 use Rattle.enquiries.specs.declared.naming.Naming.{Naming}
 use Rattle.enquiries.specs.declared.naming.Naming.the-variants.{Unnamed, Deleted, Named}
 

@@ -26,11 +26,13 @@ use Rattle.laws.specs.Body.{fine}
 use Rattle.laws.specs.HoldingReadBack.{Scanned, Reads, scanned}
 use Rattle.keys.specs.Numbers.{refNumbers}
 use Rattle.keys.specs.KeyLaws.{meets-agree}
-use Rattle.places.specs.Places.{entry, says}
+use Rattle.entries.specs.Entries.{entry}
+use Rattle.entries.specs.Tags.{tagOf}
+use Rattle.places.specs.Places.{says}
 use Rattle.places.specs.Counts.{times, refers, tally, byKey, moved, Open, Notes}
-use Rattle.places.specs.Tags.{tagOf, Tagged}
+use Rattle.places.specs.Tags.{Tagged}
 use Rattle.places.proofs.SaysLaws.{length-says, says-at}
-use Rattle.places.proofs.ReferenceLaws.{asc-told}
+use Rattle.places.proofs.MetLaws.{asc-told}
 use Rattle.places.proofs.CountLaws.{refs-few, tally-few, tally-more, by-cong, by-nothing, count-all, open-up, has-all}
 use Rattle.holding.specs.declared.read.Held.{Held}
 use Rattle.holding.specs.Read.{faultOf, recordsOf, Listed, ReadAs, CountsAs, HeldIs}

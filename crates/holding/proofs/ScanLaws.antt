@@ -40,12 +40,13 @@ use Rattle.layout.specs.Meant.{kindMeant, kindFound}
 use Rattle.keys.specs.declared.Key.{Key}
 use Rattle.keys.specs.Numbers.{keyList, keyNumbers}
 use Rattle.keys.specs.KeyLaws.{key-agrees}
-use Rattle.places.specs.Places.{entry, says}
+use Rattle.entries.specs.Entries.{entry}
+use Rattle.entries.specs.Tags.{tagOf}
+use Rattle.entries.proofs.EntryLaws.{entry-even, content-told}
+use Rattle.entries.proofs.LineLaws.{held-there}
+use Rattle.places.specs.Places.{says}
 use Rattle.places.specs.Counts.{byKey}
-use Rattle.places.specs.Tags.{tagOf}
-use Rattle.places.proofs.SaysLaws.{entry-even, says-more, says-held, length-says}
-use Rattle.places.proofs.EntryLaws.{content-told}
-use Rattle.places.proofs.LineLaws.{held-there}
+use Rattle.places.proofs.SaysLaws.{says-more, says-held, length-says}
 use Rattle.holding.specs.declared.scan.Next.{Next}
 use Rattle.holding.specs.declared.scan.Next.the-variants.{Taken, Faulty}
 use Rattle.holding.specs.declared.read.Held.{Held}

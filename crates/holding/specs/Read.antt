@@ -9,9 +9,9 @@ use Rattle.theory.specs.Limits.{most}
 use Rattle.meaning.specs.Records.{Rec}
 use Rattle.meaning.specs.Holding as meaning
 use Rattle.meaning.specs.Holding.{sound, unsound, referring, readHolding}
+use Rattle.entries.specs.Tags.{tagOf}
 use Rattle.places.specs.Places.{says}
 use Rattle.places.specs.Counts.{tally, byKey}
-use Rattle.places.specs.Tags.{tagOf}
 use Rattle.holding.specs.declared.read.Held.{Held}
 
 -- the lowest faulty line; a sound holding has none, which is 0

@@ -10,12 +10,12 @@ ghost use Rattle.holding.specs.Held.{heldAs, recordAs, nextAs, keyTaken}
 ghost use Rattle.holding.specs.Read.{ReadAs};
 use crate::held::held_line;
 use crate::read::Held;
+use entries::tags::tag;
 use keys::Key;
 use keys::key_of;
 use keys::order;
 use layout::kinds::KindFound;
 use layout::limits::Holding;
-use places::tags::tag;
 use text::fields::content_start;
 use text::lines::ends_at;
 use text::lines::plain_end;

@@ -25,20 +25,20 @@ use Rattle.laws.specs.SoundHolding.{held-is-sound}
 use Rattle.laws.specs.SoundFile.{SoundFile, read-sound}
 use Rattle.laws.specs.Checks.{held-bytes}
 use Rattle.text.specs.Places.{lineEnd}
+use Rattle.volume.specs.declared.check.Answer.{Answer as Six′}
+use Rattle.volume.specs.Answer.{answerOf}
 use Rattle.places.specs.Places.{says}
 use Rattle.places.specs.Counts.{Counted}
 use Rattle.places.specs.Tags.{Tagged}
-use Rattle.volume.specs.declared.check.Answer.{Answer as Six′}
-use Rattle.volume.specs.Answer.{answerOf}
+use Rattle.places.specs.Changes.{stepsBack}
+use Rattle.places.proofs.BackLaws.{length-back}
 use Rattle.holding.specs.declared.read.Held.{Held}
 use Rattle.holding.specs.Read.{faultOf, recordsOf, HeldIs}
 use Rattle.holding.proofs.ReadLaws.{held-sound}
+use Rattle.judge.specs.Ready.{Ready}
+use Rattle.judge.proofs.JudgeLaws.{ready-in}
 use Rattle.steps.specs.declared.run.Ran.{Ran}
-use Rattle.steps.specs.Ready.{Ready}
 use Rattle.steps.specs.Run.{isFile, changesOf, ranAs, Kept, Runs}
-use Rattle.steps.specs.Back.{stepsBack}
-use Rattle.steps.proofs.BackLaws.{length-back}
-use Rattle.steps.proofs.JudgeLaws.{ready-in}
 use Rattle.writer.specs.Runs.{backTexts}
 use Rattle.loader.specs.declared.load.Loaded.{Loaded}
 use Rattle.loader.specs.Loaded.{numbers, undoText, Loads}

@@ -1,13 +1,9 @@
-pub mod FieldLaws
-pub mod HeadLaws
-pub mod NumberLaws
 pub mod SaysLaws
-pub mod EntryLaws
-pub mod TagLaws
+pub mod TaggedLaws
 pub mod SearchLaws
 pub mod MoveLaws
-pub mod LineLaws
-pub mod ReferenceLaws
+pub mod MetLaws
 pub mod CountLaws
 pub mod CountedLaws
 pub mod NoteLaws
+pub mod BackLaws

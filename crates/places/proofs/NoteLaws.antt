@@ -25,12 +25,12 @@ use Rattle.keys.specs.declared.Key.{Key}
 use Rattle.keys.specs.declared.Referred.{Referred}
 use Rattle.keys.specs.declared.Referred.the-variants.{To, Nothing}
 use Rattle.keys.specs.Numbers.{keyList, referredAs, refNumbers, numbered}
+use Rattle.entries.specs.declared.references.Named.{Named}
+use Rattle.entries.specs.References.{RefersAs}
 use Rattle.places.specs.Places.{says, metBy}
-use Rattle.places.specs.declared.references.Named.{Named}
-use Rattle.places.specs.References.{RefersAs}
 use Rattle.places.specs.Counts.{moved, Movable, noted, notedAll, Open, NotesOne, Notes}
 use Rattle.places.proofs.SearchLaws.{stands-in}
-use Rattle.places.proofs.ReferenceLaws.{met-nothing, met-own, met-told, rows-first, rows-second}
+use Rattle.places.proofs.MetLaws.{met-nothing, met-own, met-told, rows-first, rows-second}
 
 -- ---- counts of nothing
 

@@ -2,11 +2,10 @@
 use mathlib.Core.Path.{_≡_, refl, sym, ap, _∙_}
 use mathlib.Core.Option.{none, some}
 use mathlib.Core.List.{List, [], _∷_, _++_, map, map-append}
-use Prim.Native.Nat.{ℕ, zero, suc, _+_, _-_, _/_, _%_, _≤_, _<_}
+use Prim.Native.Nat.{ℕ, zero, suc, _+_, _-_, _%_, _≤_, _<_}
 use native.Mathlib.Omega.{arith}
 use native.Mathlib.Numerals.{add-one}
 use native.Mathlib.Nat.{add-zero, sub-zero, zero-sub, suc-sub-suc}
-use borrow.Author.Tests.{eq-eqb, ne-eqb}
 use lib.Dec.{T, eqb, eqb→eq}
 use lib.ListN.{length, getD, take, drop, set, length-drop, length-map, take-append-drop}
 use lib.Seq.{drop-cons, length-take-le, getD-take, take-take, set-split, take-at, take-append-add, take-set-lt, take-suc-set, take-nil}
@@ -17,7 +16,8 @@ use Rattle.theory.specs.Place.{rank}
 use Rattle.theory.specs.PlaceLaws.{put-at}
 use Rattle.meaning.specs.Records.{Rec}
 use Rattle.keys.specs.Numbers.{numbered}
-use Rattle.places.specs.Places.{recOf, lineAt, entry, says, opened, closed}
+use Rattle.entries.specs.Entries.{entry}
+use Rattle.places.specs.Places.{says, opened, closed}
 
 -- ---- lists
 
@@ -39,34 +39,6 @@ drop-take zero n s = rw sub-zero
 drop-take (suc c) n [] = rw (take-nil n, take-nil (n - suc c))
 drop-take (suc c) zero (x ∷ s) = rw (zero-sub (suc c))
 drop-take (suc c) (suc n) (x ∷ s) = rw suc-sub-suc (drop-take c n s)
-
--- ---- an entry
-
--- an even entry is a line of the holding
-pub entry-held : (h f : List ℕ) (v : ℕ) → v % 2 ≡ 0 → entry h f v ≡ recOf (lineAt h (v / 2))
-unfolding entry
-entry-held h f v e = rw (eq-eqb (v % 2) 0 e)
-
--- an odd entry is a line of the file
-pub entry-filed : (h f : List ℕ) (v : ℕ) → (v % 2 ≡ 0 → ⊥) → entry h f v ≡ recOf (lineAt f (v / 2))
-unfolding entry
-entry-filed h f v e = rw (ne-eqb (v % 2) 0 e)
-
--- the entry of a line of the holding
-pub entry-even : (h f : List ℕ) (at v : ℕ) → v ≡ at + at → entry h f v ≡ recOf (lineAt h at)
-entry-even h f at v q =
-    let d : v / 2 ≡ at = omega arith in
-    entry-held h f v (omega arith) ∙ rw d
-
--- the entry of a line of the file
-pub entry-odd : (h f : List ℕ) (at v : ℕ) → v ≡ at + at + 1 → entry h f v ≡ recOf (lineAt f at)
-entry-odd h f at v q =
-    let d : v / 2 ≡ at = omega arith in
-    entry-filed h f v (λ e. omega arith) ∙ rw d
-
--- an entry of the holding does not depend on the file
-pub held-any : (h f g : List ℕ) (v : ℕ) → v % 2 ≡ 0 → entry h f v ≡ entry h g v
-held-any h f g v e = entry-held h f v e ∙ sym (entry-held h g v e)
 
 -- ---- what the first n entries say
 

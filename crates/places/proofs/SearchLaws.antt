@@ -21,10 +21,12 @@ use Rattle.theory.specs.PlaceLaws.{rank-scan, rank-stop, ahead-before}
 use Rattle.text.specs.declared.order.Order.{Order}
 use Rattle.text.specs.Order.{triOf}
 use Rattle.keys.specs.Numbers.{keyNumbers, numbered}
-use Rattle.places.specs.Places.{entry, says}
-use Rattle.places.specs.Tags.{tagOf, Tagged}
+use Rattle.entries.specs.Entries.{entry}
+use Rattle.entries.specs.Tags.{tagOf}
+use Rattle.places.specs.Places.{says}
+use Rattle.places.specs.Tags.{Tagged}
 use Rattle.places.proofs.SaysLaws.{length-says, says-at, says-split}
-use Rattle.places.proofs.TagLaws.{tagged-in, tagged-at}
+use Rattle.places.proofs.TaggedLaws.{tagged-in, tagged-at}
 
 -- ---- the search
 

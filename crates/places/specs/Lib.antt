@@ -1,5 +1,4 @@
 pub mod Places
-pub mod Fields
-pub mod References
 pub mod Counts
 pub mod Tags
+pub mod Changes

@@ -6,13 +6,14 @@ ghost use lib.ListN.{length, take};
 ghost use Rattle.base.specs.Lists.{zeros};
 ghost use Rattle.theory.specs.Store.{Asc, cons?};
 ghost use Rattle.keys.specs.Numbers.{keyList, referredAs, numbered, refNumbers};
-ghost use Rattle.places.specs.Places.{entry, says, opened, closed};
+ghost use Rattle.entries.specs.Entries.{entry};
+ghost use Rattle.places.specs.Places.{says, opened, closed};
 ghost use Rattle.places.specs.Counts.{moved, Movable, Open, NotesOne, Notes};
 ghost use Rattle.places.specs.Tags.{Tagged};
-use crate::references::is_same_key;
-use crate::references::references;
 use crate::search::place;
 use crate::search::stands;
+use entries::references::is_same_key;
+use entries::references::references;
 use keys::Key;
 use keys::Referred;
 

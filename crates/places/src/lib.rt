@@ -1,15 +1,9 @@
 // The records in force as an array of places, in key order: bytes stay where they are, and a step moves entries alone.
 //
-// An entry is twice the offset of its line's start, even for the holding and odd for the file. The array is lent, and its first n
-// entries count. `search` finds where a key stands among them, `moves` makes room and closes up, and laws of proofs/ say that the
-// array then says what `put` of the theory says. Beside the entries stand tags, numbers by which most keys are told apart, and counts
-// of how often each record is referred to, each in an array of its own that is moved as the entries are.
-pub mod fields; // the fields of the line at an offset
-pub mod heads; // how such a line begins: its kind, and where its content starts
-pub mod numbers; // the number of a field there
-pub mod entries; // the key of an entry's record
-pub mod tags; // a number for each key, in the order of keys
+// The array is lent, and its first n entries count. `search` finds where a key stands among them, `moves` makes room and closes up, and
+// laws of proofs/ say that the array then says what `put` of the theory says. Beside the entries stand tags, numbers by which most keys
+// are told apart, and counts of how often each record is referred to, each in an array of its own that is moved as the entries are.
 pub mod search; // where a key stands
 pub mod moves; // room made, and closed up
-pub mod references; // whether what a record refers to is met
+pub mod met; // whether what a record refers to is met
 pub mod counts; // how often a record is referred to

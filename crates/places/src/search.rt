@@ -8,10 +8,12 @@ ghost use Rattle.theory.specs.Place.{rank};
 ghost use Rattle.theory.specs.Lex.{lex};
 ghost use Rattle.text.specs.Order.{triOf};
 ghost use Rattle.keys.specs.Numbers.{keyList, keyNumbers, numbered};
-ghost use Rattle.places.specs.Places.{entry, says};
-ghost use Rattle.places.specs.Tags.{tagOf, Tagged};
-use crate::entries::against;
-use crate::tags::tag;
+ghost use Rattle.entries.specs.Entries.{entry};
+ghost use Rattle.entries.specs.Tags.{tagOf};
+ghost use Rattle.places.specs.Places.{says};
+ghost use Rattle.places.specs.Tags.{Tagged};
+use entries::key::against;
+use entries::tags::tag;
 use keys::Key;
 use text::order::Order;
 

@@ -34,20 +34,22 @@ use Rattle.text.specs.Places.{lineLen, lineEnd}
 use Rattle.text.proofs.LineLaws.{lines-at, lines-end}
 use Rattle.layout.specs.declared.kinds.Kind as code
 use Rattle.layout.specs.Meant.{kindMeant}
+use Rattle.volume.specs.declared.lines.Line as read
+use Rattle.volume.specs.Meant.{changeMeant}
+use Rattle.entries.specs.Entries.{known, recOf, lineAt}
+use Rattle.entries.proofs.EntryLaws.{line-here}
+use Rattle.entries.proofs.LineLaws.{role-known}
 use Rattle.places.specs.Counts.{Counted}
 use Rattle.places.specs.Tags.{Tagged}
-use Rattle.places.specs.Places.{known, recOf, lineAt, says}
-use Rattle.places.proofs.EntryLaws.{line-here}
-use Rattle.places.proofs.LineLaws.{role-known}
-use Rattle.volume.specs.declared.lines.Line as read
-use Rattle.steps.specs.declared.judge.State.{State}
+use Rattle.places.specs.Places.{says}
+use Rattle.places.specs.Changes.{change, changeAt, stepsBack}
+use Rattle.places.proofs.BackLaws.{back-turn}
+use Rattle.judge.specs.declared.State.{State}
+use Rattle.judge.specs.Ready.{codeNumber, Ready}
 use Rattle.steps.specs.declared.step.Stepped.{Stepped}
 use Rattle.steps.specs.declared.run.Ran.{Ran}
-use Rattle.volume.specs.Meant.{changeMeant}
-use Rattle.steps.specs.Ready.{change, changeAt, codeNumber, Ready, Carries, Steps}
+use Rattle.steps.specs.Steps.{Carries, Steps}
 use Rattle.steps.specs.Run.{isFile, changesOf, bodyFrom, Runs}
-use Rattle.steps.specs.Back.{stepsBack}
-use Rattle.steps.proofs.BackLaws.{back-turn}
 use Rattle.steps.proofs.StepLaws.{code-none}
 
 -- ---- leaves

@@ -28,28 +28,33 @@ use Rattle.meaning.specs.Holding.{isHeld, written}
 use Rattle.meaning.specs.Load.{fits, stepTests}
 use Rattle.laws.specs.Body.{fine}
 use Rattle.laws.specs.HoldingReadBack.{always}
-use Rattle.keys.specs.Numbers.{keyNumbers, refNumbers, numbered}
-use Rattle.keys.specs.KeyLaws.{put-alike, own-agrees, meets-agree}
 use Rattle.layout.specs.declared.kinds.Kind as code
 use Rattle.layout.specs.declared.kinds.Kind.the-variants.{Header, Street, StreetXref, Blpu, AppXref, Lpi, Metadata, Trailer}
 use Rattle.layout.specs.Meant.{kindMeant}
-use Rattle.places.specs.Places.{recOf, lineAt, entry, says, opened, closed}
-use Rattle.places.specs.Counts.{tally, byKey, Counted, notedAll, Open, Notes}
-use Rattle.places.specs.Tags.{tagOf, Tagged}
-use Rattle.places.proofs.SaysLaws.{entry-odd, put-says, set-says, close-says}
-use Rattle.places.proofs.SearchLaws.{stands-in}
-use Rattle.places.proofs.ReferenceLaws.{asc-told}
-use Rattle.places.proofs.CountLaws.{length-noted, count-open, count-close, count-same}
-use Rattle.places.proofs.CountedLaws.{insert-open, insert-told, old-open, old-met, update-open, update-told, delete-told}
 use Rattle.volume.specs.declared.lines.Change as code-change
 use Rattle.volume.specs.declared.lines.Line.{Line}
 use Rattle.volume.specs.Meant.{changeMeant}
-use Rattle.steps.specs.declared.judge.State.{State}
-use Rattle.steps.specs.declared.judge.Judged.{Judged}
+use Rattle.keys.specs.Numbers.{keyNumbers, refNumbers, numbered}
+use Rattle.keys.specs.KeyLaws.{put-alike, own-agrees, meets-agree}
+use Rattle.entries.specs.Entries.{recOf, lineAt, entry}
+use Rattle.entries.specs.Tags.{tagOf}
+use Rattle.entries.proofs.EntryLaws.{entry-odd}
+use Rattle.places.specs.Places.{says, opened, closed}
+use Rattle.places.specs.Counts.{tally, byKey, Counted, notedAll, Open, Notes}
+use Rattle.places.specs.Tags.{Tagged}
+use Rattle.places.specs.Changes.{change, changeAt}
+use Rattle.places.proofs.SaysLaws.{put-says, set-says, close-says}
+use Rattle.places.proofs.SearchLaws.{stands-in}
+use Rattle.places.proofs.MetLaws.{asc-told}
+use Rattle.places.proofs.CountLaws.{length-noted, count-open, count-close, count-same}
+use Rattle.places.proofs.CountedLaws.{insert-open, insert-told, old-open, old-met, update-open, update-told, delete-told}
+use Rattle.judge.specs.declared.State.{State}
+use Rattle.judge.specs.declared.Judged.{Judged}
+use Rattle.judge.specs.Ready.{codeNumber, Ready, Judges}
+use Rattle.judge.proofs.FindLaws.{get-both, found-at}
+use Rattle.judge.proofs.JudgeLaws.{ready-in, ready-few, none-of}
 use Rattle.steps.specs.declared.step.Stepped.{Stepped}
-use Rattle.steps.specs.Ready.{change, changeAt, codeNumber, Ready, Carries, Judges, Steps}
-use Rattle.steps.proofs.FindLaws.{get-both, found-at}
-use Rattle.steps.proofs.JudgeLaws.{ready-in, ready-few, none-of}
+use Rattle.steps.specs.Steps.{Carries, Steps}
 
 -- ---- a code is never 0
 

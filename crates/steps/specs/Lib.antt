@@ -1,3 +1,2 @@
-pub mod Ready
-pub mod Back
+pub mod Steps
 pub mod Run

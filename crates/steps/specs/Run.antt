@@ -17,11 +17,12 @@ use Rattle.meaning.specs.Records.{Rec, keyed, opOf}
 use Rattle.meaning.specs.Holding.{isHeld}
 use Rattle.meaning.specs.File.{Sheet, readFile, mostBody}
 use Rattle.meaning.specs.Load.{stepTests}
-use Rattle.places.specs.Places.{recOf, says}
-use Rattle.steps.specs.declared.judge.State.{State}
+use Rattle.entries.specs.Entries.{recOf}
+use Rattle.places.specs.Places.{says}
+use Rattle.places.specs.Changes.{change, stepsBack}
+use Rattle.judge.specs.declared.State.{State}
+use Rattle.judge.specs.Ready.{Ready}
 use Rattle.steps.specs.declared.run.Ran.{Ran}
-use Rattle.steps.specs.Ready.{change, Ready}
-use Rattle.steps.specs.Back.{stepsBack}
 
 -- what was read is a sound file
 abbrev pub isFile : Read Sheet → Bool

@@ -1,9 +1,7 @@
 // One step of a file over the records in force, and the run over all of them.
 //
 // The records in force are an array of places with their number and the bytes that they make as a holding, and beside it the tags of their
-// keys and counts of how often each is referred to. A step is judged by what it touches alone, in the order 10 or 11, 16, 12, 13, and only
-// then made: an entry more, another in its place, or one less, with the references that come counted in and those that go counted out.
-pub mod lengths; // how long the records of entries are
-pub mod judge; // the code with which a step is refused
+// keys and counts of how often each is referred to. A step is judged first (`judge`), and only then made: an entry more, another in its
+// place, or one less, with the references that come counted in and those that go counted out.
 pub mod step; // a step made
 pub mod run; // all steps of a file

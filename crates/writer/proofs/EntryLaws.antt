@@ -15,9 +15,9 @@ use Rattle.meaning.specs.Records.{Rec, opOf}
 use Rattle.text.specs.Front.{inFront}
 use Rattle.text.specs.Places.{lineLen, lineEnd, contentStart}
 use Rattle.text.proofs.FieldLaws.{content-part}
-use Rattle.places.specs.Places.{known, recOf, lineAt, entry}
-use Rattle.places.proofs.SaysLaws.{entry-held, entry-filed}
-use Rattle.steps.specs.Back.{opAt}
+use Rattle.entries.specs.Entries.{known, recOf, lineAt, entry}
+use Rattle.entries.proofs.EntryLaws.{entry-held, entry-filed}
+use Rattle.places.specs.Changes.{opAt}
 use Rattle.writer.specs.Lines.{lineBytes}
 use Rattle.writer.proofs.LineLaws.{length-line}
 

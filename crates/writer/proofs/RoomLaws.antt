@@ -13,8 +13,8 @@ use lib.Seq.{take-all}
 use Rattle.theory.specs.Step.{Op, inv, Change}
 use Rattle.theory.specs.Decimal.{width}
 use Rattle.meaning.specs.Records.{Rec, changeText, changeTexts, joined}
-use Rattle.places.specs.Places.{entry}
-use Rattle.steps.specs.Back.{opAt, stepsBack}
+use Rattle.entries.specs.Entries.{entry}
+use Rattle.places.specs.Changes.{opAt, stepsBack}
 use Rattle.writer.specs.Lines.{lineBytes}
 use Rattle.writer.specs.Runs.{backTexts, FitsBack}
 use Rattle.writer.proofs.LineLaws.{length-line}

@@ -15,10 +15,11 @@ use Rattle.theory.specs.Run.{inserts}
 use Rattle.meaning.specs.Records.{Rec, changeText, changeTexts, joined}
 use Rattle.text.specs.Front.{inFront}
 use Rattle.text.proofs.PutLaws.{front-none, front-then}
-use Rattle.places.specs.Places.{entry, says}
+use Rattle.entries.specs.Entries.{entry}
+use Rattle.places.specs.Places.{says}
+use Rattle.places.specs.Changes.{opAt, stepsBack}
 use Rattle.places.proofs.SaysLaws.{length-says, says-at}
-use Rattle.steps.specs.Back.{opAt, stepsBack}
-use Rattle.steps.proofs.BackLaws.{length-back}
+use Rattle.places.proofs.BackLaws.{length-back}
 use Rattle.writer.specs.Lines.{lineBytes}
 use Rattle.writer.proofs.LineLaws.{front-same, front-room}
 

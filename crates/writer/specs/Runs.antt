@@ -6,7 +6,7 @@ use Prim.Native.Nat.{ℕ}
 use lib.Dec.{leb}
 use lib.ListN.{length}
 use Rattle.meaning.specs.Records.{changeTexts, joined}
-use Rattle.steps.specs.Back.{stepsBack}
+use Rattle.places.specs.Changes.{stepsBack}
 
 -- the lines of the first n steps taken back, numbered from 1
 unfoldable pub backTexts : List ℕ → List ℕ → List ℕ → List ℕ → ℕ → List ℕ

@@ -3,9 +3,9 @@ ghost use mathlib.Core.Path.{_≡_};
 ghost use Prim.Native.Nat.{_+_, _≤_};
 ghost use lib.ListN.{length};
 ghost use Rattle.theory.specs.Decimal.{width};
-ghost use Rattle.places.specs.Places.{entry};
+ghost use Rattle.entries.specs.Entries.{entry};
 ghost use Rattle.writer.specs.Runs.{FitsBack};
-use steps::lengths::entry_length;
+use entries::lengths::entry_length;
 use text::numbers::width;
 
 // The bytes of the line of an entry's record, numbered n, whatever its change.

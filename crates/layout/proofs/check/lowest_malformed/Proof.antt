@@ -1,8 +1,7 @@
 -- `layout::check::lowest_malformed` meets its contract.
 use borrow.Author.Needs.{needs}
 use borrow.Author.Tests.{not-false}
-use Rattle.layout.proofs.PassLaws.{passing}
-use Rattle.layout.proofs.PassLaws.{Passing, pass-within, pass-turn}
+use Rattle.layout.proofs.PassLaws.{passing, Passing, pass-within, pass-turn}
 use Prim.Native.Nat.{_-_, _≤_}
 use Rattle.layout.specs.Meant.{kindMeant}
 use Rattle.layout.proofs.check.lowest_malformed.Statement.{statement}

@@ -1,5 +1,5 @@
 -- `places::search::by_tags` meets its contract.
-use Rattle.places.proofs.TagLaws.{tagorder}
+use Rattle.entries.proofs.TagLaws.{tagorder}
 use Rattle.places.proofs.search.by_tags.Statement.{statement}
 use Rattle.places.proofs.search.by_tags.Tie as tie
 

@@ -1,6 +1,5 @@
 -- `text::fields::field_end` meets its contract.
-use Rattle.text.proofs.FieldLaws.{ending}
-use Rattle.text.proofs.FieldLaws.{endAt}
+use Rattle.text.proofs.FieldLaws.{ending, endAt}
 use mathlib.Core.Path.{_≡_}
 use Prim.Native.Nat.{_-_, _≤_}
 use lib.ListN.{length}

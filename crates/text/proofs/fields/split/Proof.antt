@@ -1,6 +1,5 @@
 -- `text::fields::split` meets its contract.
-use Rattle.text.proofs.SplitLaws.{splits}
-use Rattle.text.proofs.SplitLaws.{Splitting, split-sep}
+use Rattle.text.proofs.SplitLaws.{splits, Splitting, split-sep}
 use mathlib.Core.Path.{_≡_}
 use Prim.Native.Nat.{_-_, _≤_}
 use lib.ListN.{length}

@@ -1,6 +1,6 @@
 -- `writer::room::back_fits` meets its contract.
+use Rattle.places.specs.Changes.{stepsBack}
 use Rattle.writer.proofs.RoomLaws.{fitting, Fitting}
-use Rattle.steps.specs.Back.{stepsBack}
 use mathlib.Core.List.{[]}
 use Prim.Native.Nat.{_-_, _≤_}
 use Rattle.writer.proofs.room.back_fits.Statement.{statement}

@@ -1,7 +1,7 @@
 -- `writer::runs::write_back` meets its contract.
-use Rattle.writer.proofs.RunLaws.{Writing, backwards, writing-turn, back-next}
-use Rattle.steps.specs.Back.{stepsBack}
+use Rattle.places.specs.Changes.{stepsBack}
 use Rattle.writer.specs.Runs.{backTexts}
+use Rattle.writer.proofs.RunLaws.{Writing, backwards, writing-turn, back-next}
 use Prim.Native.Nat.{_-_, _≤_}
 use borrow.Author.Needs.{needs}
 use mathlib.Core.Path.{refl}

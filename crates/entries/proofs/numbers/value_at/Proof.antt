@@ -1,0 +1,32 @@
+-- `places::numbers::value_at` meets its contract.
+use Rattle.entries.proofs.NumberLaws.{valuing, leftOf}
+use mathlib.Core.Path.{_≡_}
+use Prim.Native.Nat.{_+_, _-_, _*_, _^_, _≤_}
+use lib.ListN.{take}
+use Rattle.theory.specs.Decimal.{value, valueF}
+use Rattle.entries.specs.Entries.{lineAt}
+use Rattle.entries.specs.Fields.{firstField}
+use Rattle.entries.proofs.numbers.value_at.Statement.{statement}
+use Rattle.entries.proofs.numbers.value_at.Tie as tie
+
+pub value-at-spec : {M : Type 1} → statement M
+value-at-spec =
+    tie.close
+    (tie.spec
+    (λ s at most v₀ k₀ v k. (valueF v (leftOf s at k) ≡ value (take 16 (firstField (lineAt s at)))) × (v + 23 ≤ 23 * 10 ^ k) × (k ≤ most))
+    (λ s at most v₀ k₀ v k. most - k)
+    (λ c κs. search valuing)  -- room-requires
+    (λ c. search valuing)  -- loop-holds
+    (λ c. search valuing)  -- add-b
+    (λ c. search valuing)  -- shared-slice-read-b
+    (λ c. search valuing)  -- returns
+    (λ c κs. search valuing)  -- first-field-requires
+    (λ c κs. search valuing)  -- plain-number-requires
+    (λ c. search valuing)  -- returns-2
+    (λ c. search valuing)  -- mul-v
+    (λ c κs. search valuing)  -- digit-above-requires
+    (λ c. search valuing)  -- add-v
+    (λ c. search valuing)  -- add-k
+    (λ c. search valuing)  -- loop-less
+    (λ c. search valuing)  -- loop-again
+    (λ c. search valuing))  -- returns-3

@@ -1,0 +1,4 @@
+pub mod Entries
+pub mod Fields
+pub mod References
+pub mod Tags

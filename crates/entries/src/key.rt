@@ -1,0 +1,124 @@
+// The key of the record that a line carries, and of an entry's.
+ghost use mathlib.Core.Path.{_≡_};
+ghost use mathlib.Core.List.{[], _∷_};
+ghost use Prim.Native.Nat.{_≤_};
+ghost use lib.ListN.{length};
+ghost use Rattle.theory.specs.Lex.{lex};
+ghost use Rattle.meaning.specs.Lines.{identifier};
+ghost use Rattle.meaning.specs.Table.{kindOf};
+ghost use Rattle.text.specs.Order.{triOf};
+ghost use Rattle.layout.specs.Meant.{kindMeant};
+ghost use Rattle.keys.specs.Numbers.{keyList, keyNumbers};
+ghost use Rattle.entries.specs.Entries.{known, recOf, lineAt, entry};
+ghost use Rattle.entries.specs.Fields.{afterFields, restNumbers};
+use crate::fields::line_start;
+use crate::heads::content_at;
+use crate::heads::kind_at;
+use crate::numbers::first_number;
+use crate::numbers::number_at;
+use keys::Key;
+use layout::kinds::Kind;
+use layout::kinds::KindFound;
+use layout::rules::layout;
+use text::order::Order;
+use text::order::numbers;
+
+// The kind of a line; an unknown one is taken for a header's.
+pub fn line_kind(line: &[u8]) -> Kind
+    ensures { λ r. ⌜ kindMeant r ≡ known (kindOf (identifier (now (line .entry)))) ⌝ }
+{
+    let end = text::fields::identifier_end(line);
+    match layout::check::kind_of(&line[0..end]) {
+        KindFound::Known(kind) => kind,
+        KindFound::Unknown => Kind::Header,
+    }
+}
+
+// The key of a record whose content stands in the line from `content` on.
+pub fn key_at(kind: Kind, s: &[u8], content: usize) -> Key
+    requires { ⌜ content ≤ length (now s) ⌝ }
+    ensures { λ r. ⌜ keyList r ≡ keyNumbers (record { kind = kindMeant kind; content = lineAt (now (s .entry)) content }) ⌝ }
+{
+    let l = layout(kind);
+    let places = l.key;
+    let first = number_at(kind, s, content, places[0]);
+    let second = number_at(kind, s, content, places[1]);
+    let third = number_at(kind, s, content, places[2]);
+    Key {
+        kind: l.number,
+        first: first,
+        second: second,
+        third: third,
+    }
+}
+
+// The key of the record whose line starts at `at`; past the end stands an empty line.
+pub fn record_key(s: &[u8], at: usize) -> Key
+    ensures { λ r. ⌜ keyList r ≡ keyNumbers (recOf (lineAt (now (s .entry)) at)) ⌝ }
+{
+    let start = line_start(s, at);
+    let kind = kind_at(s, start);
+    key_at(kind, s, content_at(s, start))
+}
+
+// The key of an entry's record.
+pub fn entry_key(h: &[u8], f: &[u8], v: u64) -> Key
+    ensures { λ r. ⌜ keyList r ≡ keyNumbers (entry (now (h .entry)) (now (f .entry)) v) ⌝ }
+{
+    let at = (v / 2) as usize;
+    if v % 2 == 0 {
+        return record_key(h, at);
+    }
+    record_key(f, at)
+}
+
+// How the second and third numbers of a key stand to those of a record whose content stands in the line from `content` on.
+fn rest_against(kind: Kind, s: &[u8], content: usize, k: Key) -> Order
+    requires { ⌜ content ≤ length (now s) ⌝ }
+    ensures { λ r. ⌜ triOf r ≡ lex (k .second ∷ (k .third ∷ [])) (restNumbers (kindMeant kind) (lineAt (now (s .entry)) content)) ⌝ }
+{
+    let l = layout(kind);
+    let places = l.key;
+    let second = number_at(kind, s, content, places[1]);
+    if k.second != second {
+        return numbers(k.second, second);
+    }
+    numbers(k.third, number_at(kind, s, content, places[2]))
+}
+
+// How a key stands to that of a record of a kind in the line from `start` on: no field is read where the kinds tell, and no second
+// field where the first ones do.
+fn against_at(kind: Kind, s: &[u8], start: usize, k: Key) -> Order
+    requires { ⌜ start ≤ length (now s) ⌝ }
+    ensures { λ r. ⌜ triOf r ≡ lex (keyList k) (keyNumbers (record { kind = kindMeant kind; content = afterFields 3 (lineAt (now (s .entry)) start) })) ⌝ }
+{
+    let l = layout(kind);
+    if k.kind != l.number {
+        return numbers(k.kind, l.number);
+    }
+    let content = content_at(s, start);
+    let first = first_number(kind, s, content);
+    if k.first != first {
+        return numbers(k.first, first);
+    }
+    rest_against(kind, s, content, k)
+}
+
+// How a key stands to that of the record whose line starts at `at`.
+pub fn against_line(s: &[u8], at: usize, k: Key) -> Order
+    ensures { λ r. ⌜ triOf r ≡ lex (keyList k) (keyNumbers (recOf (lineAt (now (s .entry)) at))) ⌝ }
+{
+    let start = line_start(s, at);
+    against_at(kind_at(s, start), s, start, k)
+}
+
+// How a key stands to an entry's.
+pub fn against(h: &[u8], f: &[u8], v: u64, k: Key) -> Order
+    ensures { λ r. ⌜ triOf r ≡ lex (keyList k) (keyNumbers (entry (now (h .entry)) (now (f .entry)) v)) ⌝ }
+{
+    let at = (v / 2) as usize;
+    if v % 2 == 0 {
+        return against_line(h, at, k);
+    }
+    against_line(f, at, k)
+}

@@ -1,0 +1,287 @@
+-- The laws by which a step is judged: one for each way out.
+use mathlib.Core.Path.{_≡_, refl, sym, ap, _∙_, subst}
+use mathlib.Core.Bool.{Bool, true, false, not}
+use mathlib.Core.Option.{Option, none, some}
+use mathlib.Core.List.{List, [], _∷_, _++_}
+use Prim.Native.Nat.{ℕ, suc, _+_, _-_, _≤_, _<_, max}
+use native.Mathlib.Omega.{arith}
+use borrow.Author.Needs.{needs}
+use borrow.Author.Tests.{not-true, not-false, le-leb, lt-leb, eq-eqb, ne-eqb}
+use mir.Syntax.{w64}
+use mir.Val.{Fits}
+use lib.Dec.{T, leb, leb→le, eqb, eqb→eq}
+use lib.ListN.{length, getD, length-append}
+use Rattle.base.specs.Lists.{all, some?, bytes, ask}
+use Rattle.base.specs.Tests.{and-l, and-r, T-true}
+use Rattle.theory.specs.Store.{get, put}
+use Rattle.theory.specs.Refs.{has, meets, clear}
+use Rattle.theory.specs.Decimal.{width}
+use Rattle.theory.specs.Limits.{most, few}
+use Rattle.theory.specs.Written.{render, bare, size}
+use Rattle.theory.specs.WrittenLaws.{size-ins, size-upd, size-del}
+use Rattle.theory.specs.Step.{Op, ins, upd, del, Change, judge, after}
+use Rattle.theory.specs.Fast.{fast, fewAfter, metAfter, sizeAfter}
+use Rattle.meaning.specs.Table.{Kind, kinds, ident}
+use Rattle.meaning.specs.Records.{Rec, keyed, keyOf, refsOf, letter}
+use Rattle.meaning.specs.Holding.{written}
+use Rattle.meaning.specs.Load.{stepTests}
+use Rattle.laws.specs.Kinds.{every}
+use Rattle.laws.specs.Body.{fine}
+use Rattle.laws.specs.FastStep.{printed, written-render, written-length, fast-step}
+use Rattle.keys.specs.Numbers.{keyNumbers, refNumbers, numbered}
+use Rattle.keys.specs.KeyLaws.{clear-agree}
+use Rattle.entries.specs.Entries.{entry}
+use Rattle.places.specs.Places.{says}
+use Rattle.places.specs.Counts.{tally, Counted}
+use Rattle.places.specs.Changes.{change}
+use Rattle.places.proofs.SearchLaws.{stands-in}
+use Rattle.places.proofs.MetLaws.{asc-told}
+use Rattle.places.proofs.CountLaws.{clear-tally, count-at}
+use Rattle.judge.specs.declared.State.{State}
+use Rattle.judge.specs.declared.Found.{Found}
+use Rattle.judge.specs.declared.Judged.{Judged}
+use Rattle.judge.specs.Ready.{codeNumber, Ready, Finds, Judges}
+use Rattle.judge.proofs.FindLaws.{get-both, found-at}
+
+-- ---- lengths of lines
+
+ident-long : (k : Kind) → length (ident k) ≡ 2
+unfolding kinds ident bytes
+ident-long k = eqb→eq (length (ident k)) 2 (every (λ k. eqb (length (ident k)) 2) tt k)
+
+-- a record's line has ten bytes round its content and number
+pub bare-is : (r : Rec) → bare printed r ≡ length (r .content) + 10
+unfolding bare letter bytes
+bare-is r = omega (arith, ident-long (r .kind), length-append (ident (r .kind)) (44 ∷ (letter ins ++ (44 ∷ []))), length-append (r .content) (13 ∷ 10 ∷ []))
+
+-- where nothing is, none is
+pub none-of : {A : Type 0} (o : Option A) → some? o ≡ false → o ≡ none
+none-of none e = refl
+none-of (some x) e = absurd (subst T e tt)
+
+-- no sound record refers to a sound one by its numbers where none does by its key
+clear-all : (x : Rec) (st : List Rec) → T (fine x) → T (all fine st) → all (clear numbered refNumbers (keyNumbers x)) st ≡ all (clear keyed refsOf (keyOf x)) st
+clear-all x [] g h = refl
+clear-all x (r ∷ rs) g h = rw (clear-agree r x (and-l (fine r) (all fine rs) h) g, clear-all x rs g (and-r (fine r) (all fine rs) h))
+
+-- ---- what a state that is ready for a step gives
+
+module _ (h f a : List ℕ) (room : ℕ) (s : State) (y : Ready h f a room s) where
+  -- there are not too many records
+  pub ready-few : s .count ≤ 8192
+  unfolding few
+  ready-few = omega (arith, y .counted, leb→le (length (says h f a (s .count))) most (and-l (few (says h f a (s .count))) _ (y .pass)))
+
+  -- they are within the array
+  pub ready-in : s .count ≤ length a
+  ready-in = omega (arith, ready-few, y .space)
+
+  -- the bytes fit the room
+  pub ready-fits : s .size ≤ room
+  ready-fits = y .fits
+
+  -- lengths of records can be added
+  pub long-fits : (m : ℕ) → m ≤ max (length h) (length f) → Fits w64 (m + 10)
+  long-fits m l = record { fits = omega (arith, y .heldShort, y .fileShort) }
+
+  -- and so can the digits of a number
+  pub wide-fits : (m w : ℕ) → m ≤ max (length h) (length f) → w ≤ 20 → Fits w64 (m + 10 + w)
+  wide-fits m w l k = record { fits = omega (arith, y .heldShort, y .fileShort) }
+
+  -- and so can what there is room for
+  pub room-fits : (t : ℕ) → t ≤ room - s .size → Fits w64 (s .size + t)
+  room-fits t l = record { fits = omega (arith, y .fits, y .roomShort) }
+
+  rendered : length (render printed (says h f a (s .count))) ≡ s .size
+  rendered = sym (ap length (written-render (says h f a (s .count)))) ∙ sym (y .sized)
+
+  sizes : size printed (says h f a (s .count)) ≡ s .size
+  sizes = sym (written-length (says h f a (s .count))) ∙ sym (y .sized)
+
+  module _ (v : ℕ) (g : T (fine (entry h f v))) (p : Found) (q : Finds h f a (s .count) v p) where
+    at-none : p .stands ≡ false → get keyed (keyOf (entry h f v)) (says h f a (s .count)) ≡ none
+    at-none t = none-of (get keyed (keyOf (entry h f v)) (says h f a (s .count))) (sym (q .there) ∙ t)
+
+    stood : p .stands ≡ true → T (some? (get numbered (keyNumbers (entry h f v)) (says h f a (s .count))))
+    stood t = rw (get-both (says h f a (s .count)) (entry h f v) (y .fines) g, sym (q .there) ∙ t) tt
+
+    at-some : p .stands ≡ true → get keyed (keyOf (entry h f v)) (says h f a (s .count)) ≡ some (entry h f (getD a (p .place) 0))
+    at-some t =
+        sym (get-both (says h f a (s .count)) (entry h f v) (y .fines) g)
+        ∙ found-at h f a (keyNumbers (entry h f v)) (s .count) (p .place) ready-in (q .placed) (stood t)
+
+    -- the place of a key that stands is in the array
+    pub place-in : p .stands ≡ true → p .place < length a
+    place-in t = omega (arith, ready-in, stands-in h f a (s .count) (p .place) (keyNumbers (entry h f v)) ready-in (q .placed) (some? (get numbered (keyNumbers (entry h f v)) (says h f a (s .count)))) refl (T-true _ (stood t)))
+
+    refused : (o : Op) (w z : ℕ) → w ≡ codeNumber (judge keyed (stepTests room) (says h f a (s .count)) (change o (entry h f v))) → (w ≡ 0 → ⊥)
+        → Judges h f a room (change o (entry h f v)) s (record { code = w; place = p .place; size = z })
+    refused o w z e n = record { coded = e; placed = q .placed; within = q .within; sized = λ u. absurd (n u) }
+
+    taken : (o : Op) (z : ℕ) → judge keyed (stepTests room) (says h f a (s .count)) (change o (entry h f v)) ≡ none → z ≡ length (written (after keyed (says h f a (s .count)) (change o (entry h f v))))
+        → Judges h f a room (change o (entry h f v)) s (record { code = 0; place = p .place; size = z })
+    taken o z e n = record { coded = rw e; placed = q .placed; within = q .within; sized = λ u. n }
+
+    -- ---- insert
+
+    told-ins : judge keyed (stepTests room) (says h f a (s .count)) (change ins (entry h f v))
+        ≡ ask (not (some? (get keyed (keyOf (entry h f v)) (says h f a (s .count))))) 10
+        (ask (leb (suc (length (says h f a (s .count)))) most) 16
+        (ask (meets keyed refsOf (says h f a (s .count)) (entry h f v)) 12
+        (ask (leb (length (render printed (says h f a (s .count))) + bare printed (entry h f v) + width (suc (length (says h f a (s .count))))) room) 13 none)))
+    unfolding fast fewAfter metAfter sizeAfter
+    told-ins = fast-step room (says h f a (s .count)) (change ins (entry h f v)) (y .asc) (y .pass)
+
+    -- a key that stands is not inserted
+    pub ins-held : p .stands ≡ true → Judges h f a room (change ins (entry h f v)) s (record { code = 10; place = p .place; size = s .size })
+    unfolding ask
+    ins-held t = refused ins 10 (s .size) (rw (told-ins, ← q .there, t)) (λ e. omega arith)
+
+    module _ (t : p .stands ≡ false) (limit : ℕ) (limited : limit ≡ most) where
+      -- 8,192 records are enough
+      pub ins-many : limit ≤ s .count → Judges h f a room (change ins (entry h f v)) s (record { code = 16; place = p .place; size = s .size })
+      unfolding ask
+      ins-many m = refused ins 16 (s .size) (rw (told-ins, ← q .there, t, lt-leb (suc (length (says h f a (s .count)))) most (omega (arith, y .counted)))) (λ e. omega arith)
+
+      module _ (m : s .count < limit) (b : Bool) (r : b ≡ meets keyed refsOf (says h f a (s .count)) (entry h f v)) where
+        few-ok : leb (suc (length (says h f a (s .count)))) most ≡ true
+        few-ok = le-leb (suc (length (says h f a (s .count)))) most (omega (arith, y .counted))
+
+        -- its references must be met
+        pub ins-unmet : b ≡ false → Judges h f a room (change ins (entry h f v)) s (record { code = 12; place = p .place; size = s .size })
+        unfolding ask
+        ins-unmet u = refused ins 12 (s .size) (rw (told-ins, ← q .there, t, few-ok, ← r, u)) (λ e. omega arith)
+
+        module _ (u : b ≡ true) (l w : ℕ) (d : l ≡ length (entry h f v .content)) (e : w ≡ width (s .count + 1)) where
+          wider : width (suc (length (says h f a (s .count)))) ≡ w
+          wider =
+              let i : suc (length (says h f a (s .count))) ≡ s .count + 1 = omega (arith, y .counted) in
+              rw i (sym e)
+
+          grown : length (render printed (says h f a (s .count))) + bare printed (entry h f v) + width (suc (length (says h f a (s .count)))) ≡ s .size + (l + 10 + w)
+          grown = omega (arith, rendered, bare-is (entry h f v), wider)
+
+          -- it must fit
+          pub ins-long : room - s .size < l + 10 + w → Judges h f a room (change ins (entry h f v)) s (record { code = 13; place = p .place; size = s .size })
+          unfolding ask
+          ins-long x = refused ins 13 (s .size) (rw (told-ins, ← q .there, t, few-ok, ← r, u, grown, lt-leb (s .size + (l + 10 + w)) room (omega (arith, y .fits)))) (λ e. omega arith)
+
+          ins-sized : s .size + (l + 10 + w) ≡ length (written (after keyed (says h f a (s .count)) (change ins (entry h f v))))
+          unfolding after
+          ins-sized = omega (arith, written-length (put keyed (keyOf (entry h f v)) (some (entry h f v)) (says h f a (s .count))), size-ins keyed printed (keyOf (entry h f v)) (entry h f v) (says h f a (s .count)) (at-none t), sizes, bare-is (entry h f v), wider)
+
+          -- else it is taken
+          pub ins-taken : l + 10 + w ≤ room - s .size → Judges h f a room (change ins (entry h f v)) s (record { code = 0; place = p .place; size = s .size + (l + 10 + w) })
+          unfolding ask
+          ins-taken x = taken ins (s .size + (l + 10 + w)) (rw (told-ins, ← q .there, t, few-ok, ← r, u, grown, le-leb (s .size + (l + 10 + w)) room (omega (arith, y .fits)))) ins-sized
+
+    -- ---- update
+
+    -- a key that stands nowhere is not updated
+    pub upd-absent : p .stands ≡ false → Judges h f a room (change upd (entry h f v)) s (record { code = 11; place = p .place; size = s .size })
+    unfolding ask fast
+    upd-absent t = refused upd 11 (s .size) (rw (fast-step room (says h f a (s .count)) (change upd (entry h f v)) (y .asc) (y .pass), at-none t)) (λ e. omega arith)
+
+    module _ (t : p .stands ≡ true) where
+      told-upd : judge keyed (stepTests room) (says h f a (s .count)) (change upd (entry h f v))
+          ≡ ask (meets keyed refsOf (says h f a (s .count)) (entry h f v)) 12
+          (ask (leb (length (render printed (says h f a (s .count))) + bare printed (entry h f v) - bare printed (entry h f (getD a (p .place) 0))) room) 13 none)
+      unfolding fast fewAfter metAfter sizeAfter ask
+      told-upd = fast-step room (says h f a (s .count)) (change upd (entry h f v)) (y .asc) (y .pass) ∙ rw (at-some t)
+
+      module _ (b : Bool) (r : b ≡ meets keyed refsOf (says h f a (s .count)) (entry h f v)) where
+        -- its references must be met
+        pub upd-unmet : b ≡ false → Judges h f a room (change upd (entry h f v)) s (record { code = 12; place = p .place; size = s .size })
+        unfolding ask
+        upd-unmet u = refused upd 12 (s .size) (rw (told-upd, ← r, u)) (λ e. omega arith)
+
+        module _ (l n : ℕ) (d : l ≡ length (entry h f (getD a (p .place) 0) .content)) (e : n ≡ length (entry h f v .content)) where
+          upd-sized : length (written (after keyed (says h f a (s .count)) (change upd (entry h f v)))) + l ≡ s .size + n
+          unfolding after
+          upd-sized = omega (arith, written-length (put keyed (keyOf (entry h f v)) (some (entry h f v)) (says h f a (s .count))), size-upd keyed printed (keyOf (entry h f v)) (entry h f (getD a (p .place) 0)) (entry h f v) (says h f a (s .count)) (at-some t), sizes, bare-is (entry h f v), bare-is (entry h f (getD a (p .place) 0)))
+
+          upd-changed : length (render printed (says h f a (s .count))) + bare printed (entry h f v) - bare printed (entry h f (getD a (p .place) 0)) ≡ s .size + n - l
+          upd-changed = omega (arith, rendered, bare-is (entry h f v), bare-is (entry h f (getD a (p .place) 0)))
+
+          -- a shorter record leaves what is not its own
+          pub upd-room : n ≤ l → l - n ≤ s .size
+          upd-room x = omega (arith, upd-sized)
+
+          module _ (u : b ≡ true) where
+            -- a record that is no longer always fits
+            pub upd-shorter : n ≤ l → Judges h f a room (change upd (entry h f v)) s (record { code = 0; place = p .place; size = s .size - (l - n) })
+            unfolding ask
+            upd-shorter x = taken upd (s .size - (l - n)) (rw (told-upd, ← r, u, upd-changed, le-leb (s .size + n - l) room (omega (arith, y .fits)))) (omega (arith, upd-sized))
+
+            -- a longer one must fit
+            pub upd-long : l < n → room - s .size < n - l → Judges h f a room (change upd (entry h f v)) s (record { code = 13; place = p .place; size = s .size })
+            unfolding ask
+            upd-long x z = refused upd 13 (s .size) (rw (told-upd, ← r, u, upd-changed, lt-leb (s .size + n - l) room (omega (arith, y .fits)))) (λ e. omega arith)
+
+            -- else it is taken
+            pub upd-longer : l < n → n - l ≤ room - s .size → Judges h f a room (change upd (entry h f v)) s (record { code = 0; place = p .place; size = s .size + (n - l) })
+            unfolding ask
+            upd-longer x z = taken upd (s .size + (n - l)) (rw (told-upd, ← r, u, upd-changed, le-leb (s .size + n - l) room (omega (arith, y .fits)))) (omega (arith, upd-sized))
+
+    -- ---- delete
+
+    -- a key that stands nowhere is not deleted
+    pub del-absent : p .stands ≡ false → Judges h f a room (change del (entry h f v)) s (record { code = 11; place = p .place; size = s .size })
+    unfolding ask fast
+    del-absent t = refused del 11 (s .size) (rw (fast-step room (says h f a (s .count)) (change del (entry h f v)) (y .asc) (y .pass), at-none t)) (λ e. omega arith)
+
+    module _ (t : p .stands ≡ true) where
+      told-del : judge keyed (stepTests room) (says h f a (s .count)) (change del (entry h f v))
+          ≡ ask (all (clear keyed refsOf (keyOf (entry h f v))) (says h f a (s .count))) 12
+          (ask (leb (length (render printed (says h f a (s .count))) - bare printed (entry h f (getD a (p .place) 0)) - width (length (says h f a (s .count)))) room) 13 none)
+      unfolding fast fewAfter metAfter sizeAfter ask
+      told-del = fast-step room (says h f a (s .count)) (change del (entry h f v)) (y .asc) (y .pass) ∙ rw (at-some t)
+
+      module _ (c : List ℕ) (k : Counted h f a c (s .count)) where
+        -- its count is beside it
+        pub count-in : p .place < length c
+        count-in = omega (arith, k .space, ready-few, stands-in h f a (s .count) (p .place) (keyNumbers (entry h f v)) ready-in (q .placed) (some? (get numbered (keyNumbers (entry h f v)) (says h f a (s .count)))) refl (T-true _ (stood t)))
+
+        counts : getD c (p .place) 0 ≡ tally (says h f a (s .count)) (keyNumbers (entry h f v))
+        unfolding has
+        counts =
+            ap (λ i. getD c i 0) (q .placed)
+            ∙ count-at (says h f a (s .count)) (asc-told (says h f a (s .count)) (y .asc) (y .fines)) (s .count) (y .counted) true (tally (says h f a (s .count))) c (k .told) (keyNumbers (entry h f v)) (stood t)
+
+        seen : all (clear keyed refsOf (keyOf (entry h f v))) (says h f a (s .count)) ≡ eqb (getD c (p .place) 0) 0
+        seen = sym (clear-all (entry h f v) (says h f a (s .count)) g (y .fines)) ∙ clear-tally (keyNumbers (entry h f v)) (says h f a (s .count)) ∙ ap (λ n. eqb n 0) (sym counts)
+
+        -- no record may refer to the one that goes
+        pub del-met : (getD c (p .place) 0 ≡ 0 → ⊥) → Judges h f a room (change del (entry h f v)) s (record { code = 12; place = p .place; size = s .size })
+        unfolding ask
+        del-met u = refused del 12 (s .size) (rw (told-del, seen, ne-eqb (getD c (p .place) 0) 0 u)) (λ e. omega arith)
+
+      module _ (l w : ℕ) (d : l ≡ length (entry h f (getD a (p .place) 0) .content)) (e : w ≡ width (s .count)) where
+        narrower : width (length (says h f a (s .count))) ≡ w
+        narrower = ap width (sym (y .counted)) ∙ sym e
+
+        del-sized : length (written (after keyed (says h f a (s .count)) (change del (entry h f v)))) + (l + 10 + w) ≡ s .size
+        unfolding after
+        del-sized = omega (arith, written-length (put keyed (keyOf (entry h f v)) none (says h f a (s .count))), size-del keyed printed (keyOf (entry h f v)) (entry h f (getD a (p .place) 0)) (says h f a (s .count)) (at-some t), sizes, bare-is (entry h f (getD a (p .place) 0)), narrower)
+
+        -- its line was written
+        pub del-room : l + 10 + w ≤ s .size
+        del-room = omega (arith, del-sized)
+
+        -- else it is taken
+        pub del-taken : (c : List ℕ) → Counted h f a c (s .count) → getD c (p .place) 0 ≡ 0
+            → Judges h f a room (change del (entry h f v)) s (record { code = 0; place = p .place; size = s .size - (l + 10 + w) })
+        unfolding ask
+        del-taken c k u =
+            let x : length (render printed (says h f a (s .count))) - bare printed (entry h f (getD a (p .place) 0)) - width (length (says h f a (s .count))) ≤ room = omega (arith, rendered, y .fits) in
+            taken del (s .size - (l + 10 + w)) (rw (told-del, seen c k, eq-eqb (getD c (p .place) 0) 0 u, le-leb (length (render printed (says h f a (s .count))) - bare printed (entry h f (getD a (p .place) 0)) - width (length (says h f a (s .count)))) room x)) (omega (arith, del-sized))
+
+-- what is told is judged as it was put together
+pub judged-told : (h f a : List ℕ) (room : ℕ) (c : Change Rec) (s : State) (x y : Judged) → x ≡ y → Judges h f a room c s y → Judges h f a room c s x
+judged-told h f a room c s x y e j = rw e j
+
+pub ruleset inserting = (needs, judged-told, not-true, not-false, ready-in, ready-fits, long-fits, wide-fits, room-fits, ins-held, ins-many, ins-unmet, ins-long, ins-taken)
+
+pub ruleset updating = (needs, judged-told, not-true, not-false, ready-in, ready-fits, room-fits, place-in, upd-absent, upd-unmet, upd-room, upd-shorter, upd-long, upd-longer)
+
+pub ruleset deleting = (needs, judged-told, not-true, not-false, ready-in, ready-fits, long-fits, wide-fits, place-in, count-in, del-absent, del-met, del-room, del-taken)
