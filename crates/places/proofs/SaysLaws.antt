@@ -17,6 +17,7 @@ use Rattle.theory.specs.PlaceLaws.{put-at}
 use Rattle.meaning.specs.Records.{Rec}
 use Rattle.keys.specs.Numbers.{numbered}
 use Rattle.entries.specs.Entries.{entry}
+use Rattle.entries.proofs.EntryLaws.{held-any}
 use Rattle.places.specs.Places.{says, opened, closed}
 
 -- ---- lists

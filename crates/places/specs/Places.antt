@@ -7,6 +7,7 @@ use lib.ListN.{take, drop}
 use Rattle.theory.specs.Refs.{apart, has}
 use Rattle.meaning.specs.Records.{Rec}
 use Rattle.keys.specs.Numbers.{numbered}
+use Rattle.entries.specs.Entries.{entry}
 
 -- the records that the first n entries say
 unfoldable pub says : List ℕ → List ℕ → List ℕ → ℕ → List Rec

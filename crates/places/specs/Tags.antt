@@ -3,6 +3,7 @@ use mathlib.Core.Path.{_≡_}
 use mathlib.Core.List.{List}
 use Prim.Native.Nat.{ℕ, _≤_}
 use lib.ListN.{length, take}
+use Rattle.entries.specs.Tags.{tagOf}
 use Rattle.places.specs.Places.{says}
 use Rattle.places.specs.Counts.{byKey}
 

@@ -17,7 +17,9 @@ use Rattle.entries.specs.Entries.{entry}
 use Rattle.places.specs.Places.{says}
 use Rattle.places.specs.Counts.{Counted}
 use Rattle.places.specs.Tags.{Tagged}
+use Rattle.places.specs.Changes.{changeAt}
 use Rattle.judge.specs.declared.State.{State}
+use Rattle.judge.specs.Ready.{codeNumber, Ready}
 use Rattle.steps.specs.declared.step.Stepped.{Stepped}
 
 -- the array says the state after the change, ready for the next, tagged and counted, and the entry before is of the record that stood at the key, or of the change's own
