@@ -6,8 +6,8 @@ ghost use Rattle.meaning.specs.Holding.{written};
 ghost use Rattle.text.specs.Front.{inFront};
 ghost use Rattle.places.specs.Places.{says};
 ghost use Rattle.writer.specs.Runs.{backTexts};
-use crate::entries::put_entry;
-use crate::entries::step_back;
+use crate::entry::put_entry;
+use crate::entry::step_back;
 use volume::lines::Change;
 
 // The records of the first n entries, as inserts.

@@ -1,7 +1,7 @@
 -- `writer::entries::put_text` meets its contract.
 use Rattle.writer.proofs.EntryLaws.{textline}
-use Rattle.writer.proofs.entries.put_text.Statement.{statement}
-use Rattle.writer.proofs.entries.put_text.Tie as tie
+use Rattle.writer.proofs.entry.put_text.Statement.{statement}
+use Rattle.writer.proofs.entry.put_text.Tie as tie
 
 pub put-text-spec : {M : Type 1} → statement M
 put-text-spec =

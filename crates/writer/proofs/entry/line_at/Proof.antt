@@ -1,7 +1,7 @@
 -- `writer::entries::line_at` meets its contract.
 use Rattle.writer.proofs.EntryLaws.{lineat}
-use Rattle.writer.proofs.entries.line_at.Statement.{statement}
-use Rattle.writer.proofs.entries.line_at.Tie as tie
+use Rattle.writer.proofs.entry.line_at.Statement.{statement}
+use Rattle.writer.proofs.entry.line_at.Tie as tie
 
 pub line-at-spec : {M : Type 1} → statement M
 line-at-spec =
