@@ -1,13 +1,13 @@
 // Six nights forward and back, the last with no body. Each file is taken into the holding that the one before it left, and its undo is
 // made against the holding that it met; the undos are then handed in, last first, and each holding on the way back is compared byte for
 // byte with the one that stood there going forward. The undo of paper 01's worked example is printed whole.
+use apply::apply;
 use libc::STDOUT_FILENO;
-use loader::apply::apply;
-use loader::undo::undo;
 use program::bare::bare_length;
 use program::input::read_file;
 use program::numbers::put_six;
 use samples::put_text;
+use undo::undo;
 use volume::check::Answer;
 use volume::check::check_file;
 

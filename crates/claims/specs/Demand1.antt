@@ -19,7 +19,8 @@ use Rattle.volume.specs.declared.check.Answer.{Answer}
 use Rattle.holding.specs.Verdict.{verdictOf}
 use Rattle.holding.specs.declared.check.Verdict.{Verdict}
 use Rattle.enquiries.specs.Handed.{threeList, Handed, lentAs, HandedOf}
-use Rattle.loader.specs.Outcome.{Outcome, UndoOutcome}
+use Rattle.apply.specs.Outcome.{Outcome}
+use Rattle.undo.specs.Outcome.{UndoOutcome}
 
 -- ---- the output then holds nothing but zeros
 

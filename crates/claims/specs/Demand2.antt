@@ -27,7 +27,7 @@ use Rattle.volume.specs.Answer.{answerOf}
 use Rattle.volume.specs.declared.check.Answer.{Answer}
 use Rattle.holding.specs.Verdict.{verdictOf}
 use Rattle.holding.specs.declared.check.Verdict.{Verdict}
-use Rattle.loader.specs.Outcome.{Outcome}
+use Rattle.apply.specs.Outcome.{Outcome}
 
 module _ (old file : List ℕ) (room : ℕ) (r : Answer) (out : List ℕ) (o : Outcome old file room r out) where
   -- given a sound holding and buffers with room at every step, a file is taken exactly if every line and every step is allowed

@@ -22,7 +22,8 @@ use Rattle.laws.specs.UndoRefusals.{undo-refusals}
 use Rattle.laws.specs.Buffers.{undo-output}
 use Rattle.volume.specs.Answer.{answerOf}
 use Rattle.volume.specs.declared.check.Answer.{Answer}
-use Rattle.loader.specs.Outcome.{Outcome, UndoOutcome}
+use Rattle.apply.specs.Outcome.{Outcome}
+use Rattle.undo.specs.Outcome.{UndoOutcome}
 use Rattle.program.specs.Printed.{bare}
 use Rattle.program.proofs.BareLaws.{bare-zeros, bare-joined}
 use Rattle.claims.specs.Demand2.{taken-only, new-holding}

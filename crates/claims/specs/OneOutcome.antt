@@ -13,7 +13,8 @@ use Rattle.volume.specs.declared.check.Answer.{Answer}
 use Rattle.holding.specs.Verdict.{verdictOf}
 use Rattle.holding.specs.declared.check.Verdict.{Verdict}
 use Rattle.enquiries.specs.Handed.{Handed, lentAs, HandedOf}
-use Rattle.loader.specs.Outcome.{Outcome, UndoOutcome}
+use Rattle.apply.specs.Outcome.{Outcome}
+use Rattle.undo.specs.Outcome.{UndoOutcome}
 use Rattle.program.specs.Printed.{PrintOutcome}
 
 -- check a file

@@ -11,7 +11,8 @@ use Rattle.meaning.specs.Examples.{claims, paper-lines, lines, oldIs, changeIs,
 use Rattle.text.specs.Front.{inFront}
 use Rattle.volume.specs.Answer.{answerOf}
 use Rattle.volume.specs.declared.check.Answer.{Answer}
-use Rattle.loader.specs.Outcome.{Outcome, UndoOutcome}
+use Rattle.apply.specs.Outcome.{Outcome}
+use Rattle.undo.specs.Outcome.{UndoOutcome}
 use Rattle.program.specs.Printed.{PrintOutcome}
 
 -- the lines marked [p]: each is answered as the paper says

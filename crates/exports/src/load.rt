@@ -2,8 +2,8 @@
 ghost use lib.ListN.{length};
 ghost use Rattle.exports.specs.Numbers.{Applies, Undoes};
 use crate::numbers::six;
-use loader::apply::apply;
-use loader::undo::undo;
+use apply::apply;
+use undo::undo;
 
 // Takes a file into a holding: the new holding in the output, or zeros.
 #[no_mangle]

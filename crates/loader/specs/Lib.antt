@@ -1,2 +1,1 @@
 pub mod Loaded
-pub mod Outcome

@@ -1,9 +1,7 @@
 -- What a file that is taken leaves for the writers, and what is answered whether it is taken or not.
 use mathlib.Core.Path.{_≡_}
-use mathlib.Core.Bool.{Bool}
 use mathlib.Core.List.{List, _++_}
 use Prim.Native.Nat.{ℕ, _+_, _≤_}
-use lib.Dec.{leb}
 use lib.ListN.{length, take, drop}
 use Rattle.theory.specs.Answer as theory
 use Rattle.theory.specs.Answer.{took, refused}
@@ -24,16 +22,6 @@ numbers (refused c l f) = six c l f 0 0 0
 -- an undo: the file's first line, the first n steps taken back, and what stands in the file from `end` on
 unfoldable pub undoText : List ℕ → List ℕ → List ℕ → List ℕ → ℕ → ℕ → List ℕ
 undoText h f steps before n end = take (lineEnd f 0 + 2) f ++ (backTexts h f steps before n ++ drop end f)
-
--- whether it fits `room` bytes, which goes by what stood before and not by what each step did
-abbrev pub FitsUndo : List ℕ → List ℕ → List ℕ → ℕ → ℕ → ℕ → Bool → Type 0
-FitsUndo h f before n end room r = (steps : List ℕ) → r ≡ leb (length (undoText h f steps before n end)) room
-
--- what the writers of an undo are lent: an entry for each step, and a file whose body starts after its first line and ends within it
-pub record Lent (f before : List ℕ) (n end : ℕ) : Type 0 where
-  pub each : n ≤ length before
-  pub opens : lineEnd f 0 + 2 ≤ end
-  pub ends : end ≤ length f
 
 -- the places say the new holding, and the steps made say the undo
 pub record Taken (h f places steps before : List ℕ) (room : ℕ) (r : Loaded) : Type 0 where

@@ -2,6 +2,7 @@
 ghost use mathlib.Core.Path.{_≡_};
 ghost use Prim.Native.Nat.{_≤_, _<_};
 ghost use lib.ListN.{length};
+ghost use Rattle.base.specs.Lists.{zeros};
 ghost use Rattle.meaning.specs.Load.{six};
 ghost use Rattle.volume.specs.Answer.{answerOf};
 ghost use Rattle.loader.specs.Loaded.{Loads};
@@ -90,4 +91,12 @@ pub fn load(
         return refused(ran.code, ran.line, 0);
     }
     taken(answer, ran)
+}
+
+// A refusal: the output is all zeros.
+pub fn refuse(out: &mut [u8], answer: Answer) -> Answer
+    ensures { λ r. ⌜ (r ≡ answer) × (now (out .exit) ≡ zeros (length (now (out .entry)))) ⌝ }
+{
+    text::put::zeros(&mut *out);
+    answer
 }

@@ -2,9 +2,9 @@
 // each is run and compared byte for byte. Cases that no file of 65,536 bytes can hold, or no output of as many, are built here.
 ghost use Prim.Native.Nat.{_≤_};
 ghost use lib.ListN.{length};
+use apply::apply;
 use libc::STDIN_FILENO;
 use libc::STDOUT_FILENO;
-use loader::apply::apply;
 use program::input::read_file;
 use program::night::night;
 use program::numbers::put_six;

@@ -18,7 +18,7 @@ use Rattle.text.specs.Front.{inFront}
 use Rattle.text.proofs.PutLaws.{front-then}
 use Rattle.volume.specs.Answer.{answerOf}
 use Rattle.volume.specs.declared.check.Answer.{Answer as Numbers}
-use Rattle.loader.specs.Outcome.{Outcome}
+use Rattle.apply.specs.Outcome.{Outcome}
 use Rattle.program.specs.Printed.{inputOf, sixOf, bare}
 use Rattle.program.proofs.BareLaws.{bare-zeros, bare-joined}
 

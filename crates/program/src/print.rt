@@ -9,7 +9,7 @@ ghost use Rattle.text.specs.Front.{inFront};
 ghost use Rattle.program.specs.Printed.{inputOf, PrintOutcome};
 use crate::bare::bare_length;
 use crate::numbers::put_six;
-use loader::apply::apply;
+use apply::apply;
 use text::put;
 use volume::check::refused;
 

@@ -1,9 +1,9 @@
--- `loader::undo::undo` meets its contract.
+-- `undo::undo` meets its contract.
 use borrow.Author.Needs.{needs}
 use lib.ListN.{length}
-use Rattle.loader.proofs.UndoLaws.{undo-refused, undo-steps, undo-lent, undo-done, undo-long}
-use Rattle.loader.proofs.undo.undo.Statement.{statement}
-use Rattle.loader.proofs.undo.undo.Tie as tie
+use Rattle.undo.proofs.UndoLaws.{undo-refused, undo-steps, undo-lent, undo-done, undo-long}
+use Rattle.undo.proofs.undo.Statement.{statement}
+use Rattle.undo.proofs.undo.Tie as tie
 
 pub undo-spec : {M : Type 1} → statement M
 undo-spec =

@@ -1,8 +1,8 @@
--- `loader::apply::apply` meets its contract.
+-- `apply::apply` meets its contract.
 use borrow.Author.Needs.{needs}
-use Rattle.loader.proofs.ApplyLaws.{apply-refused, apply-done}
-use Rattle.loader.proofs.apply.apply.Statement.{statement}
-use Rattle.loader.proofs.apply.apply.Tie as tie
+use Rattle.apply.proofs.ApplyLaws.{apply-refused, apply-done}
+use Rattle.apply.proofs.apply.Statement.{statement}
+use Rattle.apply.proofs.apply.Tie as tie
 
 pub apply-spec : {M : Type 1} → statement M
 apply-spec =

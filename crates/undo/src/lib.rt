@@ -1,4 +1,6 @@
 // Undo: a load into the work buffer's room, then the file that takes it back, or zeros.
+//
+// The holding and the file are only read, and the undo is written once, front to back.
 ghost use mathlib.Core.Path.{_≡_};
 ghost use Prim.Native.Nat.{_≤_};
 ghost use lib.Dec.{leb};
@@ -6,12 +8,13 @@ ghost use lib.ListN.{length};
 ghost use Rattle.base.specs.Lists.{pick, zeros};
 ghost use Rattle.meaning.specs.Load.{filled};
 ghost use Rattle.text.specs.Front.{inFront};
-ghost use Rattle.loader.specs.Loaded.{undoText, FitsUndo, Lent};
-ghost use Rattle.loader.specs.Outcome.{UndoOutcome};
-use crate::apply::refuse;
-use crate::load::load;
+ghost use Rattle.loader.specs.Loaded.{undoText};
+ghost use Rattle.undo.specs.Lent.{FitsUndo, Lent};
+ghost use Rattle.undo.specs.Outcome.{UndoOutcome};
 use layout::limits::File;
 use layout::limits::Holding;
+use loader::load::load;
+use loader::load::refuse;
 use text::lines::line_end;
 use text::put;
 use volume::check::Answer;

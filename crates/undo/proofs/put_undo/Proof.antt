@@ -1,8 +1,8 @@
--- `loader::undo::put_undo` meets its contract.
-use Rattle.loader.proofs.UndoLaws.{putting, put-fits, put-two, put-rest, put-all-fits, put-count, put-done}
+-- `undo::put_undo` meets its contract.
+use Rattle.undo.proofs.UndoLaws.{putting, put-fits, put-two, put-rest, put-all-fits, put-count, put-done}
 use borrow.Author.Needs.{needs}
-use Rattle.loader.proofs.undo.put_undo.Statement.{statement}
-use Rattle.loader.proofs.undo.put_undo.Tie as tie
+use Rattle.undo.proofs.put_undo.Statement.{statement}
+use Rattle.undo.proofs.put_undo.Tie as tie
 
 pub put-undo-spec : {M : Type 1} → statement M
 put-undo-spec =

@@ -1,10 +1,10 @@
--- `loader::undo::fill_undo` meets its contract.
+-- `undo::fill_undo` meets its contract.
 use borrow.Author.Needs.{needs}
 use borrow.Author.Tests.{not-true, not-false}
 use Rattle.loader.specs.Loaded.{undoText}
-use Rattle.loader.proofs.UndoLaws.{fill-not, fill-room, fill-in, fill-all}
-use Rattle.loader.proofs.undo.fill_undo.Statement.{statement}
-use Rattle.loader.proofs.undo.fill_undo.Tie as tie
+use Rattle.undo.proofs.UndoLaws.{fill-not, fill-room, fill-in, fill-all}
+use Rattle.undo.proofs.fill_undo.Statement.{statement}
+use Rattle.undo.proofs.fill_undo.Tie as tie
 
 pub fill-undo-spec : {M : Type 1} → statement M
 fill-undo-spec =

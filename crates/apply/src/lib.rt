@@ -1,25 +1,19 @@
 // Apply: a load, then the new holding or zeros.
+//
+// The holding and the file are only read, and the new holding is written once, front to back.
 ghost use mathlib.Core.Path.{_≡_};
 ghost use Prim.Native.Nat.{_≤_};
 ghost use lib.ListN.{length};
-ghost use Rattle.base.specs.Lists.{zeros};
 ghost use Rattle.meaning.specs.Holding.{written};
 ghost use Rattle.meaning.specs.Load.{filled};
 ghost use Rattle.places.specs.Places.{says};
-ghost use Rattle.loader.specs.Outcome.{Outcome};
-use crate::load::load;
+ghost use Rattle.apply.specs.Outcome.{Outcome};
 use layout::limits::File;
 use layout::limits::Holding;
+use loader::load::load;
+use loader::load::refuse;
 use volume::check::Answer;
 use writer::runs::write_holding;
-
-// A refusal: the output is all zeros.
-pub fn refuse(out: &mut [u8], answer: Answer) -> Answer
-    ensures { λ r. ⌜ (r ≡ answer) × (now (out .exit) ≡ zeros (length (now (out .entry)))) ⌝ }
-{
-    text::put::zeros(&mut *out);
-    answer
-}
 
 // The new holding, then zeros to the end of the output.
 pub fn fill(out: &mut [u8], holding: &[u8], file: &[u8], places: &[u64], count: usize)

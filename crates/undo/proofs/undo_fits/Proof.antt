@@ -1,7 +1,7 @@
--- `loader::undo::undo_fits` meets its contract.
-use Rattle.loader.proofs.UndoLaws.{undofits}
-use Rattle.loader.proofs.undo.undo_fits.Statement.{statement}
-use Rattle.loader.proofs.undo.undo_fits.Tie as tie
+-- `undo::undo_fits` meets its contract.
+use Rattle.undo.proofs.UndoLaws.{undofits}
+use Rattle.undo.proofs.undo_fits.Statement.{statement}
+use Rattle.undo.proofs.undo_fits.Tie as tie
 
 pub undo-fits-spec : {M : Type 1} → statement M
 undo-fits-spec =

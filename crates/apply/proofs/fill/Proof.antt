@@ -1,7 +1,7 @@
--- `loader::apply::fill` meets its contract.
+-- `apply::fill` meets its contract.
 use Rattle.loader.proofs.FillLaws.{filling}
-use Rattle.loader.proofs.apply.fill.Statement.{statement}
-use Rattle.loader.proofs.apply.fill.Tie as tie
+use Rattle.apply.proofs.fill.Statement.{statement}
+use Rattle.apply.proofs.fill.Tie as tie
 
 pub fill-spec : {M : Type 1} → statement M
 fill-spec =

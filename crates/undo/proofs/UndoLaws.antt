@@ -26,10 +26,11 @@ use Rattle.volume.specs.Answer.{answerOf}
 use Rattle.writer.specs.Runs.{backTexts, FitsBack}
 use Rattle.writer.proofs.LineLaws.{front-same, front-room, front-last, last-room}
 use Rattle.text.proofs.PutLaws.{front-then}
 use Rattle.loader.specs.declared.load.Loaded.{Loaded}
-use Rattle.loader.specs.Loaded.{numbers, undoText, FitsUndo, Lent, Loads}
-use Rattle.loader.specs.Outcome.{UndoOutcome}
+use Rattle.loader.specs.Loaded.{numbers, undoText, Loads}
+use Rattle.undo.specs.Lent.{FitsUndo, Lent}
+use Rattle.undo.specs.Outcome.{UndoOutcome}
 use Rattle.loader.proofs.FillLaws.{fill-rest}
 
 -- ---- three parts
 

@@ -9,9 +9,9 @@ use Rattle.meaning.specs.Load.{load, filled, applied, apply}
 use Rattle.places.specs.Places.{says}
 use Rattle.volume.specs.declared.check.Answer.{Answer as Answer′}
 use Rattle.volume.specs.Answer.{answerOf}
 use Rattle.loader.specs.declared.load.Loaded.{Loaded}
 use Rattle.loader.specs.Loaded.{numbers, Loads}
-use Rattle.loader.specs.Outcome.{Outcome}
+use Rattle.apply.specs.Outcome.{Outcome}
 
 numbers-applied : (room : ℕ) (x : Answer) → numbers x ≡ applied room x .answer
 unfolding applied
