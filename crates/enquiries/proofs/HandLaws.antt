@@ -1,22 +1,21 @@
 -- The laws of what is found, and of the part that is handed back.
-use mathlib.Core.Path.{_≡_, refl, sym, ap, _∙_, subst}
+use mathlib.Core.Path.{_≡_, refl, ap, _∙_, subst}
 use mathlib.Core.Bool.{Bool, true, false}
 use mathlib.Core.List.{List, [], _∷_}
 use Prim.Native.Nat.{ℕ, _+_, _-_, _≤_}
 use native.Mathlib.Omega.{arith}
 use borrow.Author.Needs.{needs}
-use borrow.Author.Tests.{not-true, not-false, le-leb}
+use borrow.Author.Tests.{le-leb}
 use denote.Ref.{RefT}
 use lib.ListN.{length, getD, length-take, length-drop}
 use Rattle.meaning.specs.Lines.{linesOf}
-use Rattle.meaning.specs.Enquiries.{Slice, first, second, Found, refusal, partOf}
+use Rattle.meaning.specs.Enquiries.{Found, refusal, partOf}
 use Rattle.text.specs.Parts.{StandsIn}
 use Rattle.enquiries.specs.declared.lines.Span.{Span}
 use Rattle.enquiries.specs.declared.finding.Finding.{Finding}
 use Rattle.enquiries.specs.Finding.{inFile, sliceOf, findingOf}
-use Rattle.enquiries.specs.Handed.{Handed, lentAs, HandedOf, LineIs}
+use Rattle.enquiries.specs.Handed.{Handed, LineIs}
 use Rattle.enquiries.proofs.LineSeekLaws.{noLine}
-use Rattle.enquiries.proofs.WithinLaws.{find-fits, field-fits, force-second, force-first}
 
 -- a refusal
 pub found-nothing : (c l f : ℕ) → record { code = c; line = l; field = f; infile = false; start = 0; size = 0 } ≡ findingOf (refusal c l f)
@@ -50,22 +49,4 @@ module _ (f : Found) (g : Finding) (p : RefT (List ℕ)) (x : List ℕ) (e : g �
   unfolding findingOf
   hand-found s h = record { numbers = w ∙ ap (λ y. y .code ∷ y .line ∷ y .field ∷ []) e; part = subst (λ (y : Finding). StandsIn p s (y .start) (y .size)) e h }
 
-  -- of the file, where the finding says so
-  pub hand-second : (s t : RefT (List ℕ)) → g .infile ≡ true → StandsIn p t (g .start) (g .size) → HandedOf f s t p x
-  unfolding findingOf
-  hand-second s t i h = go (f .slice) refl
-    where
-      go : (z : Slice) → f .slice ≡ z → HandedOf f s t p x
-      go first q = absurd (let y : false ≡ true = ap inFile (sym q) ∙ sym (ap (λ y. y .infile) e) ∙ i in let z : _≡_ {A = ℕ} 0 1 = cc in omega arith)
-      go second q = subst (λ (y : Slice). Handed f (lentAs y s t) p x) (sym q) (hand-found t h)
-
-  -- else of the holding
-  pub hand-first : (s t : RefT (List ℕ)) → g .infile ≡ false → StandsIn p s (g .start) (g .size) → HandedOf f s t p x
-  unfolding findingOf
-  hand-first s t i h = go (f .slice) refl
-    where
-      go : (z : Slice) → f .slice ≡ z → HandedOf f s t p x
-      go first q = subst (λ (y : Slice). Handed f (lentAs y s t) p x) (sym q) (hand-found s h)
-      go second q = absurd (let y : true ≡ false = ap inFile (sym q) ∙ sym (ap (λ y. y .infile) e) ∙ i in let z : _≡_ {A = ℕ} 0 1 = cc in omega arith)
-
-pub ruleset handing = (needs, not-true, not-false, hand-part, hand-found, hand-second, hand-first, find-fits, field-fits, force-second, force-first)
+pub ruleset handing = (needs, hand-part)

@@ -1,14 +1,14 @@
 -- What an enquiry hands back, by the meaning's answer.
 use mathlib.Core.Path.{_≡_}
-use mathlib.Core.Bool.{true, false, not, _&&_}
+use mathlib.Core.Bool.{true, false, _&&_}
 use mathlib.Core.List.{List, [], _∷_}
 use Prim.Native.Nat.{ℕ, _-_, _≤_}
 use denote.Ref.{RefT}
 use lib.Dec.{leb}
 use lib.ListN.{length, getD, take, drop}
-use Rattle.meaning.specs.Lines.{linesOf, fieldsOf, oddQuotes}
+use Rattle.meaning.specs.Lines.{linesOf}
 use Rattle.meaning.specs.Load.{Three}
-use Rattle.meaning.specs.Enquiries.{Slice, first, second, Found, spanned, fieldsSpanned}
+use Rattle.meaning.specs.Enquiries.{Slice, first, second, Found, spanned}
 use Rattle.text.specs.Parts.{StandsIn}
 use Rattle.enquiries.specs.declared.lines.Span.{Span}
 
@@ -37,11 +37,3 @@ pub record LineIs (b : List ℕ) (n : ℕ) (r : Span) : Type 0 where
   pub text : r .known ≡ true → take (r .end - r .start) (drop (r .start) b) ≡ getD (linesOf b) (n - 1) (record { text = []; ended = false }) .text
   pub from : r .start ≤ r .end
   pub within : r .end ≤ length b
-
--- field n of a line, counted from 1: whether there is one in a line of even quotes, and where it stands
-pub record FieldIs (t : List ℕ) (n : ℕ) (r : Span) : Type 0 where
-  pub exists : r .known ≡ (not (oddQuotes t) && (leb 1 n && leb n (length (fieldsOf t))))
-  pub starts : r .known ≡ true → r .start ≡ fieldsSpanned (take (n - 1) (fieldsOf t))
-  pub size : r .known ≡ true → r .end - r .start ≡ length (getD (fieldsOf t) (n - 1) [])
-  pub from : r .start ≤ r .end
-  pub within : r .end ≤ length t

@@ -1,4 +1,2 @@
 pub mod Finding
 pub mod Handed
-pub mod Found
-pub mod Naming

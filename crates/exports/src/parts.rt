@@ -4,9 +4,9 @@ ghost use Rattle.meaning.specs.Enquiries.{find, inForce, fieldOf};
 ghost use Rattle.exports.specs.Numbers.{partList, sidedList};
 use crate::numbers::five;
 use crate::numbers::sided;
-use enquiries::field::find_field;
-use enquiries::find::find_line;
-use enquiries::in_force::line_in_force;
+use field::find_field;
+use find::find_line;
+use in_force::line_in_force;
 
 // The line of a street or BLPU in the holding.
 #[no_mangle]

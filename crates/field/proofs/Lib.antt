@@ -1,0 +1,2 @@
+mod FieldPartLaws
+mod HandLaws

@@ -1,0 +1,4 @@
+mod NamingLaws
+mod ForceLaws
+mod HandLaws
+pub mod TakenLaws
