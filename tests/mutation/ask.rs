@@ -1,5 +1,7 @@
 //! A copy of a crate in a repository of its own under target/, where the prover is asked; the crate itself is never changed.
 use crate::mutants::Mutant;
+use std::cell::RefCell;
+use std::collections::HashSet;
 use std::fs;
 use std::io::Write;
 use std::os::unix::fs::symlink;
@@ -76,6 +78,14 @@ fn is_rejected(mutant: &Mutant, said: &str) -> bool {
 pub struct Copy {
     name: String,
     root: PathBuf,
+    /// Who calls whom, as far as the prover has said so of functions that weren't proved.
+    calls: RefCell<HashSet<(String, String)>>,
+}
+
+/// The calls that are named where a function isn't proved for the sake of those that it calls.
+fn calls_said(said: &str) -> impl Iterator<Item = (String, String)> + '_ {
+    let told = said.lines().filter_map(|l| l.strip_prefix("fn ")?.split_once(": not proved; it calls "));
+    told.flat_map(|(caller, called)| called.split('`').skip(1).step_by(2).map(|f| (caller.to_string(), f.to_string())))
 }
 
 fn copy_folder(from: &Path, to: &Path) {
@@ -107,7 +117,7 @@ impl Copy {
         if checked.exists() {
             copy_folder(&checked, &root.join("target/inc"));
         }
-        let copy = Copy { name: name.to_string(), root };
+        let copy = Copy { name: name.to_string(), root, calls: RefCell::default() };
         assert!(verdict(&copy.checked()) == Verdict::Survived, "{name} isn't proved as it stands");
         copy
     }
@@ -116,6 +126,13 @@ impl Copy {
         let asked = Command::new("timeout").args(["300", "rt", "dev", &self.name]).current_dir(&self.root).output().unwrap();
         let said = [asked.stdout, asked.stderr].map(|s| String::from_utf8_lossy(&s).into_owned()).join("\n");
         format!("\n{said}")
+    }
+
+    /// Whether two functions can be asked about together: different ones of which neither is known to call the other.
+    pub fn apart(&self, f: &Option<String>, g: &Option<String>) -> bool {
+        let (Some(f), Some(g)) = (f, g) else { return false };
+        let calls = self.calls.borrow();
+        f != g && !calls.contains(&(f.clone(), g.clone())) && !calls.contains(&(g.clone(), f.clone()))
     }
 
     /// The verdict on each of some mutants of different functions; none for one that must be asked again. A proof leans on what the
@@ -131,6 +148,7 @@ impl Copy {
             fs::write(folder.join(&m.file), text).unwrap();
         }
         let said = self.checked();
+        self.calls.borrow_mut().extend(calls_said(&said));
         mutants.iter().zip(kept).for_each(|(m, text)| fs::write(folder.join(&m.file), text).unwrap());
         self.note(mutants, &said);
         match (verdict(&said), mutants) {

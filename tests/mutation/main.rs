@@ -51,12 +51,11 @@ fn shuffled(mut all: Vec<Mutant>, seed: u64) -> Vec<Mutant> {
     all
 }
 
-/// Of the first `most` mutants those that are asked together: one of each function, or one of a constant alone.
-fn together(left: &[Mutant], most: usize) -> Vec<usize> {
+/// Of the first `most` mutants those that are asked together: of functions that don't call one another, or one of a constant alone.
+fn together(copy: &Copy, left: &[Mutant], most: usize) -> Vec<usize> {
     let mut chosen: Vec<usize> = Vec::new();
     for i in 0..left.len().min(most) {
-        let others = chosen.iter().map(|&j| &left[j].function);
-        if chosen.is_empty() || (left[i].function.is_some() && others.clone().all(|f| f.is_some() && *f != left[i].function)) {
+        if chosen.iter().all(|&j| copy.apart(&left[j].function, &left[i].function)) {
             chosen.push(i);
         }
     }
@@ -69,7 +68,7 @@ fn run(name: &str, mut left: Vec<Mutant>, wanted: usize) -> Vec<(Verdict, Mutant
     let (mut settled, mut alone): (Vec<(Verdict, Mutant)>, usize) = (Vec::new(), 0);
     loop {
         let compiled = settled.iter().filter(|(v, _)| *v != Verdict::NotCompiled).count();
-        let mut chosen = together(&left, wanted - compiled);
+        let mut chosen = together(&copy, &left, wanted - compiled);
         chosen.truncate(if alone > 0 { 1 } else { chosen.len() });
         if chosen.is_empty() {
             return settled;
