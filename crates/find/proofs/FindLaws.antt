@@ -51,14 +51,14 @@ use Rattle.find.specs.Found.{lineFound, Enquired}
 -- ---- the kinds that can be asked for
 
 -- a street
-pub asked-street : (k : ℕ) → k ≡ 11 → true ≡ some? (numberedAmong enquiries k)
+pub asked-street : (k n : ℕ) → n ≡ 11 → k ≡ n → true ≡ some? (numberedAmong enquiries k)
 unfolding numberedAmong enquiries ident bytes value valueF
-asked-street k e = rw (eq-eqb k 11 e)
+asked-street k n e q = rw (eq-eqb k 11 (q ∙ e))
 
 -- else a BLPU
-pub asked-blpu : (k : ℕ) → (k ≡ 11 → ⊥) → eqb k 21 ≡ some? (numberedAmong enquiries k)
+pub asked-blpu : (k n m : ℕ) → n ≡ 11 → m ≡ 21 → (k ≡ n → ⊥) → eqb k m ≡ some? (numberedAmong enquiries k)
 unfolding numberedAmong enquiries ident bytes value valueF
-asked-blpu k n = rw (ne-eqb k 11 n) (go (eqb k 21))
+asked-blpu k n m e u q = rw (u, ne-eqb k 11 (λ z. q (z ∙ sym e))) (go (eqb k 21))
   where
     go : (b : Bool) → b ≡ some? (pick b (some blpu) none)
     go true = refl

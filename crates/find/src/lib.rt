@@ -32,10 +32,10 @@ use places::search::stands;
 pub fn is_enquired(kind: u64) -> bool
     ensures { λ r. ⌜ r ≡ some? (numberedAmong enquiries kind) ⌝ }
 {
-    if kind == Street::LAYOUT.number {
+    if kind == Street::number() {
         return true;
     }
-    kind == Blpu::LAYOUT.number
+    kind == Blpu::number()
 }
 
 // The key of the record of that kind and number, where the key is one number.

@@ -1,5 +1,6 @@
 // The one table: for each kind of record, its fields and what else the rules ask of it. Document 002's field tables decide it; a law
 // of proofs/ computes that it says what the meaning's table says.
+ghost use mathlib.Core.Path.{_≡_};
 use crate::kinds::Role;
 
 // What a kind is: its number, which line of a file it is, how many fields it has, the places of START_DATE and END_DATE, of the
@@ -94,6 +95,12 @@ impl Street {
         by: [0, 0],
     };
 
+    pub fn number() -> u64
+        ensures { λ r. ⌜ r ≡ 11 ⌝ }
+    {
+        Self::LAYOUT.number
+    }
+
     pub const FIELDS: [u32; 17] = [
         N + 2 * W + MAN, // RECORD_IDENTIFIER
         CHANGE_TYPE + MAN, // CHANGE_TYPE
@@ -158,6 +165,12 @@ impl Blpu {
         to: [21, 0],
         by: [8, 0],
     };
+
+    pub fn number() -> u64
+        ensures { λ r. ⌜ r ≡ 21 ⌝ }
+    {
+        Self::LAYOUT.number
+    }
 
     pub const FIELDS: [u32; 16] = [
         N + 2 * W + MAN, // RECORD_IDENTIFIER
