@@ -42,8 +42,6 @@ front-then a b old new last n p q w =
     let after : drop (length new - n) (drop n new) ≡ [] = at-end (drop n new) (length new - n) (rw (length-drop n new) (omega arith)) in
     rw (w, whole, front, after, tail, drop-drop (length b) (length a) old, append-nil, length-append a b, append-assoc)
 
-pub ruleset following = (needs, front-then)
-
 -- a store keeps the length
 pub set-same : (new : List ℕ) (i v n : ℕ) → length new ≡ n → length (set new i v) ≡ n
 set-same new i v n e = rw length-set e

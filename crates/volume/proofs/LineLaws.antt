@@ -1,7 +1,7 @@
 -- The laws of one line in its place: before its fields, and after them.
 use mathlib.Core.Path.{_≡_, refl, sym, _∙_}
 use mathlib.Core.Bool.{Bool, true, false, _&&_}
-use mathlib.Core.Option.{Option, none}
+use mathlib.Core.Option.{none}
 use mathlib.Core.List.{List, [], _∷_, map}
 use Prim.Native.Nat.{ℕ, zero, suc, _+_, _-_, _≤_, _<_}
 use Prim.Native.String.{String}
@@ -10,7 +10,7 @@ use native.Mathlib.Omega.{arith}
 use borrow.Author.Needs.{needs}
 use borrow.Author.Tests.{not-true, not-false, ne-eqb}
 use lib.Dec.{T, eqb, ltb, leb, eqb→eq, ltb→lt, leb→le}
-use lib.ListN.{length, getD, take, drop}
+use lib.ListN.{length, getD}
 use Rattle.base.specs.Lists.{pick, ask, all, same, bytes}
 use Rattle.base.specs.Tests.{and-l, and-r}
 use Rattle.theory.specs.Step.{ins, upd, del}
@@ -22,7 +22,7 @@ use Rattle.meaning.specs.Records.{letter, opOf}
 use Rattle.meaning.specs.File.{Place, afterTrailer, next, hasRoom, countFault, Judged, bad, good, verdict}
 use Rattle.laws.specs.Kinds.{every}
 use Rattle.text.specs.Places.{fieldCount}
-use Rattle.text.proofs.FieldLaws.{identifier-part, fields-wrong}
+use Rattle.text.proofs.FieldLaws.{fields-wrong}
 use Rattle.layout.specs.declared.kinds.Kind.{Kind as Named}
 use Rattle.layout.specs.declared.kinds.KindFound.{KindFound}
 use Rattle.layout.specs.declared.kinds.KindFound.the-variants.{Known, Unknown}
@@ -54,12 +54,6 @@ next-last p r e = rw e (go r)
     go bodyLine = unfold next in refl
     go metadataLine = unfold next in refl
     go trailerLine = unfold next in refl
-
--- the kind is that of the bytes before the first comma
-pub kind-part : (t : List ℕ) (e : ℕ) (o : Option Kind) → e ≡ length (identifier t) → o ≡ kindOf (take (e - 0) (drop 0 t)) → o ≡ kindOf (identifier t)
-kind-part t e o p q = let z : e - 0 ≡ length (identifier t) = omega arith in q ∙ rw (z, identifier-part t)
-
-pub ruleset kindat = (needs, kind-part)
 
 module _ (f g : List ℕ) (a : Bool) (e : f ≡ g) (p : a ≡ same f (34 ∷ 73 ∷ 34 ∷ [])) where
   -- an insert is written "I"
