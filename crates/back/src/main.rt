@@ -3,8 +3,8 @@
 // byte with the one that stood there going forward. The undo of paper 01's worked example is printed whole.
 use apply::apply;
 use libc::STDOUT_FILENO;
+use night::input::read_file;
 use program::bare::bare_length;
-use program::input::read_file;
 use program::numbers::put_six;
 use samples::put_text;
 use undo::undo;
@@ -44,8 +44,8 @@ fn forward(name: &[u8], holding: &[u8], next: &mut [u8], undone: &mut [u8]) {
     let m = read_file(name, &mut file).size;
     let n = bare_length(holding);
     say(name);
-    say_six(b" taken: ", apply(&holding[0..n], &file[..m], &mut *next));
-    let answer = undo(&holding[0..n], &file[..m], &mut *undone, &mut work);
+    say_six(b" taken: ", apply(&holding[0..n], &file[0..m], &mut *next));
+    let answer = undo(&holding[0..n], &file[0..m], &mut *undone, &mut work);
     say_six(b"; its undo: ", answer);
     let k = bare_length(&*undone);
     say_six(b"; the undo checked: ", check_file(&undone[0..k]));
@@ -76,7 +76,7 @@ fn worked() {
     let mut work = [0u8; ROOM];
     let n = read_file(b"worked/holding.csv", &mut holding).size;
     let m = read_file(b"worked/change.csv", &mut file).size;
-    let answer = undo(&holding[..n], &file[..m], &mut undone, &mut work);
+    let answer = undo(&holding[0..n], &file[0..m], &mut undone, &mut work);
     say_six(b"The undo of the worked example: ", answer);
     say(b"\n");
     let k = bare_length(&undone);

@@ -5,8 +5,8 @@ ghost use lib.ListN.{length};
 use apply::apply;
 use libc::STDIN_FILENO;
 use libc::STDOUT_FILENO;
-use program::input::read_file;
-use program::night::night;
+use night::input::read_file;
+use night::night;
 use program::numbers::put_six;
 use program::print::MOST;
 use program::print::print;
@@ -47,12 +47,12 @@ fn run(folder: &[u8]) {
     let mut kept = [0u8; MOST];
     let m = read_file(&stored[0..p], &mut kept).size;
     say(folder);
-    if text::order::is_same(&printed[..n], &kept[..m]) {
+    if text::order::is_same(&printed[0..n], &kept[0..m]) {
         say(b" as stored: ");
     } else {
         say(b" NOT AS STORED: ");
     }
-    say_line(&printed[..n]);
+    say_line(&printed[0..n]);
 }
 
 fn nights(s: &[u8]) {
@@ -92,7 +92,7 @@ fn insert(holding: &[u8], room: usize) {
     let mut file = [0u8; 512];
     let n = read_file(b"insert.csv", &mut file).size;
     let mut out = [0u8; 500000];
-    answer(holding, &file[..n], &mut out, room);
+    answer(holding, &file[0..n], &mut out, room);
 }
 
 // A holding of so many lines, street 500 and its cross references, with the insert and an output of so many bytes.
@@ -118,11 +118,11 @@ fn zeros(size: usize)
     let n = print(true, &s[0..size], true, b"", &mut printed);
     say_number(size as u64);
     say(b" zeros for a holding: ");
-    say_line(&printed[..n]);
+    say_line(&printed[0..n]);
     let m = print(true, b"", true, &s[0..size], &mut printed);
     say_number(size as u64);
     say(b" zeros for a change: ");
-    say_line(&printed[..m]);
+    say_line(&printed[0..m]);
 }
 
 fn main() {
