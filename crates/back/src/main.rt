@@ -2,11 +2,11 @@
 // made against the holding that it met; the undos are then handed in, last first, and each holding on the way back is compared byte for
 // byte with the one that stood there going forward. The undo of paper 01's worked example is printed whole.
 use apply::apply;
-use libc::STDOUT_FILENO;
+use night::input::read_file;
 use program::bare::bare_length;
-use program::input::read_file;
-use program::numbers::put_six;
 use samples::put_text;
+use spoken::say;
+use spoken::say_six;
 use undo::undo;
 use volume::check::Answer;
 use volume::check::check_file;
@@ -17,17 +17,10 @@ const ROOM: usize = 16384;
 // The bytes of a change file's name.
 const NAME: usize = 5;
 
-fn say(words: &[u8]) {
-    io::write_all(STDOUT_FILENO, words);
-}
-
 // Six numbers, after what they are of.
-fn say_six(what: &[u8], a: Answer) {
-    let mut numbers = [0u8; 127];
-    let n = put_six(&mut numbers, a);
-    let end = text::lines::plain_end(&numbers[0..n], 0);
+fn say_answer(what: &[u8], a: Answer) {
     say(what);
-    say(&numbers[0..end]);
+    say_six(a);
 }
 
 // What stands before the zeros of two buffers, compared.
@@ -44,11 +37,11 @@ fn forward(name: &[u8], holding: &[u8], next: &mut [u8], undone: &mut [u8]) {
     let m = read_file(name, &mut file).size;
     let n = bare_length(holding);
     say(name);
-    say_six(b" taken: ", apply(&holding[0..n], &file[..m], &mut *next));
-    let answer = undo(&holding[0..n], &file[..m], &mut *undone, &mut work);
-    say_six(b"; its undo: ", answer);
+    say_answer(b" taken: ", apply(&holding[0..n], &file[0..m], &mut *next));
+    let answer = undo(&holding[0..n], &file[0..m], &mut *undone, &mut work);
+    say_answer(b"; its undo: ", answer);
     let k = bare_length(&*undone);
-    say_six(b"; the undo checked: ", check_file(&undone[0..k]));
+    say_answer(b"; the undo checked: ", check_file(&undone[0..k]));
     say(b"\n");
 }
 
@@ -57,7 +50,7 @@ fn back(name: &[u8], holding: &[u8], undone: &[u8], stood: &[u8], out: &mut [u8]
     let n = bare_length(holding);
     let m = bare_length(undone);
     say(name);
-    say_six(
+    say_answer(
         b" handed back: ",
         apply(&holding[0..n], &undone[0..m], &mut *out),
     );
@@ -76,8 +69,8 @@ fn worked() {
     let mut work = [0u8; ROOM];
     let n = read_file(b"worked/holding.csv", &mut holding).size;
     let m = read_file(b"worked/change.csv", &mut file).size;
-    let answer = undo(&holding[..n], &file[..m], &mut undone, &mut work);
-    say_six(b"The undo of the worked example: ", answer);
+    let answer = undo(&holding[0..n], &file[0..m], &mut undone, &mut work);
+    say_answer(b"The undo of the worked example: ", answer);
     say(b"\n");
     let k = bare_length(&undone);
     say(&undone[0..k]);

@@ -4,44 +4,26 @@ ghost use Prim.Native.Nat.{_≤_};
 ghost use lib.ListN.{length};
 use holding::check::check_holding;
 use libc::STDIN_FILENO;
-use libc::STDOUT_FILENO;
+use samples::put_holding;
 use samples::put_lines;
 use samples::put_text;
 use samples::put_value;
+use spoken::say;
+use spoken::say_number;
+use spoken::say_six;
+use spoken::say_three;
+use text::lines::plain_end;
 use volume::check::check_file;
-
-fn say(words: &[u8]) {
-    io::write_all(STDOUT_FILENO, words);
-}
-
-fn say_number(n: u64) {
-    io::print_decimal(STDOUT_FILENO, n);
-}
 
 // The six numbers of the check of a file.
 fn answer_file(file: &[u8]) {
-    let a = check_file(file);
-    say_number(a.code);
-    say(b",");
-    say_number(a.line as u64);
-    say(b",");
-    say_number(a.field as u64);
-    say(b",");
-    say_number(a.inserts as u64);
-    say(b",");
-    say_number(a.updates as u64);
-    say(b",");
-    say_number(a.deletes as u64);
+    say_six(check_file(file));
 }
 
 // The three numbers of the check of a holding.
 fn answer_holding(held: &[u8]) {
     let v = check_holding(held);
-    say_number(v.code);
-    say(b",");
-    say_number(v.line as u64);
-    say(b",");
-    say_number(v.field as u64);
+    say_three(v.code, v.line as u64, v.field as u64);
 }
 
 // A file of so many body lines, judged.
@@ -69,12 +51,7 @@ fn long_file(count: u64) {
 // A holding of so many lines, a street and its cross references, judged.
 fn long_holding(count: u64) {
     let mut out = [0u8; 480000];
-    let a = put_text(
-        &mut out,
-        0,
-        b"11,\"I\",1,500,1,1,,,,2001-01-01,2001-01-01,2001-01-01,,0.00,0.00,0.00,0.00\r\n",
-    );
-    let n = put_lines(&mut out, a, 1, count);
+    let n = put_holding(&mut out, count);
     say(b"holding of ");
     say_number(count);
     say(b" lines: ");
@@ -82,58 +59,33 @@ fn long_holding(count: u64) {
     say(b"\n");
 }
 
-// Whether a line of equals signs stands at i.
-fn is_rule(s: &[u8], i: usize) -> bool
-    requires { ⌜ i ≤ length (now s) ⌝ }
-{
-    if s.len() - i < 5 {
+// Whether bytes begin with these words.
+fn begins(s: &[u8], words: &[u8]) -> bool {
+    let n = words.len();
+    if s.len() < n {
         return false;
     }
-    let e = i + 5;
-    text::order::is_same(&s[i..e], b"====\n")
+    text::order::is_same(&s[0..n], words)
 }
 
-// Where the block that starts at `at` ends: at the next rule, or where the input does.
+// Where the block that starts at `at` ends: at the next line of equals signs, or where the input does.
 fn block_end(s: &[u8], at: usize) -> usize
     requires { ⌜ at ≤ length (now s) ⌝ }
     ensures { λ r. ⌜ (at ≤ r) × (r ≤ length (now (s .entry))) ⌝ }
 {
     let mut i = at;
     while i < s.len() {
-        if is_rule(s, i) {
+        if begins(&s[i..], b"====\n") {
             return i;
         }
         i += 1;
     }
     i
-}
-
-// Where the title that starts at `at` ends.
-fn title_end(s: &[u8], at: usize) -> usize
-    requires { ⌜ at ≤ length (now s) ⌝ }
-    ensures { λ r. ⌜ (at ≤ r) × (r ≤ length (now (s .entry))) ⌝ }
-{
-    let mut i = at;
-    while i < s.len() {
-        if s[i] == b'\n' {
-            return i;
-        }
-        i += 1;
-    }
-    i
-}
-
-// Whether a title names a holding.
-fn is_held(title: &[u8]) -> bool {
-    if title.len() < 7 {
-        return false;
-    }
-    text::order::is_same(&title[0..7], b"holding")
 }
 
 // One block: its title and its answer.
 fn block(b: &[u8]) {
-    let end = title_end(b, 0);
+    let end = plain_end(b, 0);
     let title = &b[0..end];
     say(title);
     say(b": ");
@@ -141,7 +93,7 @@ fn block(b: &[u8]) {
         answer_file(&b[end..]);
     } else {
         let from = end + 1;
-        if is_held(title) {
+        if begins(title, b"holding") {
             answer_holding(&b[from..]);
         } else {
             answer_file(&b[from..]);

@@ -1,10 +1,10 @@
 // Takes change.csv into holding.csv, both in the folder that it is run in, and prints the answer and, on 0, the new holding.
 use libc::STDOUT_FILENO;
-use program::night::night;
+use night::night;
 use program::print::MOST;
 
 fn main() {
     let mut printed = [0u8; MOST];
     let n = night(b"holding.csv", b"change.csv", &mut printed);
-    io::write_all(STDOUT_FILENO, &printed[..n]);
+    io::write_all(STDOUT_FILENO, &printed[0..n]);
 }

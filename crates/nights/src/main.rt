@@ -4,25 +4,21 @@ ghost use Prim.Native.Nat.{_≤_};
 ghost use lib.ListN.{length};
 use apply::apply;
 use libc::STDIN_FILENO;
-use libc::STDOUT_FILENO;
-use program::input::read_file;
-use program::night::night;
-use program::numbers::put_six;
+use night::input::read_file;
+use night::night;
 use program::print::MOST;
 use program::print::print;
-use samples::put_lines;
+use samples::put_holding;
 use samples::put_text;
-use volume::check::Answer;
-
-fn say(words: &[u8]) {
-    io::write_all(STDOUT_FILENO, words);
-}
+use spoken::say;
+use spoken::say_line;
+use spoken::say_number;
+use spoken::say_six;
 
 // The first line of what was printed.
-fn say_line(s: &[u8]) {
+fn say_first(s: &[u8]) {
     let end = text::lines::plain_end(s, 0);
-    say(&s[0..end]);
-    say(b"\n");
+    say_line(&s[0..end]);
 }
 
 // The path of a file in a folder.
@@ -47,12 +43,12 @@ fn run(folder: &[u8]) {
     let mut kept = [0u8; MOST];
     let m = read_file(&stored[0..p], &mut kept).size;
     say(folder);
-    if text::order::is_same(&printed[..n], &kept[..m]) {
+    if text::order::is_same(&printed[0..n], &kept[0..m]) {
         say(b" as stored: ");
     } else {
         say(b" NOT AS STORED: ");
     }
-    say_line(&printed[..n]);
+    say_first(&printed[0..n]);
 }
 
 fn nights(s: &[u8]) {
@@ -64,23 +60,13 @@ fn nights(s: &[u8]) {
     }
 }
 
-fn say_number(n: u64) {
-    io::print_decimal(STDOUT_FILENO, n);
-}
-
-// Six numbers.
-fn say_six(a: Answer) {
-    let mut numbers = [0u8; 127];
-    let n = put_six(&mut numbers, a);
-    say_line(&numbers[0..n]);
-}
-
 // What apply answers with an output of so many bytes of what is lent.
 fn answer(holding: &[u8], file: &[u8], out: &mut [u8], room: usize) {
     if out.len() < room {
         return;
     }
     say_six(apply(holding, file, &mut out[0..room]));
+    say(b"\n");
 }
 
 // The file insert.csv, which inserts street 501, into a holding.
@@ -92,18 +78,13 @@ fn insert(holding: &[u8], room: usize) {
     let mut file = [0u8; 512];
     let n = read_file(b"insert.csv", &mut file).size;
     let mut out = [0u8; 500000];
-    answer(holding, &file[..n], &mut out, room);
+    answer(holding, &file[0..n], &mut out, room);
 }
 
 // A holding of so many lines, street 500 and its cross references, with the insert and an output of so many bytes.
 fn built(count: u64, room: usize) {
     let mut held = [0u8; 500000];
-    let a = put_text(
-        &mut held,
-        0,
-        b"11,\"I\",1,500,1,1,,,,2001-01-01,2001-01-01,2001-01-01,,0.00,0.00,0.00,0.00\r\n",
-    );
-    let n = put_lines(&mut held, a, 1, count);
+    let n = put_holding(&mut held, count);
     say_number(count);
     say(b" lines of ");
     insert(&held[0..n], room);
@@ -118,11 +99,11 @@ fn zeros(size: usize)
     let n = print(true, &s[0..size], true, b"", &mut printed);
     say_number(size as u64);
     say(b" zeros for a holding: ");
-    say_line(&printed[..n]);
+    say_first(&printed[0..n]);
     let m = print(true, b"", true, &s[0..size], &mut printed);
     say_number(size as u64);
     say(b" zeros for a change: ");
-    say_line(&printed[..m]);
+    say_first(&printed[0..m]);
 }
 
 fn main() {

@@ -1,5 +1,5 @@
 -- The laws of what is printed.
-use mathlib.Core.Path.{_≡_, sym, ap, _∙_}
+use mathlib.Core.Path.{_≡_, ap, _∙_}
 use mathlib.Core.Bool.{Bool, true, false, false≢true}
 use mathlib.Core.List.{List, [], _++_, append-nil}
 use Prim.Native.Nat.{ℕ, _+_, _-_, _≤_}
@@ -7,8 +7,6 @@ use native.Mathlib.Omega.{arith}
 use borrow.Author.Needs.{needs}
 use borrow.Rule.Slice.PartMut.{putMid}
 use lib.ListN.{length, take, drop, length-append}
-use lib.Seq.{length-take-le}
-use Rattle.io.specs.Counts.{Counts}
 use Rattle.theory.specs.Answer.{Answer, took, refused}
 use Rattle.meaning.specs.Holding.{written}
 use Rattle.meaning.specs.Load.{six, load, applied, apply, filled}
@@ -64,13 +62,9 @@ both-usable true true old b e f = rw (← e, ← f)
 both-usable false s old b e f = absurd (false≢true e)
 both-usable true false old b e f = absurd (false≢true f)
 
--- a count within the bytes is how many they begin with
-pub counts-in : (r : ℕ) (s : List ℕ) → r ≤ length s → r ≡ length (take r s)
-counts-in r s h = sym (length-take-le r s h)
-
 -- what is written is that
-pub print-all : (w p old new : List ℕ) (r : ℕ) → w ≡ p → r ≡ length w → new ≡ inFront w old → r ≤ length new → Counts r new × ((r ≡ length p) × (new ≡ inFront p old))
-print-all w p old new r e q f h = ((h, counts-in r new h), (q ∙ ap length e, f ∙ ap (λ t. inFront t old) e))
+pub print-all : (w p old new : List ℕ) (r : ℕ) → w ≡ p → r ≡ length w → new ≡ inFront w old → (r ≡ length p) × (new ≡ inFront p old)
+print-all w p old new r e q f = (q ∙ ap length e, f ∙ ap (λ t. inFront t old) e)
 
 -- ---- what is refused before it is read
 

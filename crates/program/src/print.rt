@@ -2,7 +2,6 @@
 ghost use mathlib.Core.Path.{_≡_};
 ghost use Prim.Native.Nat.{_≤_};
 ghost use lib.ListN.{length};
-ghost use Rattle.io.specs.Counts.{Counts};
 ghost use Rattle.meaning.specs.Load.{six, load};
 ghost use Rattle.meaning.specs.Program.{unusable, printSix, printLoad, programRoom};
 ghost use Rattle.text.specs.Front.{inFront};
@@ -58,7 +57,7 @@ pub fn print(
     change: &[u8],
     printed: &mut [u8; MOST],
 ) -> usize
-    ensures { λ r. ⌜ Counts r (now (printed .exit)) ⌝ }
+    ensures { λ r. ⌜ r ≤ length (now (printed .exit)) ⌝ }
     ensures { λ r. ⌜ PrintOutcome held (now (holding .entry)) sent (now (change .entry)) (now (printed .entry)) r (now (printed .exit)) ⌝ }
 {
     if is_unusable(held, holding) {

@@ -1,4 +1,4 @@
-// Long bodies for the programs that try an edge: bytes and numbers into a buffer, and the cross references of one street by number.
+// Long bodies and holdings for the programs that try an edge: bytes and numbers into a buffer, and one street with its cross references.
 ghost use Prim.Native.Nat.{_≤_};
 ghost use lib.ListN.{length};
 
@@ -48,4 +48,16 @@ pub fn put_lines(out: &mut [u8], pos: usize, first: u64, last: u64) -> usize
         at = put_line(&mut *out, at, n);
     }
     at
+}
+
+// A holding of so many lines: street 500, and its cross references.
+pub fn put_holding(out: &mut [u8], count: u64) -> usize
+    ensures { λ r. ⌜ r ≤ length (now (out .exit)) ⌝ }
+{
+    let at = put_text(
+        &mut *out,
+        0,
+        b"11,\"I\",1,500,1,1,,,,2001-01-01,2001-01-01,2001-01-01,,0.00,0.00,0.00,0.00\r\n",
+    );
+    put_lines(&mut *out, at, 1, count)
 }

@@ -1,7 +1,5 @@
 // Runs vectors from standard input, one to a line, and prints each behind its answer. `@11 04 0500` asks whether 0500 is sound as field 4
 // of kind 11; any other line that is not empty and no comment (`#`) is taken for a record and answered by code and field.
-ghost use Prim.Native.Nat.{_≤_};
-ghost use lib.ListN.{length};
 use layout::check::check_line;
 use layout::check::kind_of;
 use layout::check::sound_at;
@@ -9,16 +7,10 @@ use layout::kinds::Kind;
 use layout::kinds::KindFound;
 use layout::rules::layout;
 use libc::STDIN_FILENO;
-use libc::STDOUT_FILENO;
-
-fn say(words: &[u8]) {
-    io::write_all(STDOUT_FILENO, words);
-}
-
-fn say_line(line: &[u8]) {
-    say(line);
-    say(b"\n");
-}
+use spoken::say;
+use spoken::say_line;
+use spoken::say_number;
+use text::lines::plain_end;
 
 // The answer on one field of a kind.
 fn answer_field(kind: Kind, number: u64, f: &[u8]) {
@@ -60,9 +52,9 @@ fn record_vector(line: &[u8]) {
     match kind_of(&line[0..end]) {
         KindFound::Known(kind) => {
             let fault = check_line(kind, line);
-            io::print_decimal(STDOUT_FILENO, fault.code);
+            say_number(fault.code);
             say(b",");
-            io::print_decimal(STDOUT_FILENO, fault.field as u64);
+            say_number(fault.field as u64);
         }
         KindFound::Unknown => say(b"2,1"),
     }
@@ -81,25 +73,10 @@ fn vector(line: &[u8]) {
     say_line(line);
 }
 
-// Where the line that starts at `at` ends.
-fn vector_end(s: &[u8], at: usize) -> usize
-    requires { ⌜ at ≤ length (now s) ⌝ }
-    ensures { λ r. ⌜ (at ≤ r) × (r ≤ length (now (s .entry))) ⌝ }
-{
-    let mut i = at;
-    while i < s.len() {
-        if s[i] == b'\n' {
-            return i;
-        }
-        i += 1;
-    }
-    i
-}
-
 fn run(s: &[u8]) {
     let mut at = 0;
     while at < s.len() {
-        let end = vector_end(s, at);
+        let end = plain_end(s, at);
         vector(&s[at..end]);
         at = end + 1;
     }

@@ -9,10 +9,14 @@ pub block-end-spec : {M : Type 1} → statement M
 block-end-spec =
     tie.close
     (tie.spec
-    (λ s at i₀ i. (at ≤ i) × (i ≤ length s))
-    (λ s at i₀ i. length s - i)
+    (λ s at i₀ rule i. (at ≤ i) × (i ≤ length s))
+    (λ s at i₀ rule i. length s - i)
     (λ c. search needs)  -- loop-holds
-    (λ c κs. search needs)  -- is-rule-requires
+    (λ c. search needs)  -- sub-begins
+    (λ c. search needs)  -- part-begins-start
+    (λ c. search needs)  -- part-begins-end
+    (λ c. search needs)  -- slice-aggregate-begins
+    (λ c κs. search needs)  -- begins-requires
     (λ c. search needs)  -- returns
     (λ c. search needs)  -- add-i
     (λ c. search needs)  -- loop-less

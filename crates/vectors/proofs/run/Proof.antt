@@ -12,7 +12,7 @@ run-spec =
     (λ s at₀ at. at ≤ length s + 1)
     (λ s at₀ at. length s - at)
     (λ c. search needs)  -- loop-holds
-    (λ c κs. search needs)  -- vector-end-requires
+    (λ c κs. search needs)  -- plain-end-requires
     (λ c. search needs)  -- sub-vector
     (λ c. search needs)  -- part-vector-start
     (λ c. search needs)  -- part-vector-end

@@ -1,11 +1,10 @@
--- `program::input::read_all` meets its contract.
+-- `night::input::read_all` meets its contract.
 use borrow.Author.Needs.{needs}
 use mathlib.Core.Path.{_≡_}
 use Prim.Native.Nat.{_-_, _≤_}
 use lib.ListN.{length}
-use Rattle.program.proofs.PrintLaws.{counts-in}
-use Rattle.program.proofs.input.read_all.Statement.{statement}
-use Rattle.program.proofs.input.read_all.Tie as tie
+use Rattle.night.proofs.input.read_all.Statement.{statement}
+use Rattle.night.proofs.input.read_all.Tie as tie
 
 pub read-all-spec : {M : Type 1} → statement M
 read-all-spec =
@@ -19,15 +18,15 @@ read-all-spec =
     (λ c. search needs)  -- part-read-end
     (λ c κs. search needs)  -- read-requires
     (λ c. search needs)  -- same-length
-    (λ c. (search needs, counts-in _ _ (search needs)))  -- returns
+    (λ c. search needs)  -- returns
     (λ c. search needs)  -- sub-count
     (λ c. search needs)  -- part-count-start
     (λ c. search needs)  -- part-count-end
     (λ c κs. search needs)  -- count-requires
     (λ c. search needs)  -- same-length-2
-    (λ c. (search needs, counts-in _ _ (search needs)))  -- returns-2
+    (λ c. search needs)  -- returns-2
     (λ c. search needs)  -- add-size
     (λ c. search needs)  -- loop-less
     (λ c. search needs)  -- loop-again
     (λ c. search needs)  -- same-length-3
-    (λ c. (search needs, counts-in _ _ (search needs))))  -- returns-3
+    (λ c. search needs))  -- returns-3

@@ -1,0 +1,37 @@
+// What the programs that show something say on standard output: words, numbers, and the six numbers of an answer.
+//
+// No contract can say which bytes C writes, so these promise nothing; what a program says is compared with its file `stdout`.
+use libc::STDOUT_FILENO;
+use volume::check::Answer;
+
+// Words.
+pub fn say(words: &[u8]) {
+    io::write_all(STDOUT_FILENO, words);
+}
+
+// Words, and the end of the line.
+pub fn say_line(words: &[u8]) {
+    say(words);
+    say(b"\n");
+}
+
+// A number.
+pub fn say_number(n: u64) {
+    io::print_decimal(STDOUT_FILENO, n);
+}
+
+// Three numbers with commas.
+pub fn say_three(a: u64, b: u64, c: u64) {
+    say_number(a);
+    say(b",");
+    say_number(b);
+    say(b",");
+    say_number(c);
+}
+
+// The six numbers of an answer.
+pub fn say_six(a: Answer) {
+    say_three(a.code, a.line as u64, a.field as u64);
+    say(b",");
+    say_three(a.inserts as u64, a.updates as u64, a.deletes as u64);
+}
