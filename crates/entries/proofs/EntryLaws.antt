@@ -13,65 +13,56 @@ use Rattle.theory.specs.Lex.{cmpN, lex}
 use Rattle.theory.specs.Tri.{Tri}
 use Rattle.meaning.specs.Lines.{identifier}
 use Rattle.meaning.specs.Records.{contentOf}
-use Rattle.meaning.specs.Table.{Kind, header, kindOf}
+use Rattle.meaning.specs.Table.{Kind, kindOf}
 use Rattle.text.specs.Places.{lineLen, lineEnd, contentStart}
 use Rattle.text.proofs.FieldLaws.{identifier-part, content-part}
-use Rattle.layout.specs.Meant.{kindMeant, kindFound}
+use Rattle.layout.specs.Meant.{kindFound}
 use Rattle.layout.specs.Rows.{laidOut}
-use Rattle.layout.specs.declared.kinds.Kind as code
 use Rattle.layout.specs.declared.kinds.KindFound as found
-use Rattle.layout.specs.declared.kinds.KindFound.the-variants.{Known, Unknown}
 use Rattle.layout.specs.declared.records.Layout.{Layout}
 use Rattle.keys.specs.Numbers.{keyNumbers}
 use Rattle.keys.specs.Places.{numberAt}
 use Rattle.keys.proofs.RowLaws.{lex-first, lex-after, lex-last, key-is}
 use Rattle.entries.specs.Fields.{afterFields, restNumbers}
-use Rattle.entries.specs.Entries.{known, recOf, lineAt, entry}
+use Rattle.entries.specs.Entries.{known, recOf, lineAt, recordOf}
 use Rattle.entries.proofs.FieldLaws.{content-three}
+use Rattle.entries.proofs.HeadLaws.{kind-known, kind-unknown}
 
 -- ---- an entry
 
 -- an even entry is a line of the holding
-pub entry-held : (h f : List ℕ) (v : ℕ) → v % 2 ≡ 0 → entry h f v ≡ recOf (lineAt h (v / 2))
-unfolding entry
+pub entry-held : (h f : List ℕ) (v : ℕ) → v % 2 ≡ 0 → recordOf h f v ≡ recOf (lineAt h (v / 2))
+unfolding recordOf
 entry-held h f v e = rw (eq-eqb (v % 2) 0 e)
 
 -- an odd entry is a line of the file
-pub entry-filed : (h f : List ℕ) (v : ℕ) → (v % 2 ≡ 0 → ⊥) → entry h f v ≡ recOf (lineAt f (v / 2))
-unfolding entry
+pub entry-filed : (h f : List ℕ) (v : ℕ) → (v % 2 ≡ 0 → ⊥) → recordOf h f v ≡ recOf (lineAt f (v / 2))
+unfolding recordOf
 entry-filed h f v e = rw (ne-eqb (v % 2) 0 e)
 
 -- the entry of a line of the holding
-pub entry-even : (h f : List ℕ) (at v : ℕ) → v ≡ at + at → entry h f v ≡ recOf (lineAt h at)
+pub entry-even : (h f : List ℕ) (at v : ℕ) → v ≡ at + at → recordOf h f v ≡ recOf (lineAt h at)
 entry-even h f at v q =
     let d : v / 2 ≡ at = omega arith in
     entry-held h f v (omega arith) ∙ rw d
 
 -- the entry of a line of the file
-pub entry-odd : (h f : List ℕ) (at v : ℕ) → v ≡ at + at + 1 → entry h f v ≡ recOf (lineAt f at)
+pub entry-odd : (h f : List ℕ) (at v : ℕ) → v ≡ at + at + 1 → recordOf h f v ≡ recOf (lineAt f at)
 entry-odd h f at v q =
     let d : v / 2 ≡ at = omega arith in
     entry-filed h f v (λ e. omega arith) ∙ rw d
 
 -- an entry of the holding does not depend on the file
-pub held-any : (h f g : List ℕ) (v : ℕ) → v % 2 ≡ 0 → entry h f v ≡ entry h g v
+pub held-any : (h f g : List ℕ) (v : ℕ) → v % 2 ≡ 0 → recordOf h f v ≡ recordOf h g v
 held-any h f g v e = entry-held h f v e ∙ sym (entry-held h g v e)
 
 -- ---- a line
 
-module _ (t : List ℕ) (n : ℕ) (r : found.KindFound) (e : n ≡ length (identifier t)) (g : kindFound r ≡ kindOf (take (n - 0) t)) where
-  found-is : kindFound r ≡ kindOf (identifier t)
-  found-is = g ∙ rw (sub-zero, e, identifier-part t)
+-- the kind is known by the bytes up to where the identifier ends
+pub kind-by-end : (t : List ℕ) (n : ℕ) (r : found.KindFound) → n ≡ length (identifier t) → kindFound r ≡ kindOf (take (n - 0) t) → kindFound r ≡ kindOf (identifier t)
+kind-by-end t n r e g = g ∙ rw (sub-zero, e, identifier-part t)
 
-  -- the kind of a line is its identifier's
-  pub kind-known : (k : code.Kind) → r ≡ Known k → kindMeant k ≡ known (kindOf (identifier t))
-  kind-known k u = rw (← found-is, u)
-
-  -- an unknown one is taken for a header's
-  pub kind-unknown : r ≡ Unknown → header ≡ known (kindOf (identifier t))
-  kind-unknown u = rw (← found-is, u)
-
-pub ruleset kinds = (needs, kind-known, kind-unknown)
+pub ruleset kinds = (needs, kind-by-end, kind-known, kind-unknown)
 
 -- what stands from where the content starts is the content
 pub content-told : (t : List ℕ) (c : ℕ) → c ≡ contentStart t → take (length t - c) (drop c t) ≡ contentOf t
@@ -142,21 +133,21 @@ module _ (k : Kind) (c : List ℕ) (l : Layout) (e : l ≡ laidOut k) (x y secon
 pub ruleset restorder = (needs, rest-second, rest-third)
 
 -- an even entry's key is read in the holding
-pub key-held : (h f r : List ℕ) (v : ℕ) → v % 2 ≡ 0 → r ≡ keyNumbers (recOf (lineAt h (v / 2))) → r ≡ keyNumbers (entry h f v)
+pub key-held : (h f r : List ℕ) (v : ℕ) → v % 2 ≡ 0 → r ≡ keyNumbers (recOf (lineAt h (v / 2))) → r ≡ keyNumbers (recordOf h f v)
 key-held h f r v e u = u ∙ rw (entry-held h f v e)
 
 -- an odd one's in the file
-pub key-filed : (h f r : List ℕ) (v : ℕ) → (v % 2 ≡ 0 → ⊥) → r ≡ keyNumbers (recOf (lineAt f (v / 2))) → r ≡ keyNumbers (entry h f v)
+pub key-filed : (h f r : List ℕ) (v : ℕ) → (v % 2 ≡ 0 → ⊥) → r ≡ keyNumbers (recOf (lineAt f (v / 2))) → r ≡ keyNumbers (recordOf h f v)
 key-filed h f r v e u = u ∙ rw (entry-filed h f v e)
 
 pub ruleset entrykey = (needs, key-held, key-filed)
 
 -- a key is compared to an even entry's in the holding
-pub order-held : (h f : List ℕ) (j : List ℕ) (o : Tri) (v : ℕ) → v % 2 ≡ 0 → o ≡ lex j (keyNumbers (recOf (lineAt h (v / 2)))) → o ≡ lex j (keyNumbers (entry h f v))
+pub order-held : (h f : List ℕ) (j : List ℕ) (o : Tri) (v : ℕ) → v % 2 ≡ 0 → o ≡ lex j (keyNumbers (recOf (lineAt h (v / 2)))) → o ≡ lex j (keyNumbers (recordOf h f v))
 order-held h f j o v e u = u ∙ rw (entry-held h f v e)
 
 -- and to an odd one's in the file
-pub order-filed : (h f : List ℕ) (j : List ℕ) (o : Tri) (v : ℕ) → (v % 2 ≡ 0 → ⊥) → o ≡ lex j (keyNumbers (recOf (lineAt f (v / 2)))) → o ≡ lex j (keyNumbers (entry h f v))
+pub order-filed : (h f : List ℕ) (j : List ℕ) (o : Tri) (v : ℕ) → (v % 2 ≡ 0 → ⊥) → o ≡ lex j (keyNumbers (recOf (lineAt f (v / 2)))) → o ≡ lex j (keyNumbers (recordOf h f v))
 order-filed h f j o v e u = u ∙ rw (entry-filed h f v e)
 
 pub ruleset keyagainst = (needs, order-held, order-filed)

@@ -17,6 +17,7 @@ use Rattle.meaning.specs.Lines.{isSep, turned, fieldsFrom, fieldsOf, afterField
 use Rattle.meaning.specs.Records.{contentOf}
 use Rattle.text.specs.Places.{endsHere, lineLen, fieldLen}
 use Rattle.text.proofs.FieldLaws.{sep-other, turn-quote, turn-other, fields-next, after-drop}
+use Rattle.text.proofs.SplitLaws.{len-le}
 use Rattle.entries.specs.Entries.{lineAt}
 use Rattle.entries.specs.Fields.{afterFields, firstField}
 
@@ -219,22 +220,12 @@ content-three t = refl
 
 -- ---- a field
 
--- a field is no longer than the line
-field-le : (q : Bool) (l : List ℕ) → fieldLen q l ≤ length l
-unfolding fieldLen
-field-le q [] = omega arith
-field-le q (x ∷ r) = go (isSep q x) (field-le (turned q x) r)
-  where
-    go : (b : Bool) → fieldLen (turned q x) r ≤ length r → pick b 0 (suc (fieldLen (turned q x) r)) ≤ suc (length r)
-    go true h = omega arith
-    go false h = omega arith
-
 -- the first field stands at the front of the bytes
 pub first-here : (s : List ℕ) (at e : ℕ) → e ≡ at + fieldLen false (lineAt s at) → take (e - at) (drop at s) ≡ firstField (lineAt s at)
 unfolding firstField lineAt
 first-here s at e q =
     let n : e - at ≡ fieldLen false (lineAt s at) = omega arith in
-    rw n (sym (take-take (fieldLen false (lineAt s at)) (lineLen (drop at s)) (drop at s) (omega (arith, field-le false (lineAt s at), length-take (lineLen (drop at s)) (drop at s)))))
+    rw n (sym (take-take (fieldLen false (lineAt s at)) (lineLen (drop at s)) (drop at s) (omega (arith, len-le false (lineAt s at), length-take (lineLen (drop at s)) (drop at s)))))
 
 pub ruleset fielding = (needs, first-here)
 

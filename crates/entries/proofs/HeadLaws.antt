@@ -135,16 +135,16 @@ kind-first t = go (kindOf (identifier t)) (kindOf (firstField t)) refl refl
     go none (some k) e f = ap kindOf (quiet-first t (rw (kind-out (firstField t) k f) (all-map quiet noQuote (λ x. and-r (not (eqb x 44)) (not (eqb x 34))) (ident k) (ident-quiet k))))
     go none none e f = f ∙ sym e
 
-module _ (t f : List ℕ) (r : found.KindFound) (q : f ≡ firstField t) (g : kindFound r ≡ kindOf f) where
-  found-is : kindFound r ≡ kindOf (identifier t)
-  found-is = g ∙ rw q (kind-first t)
+pub kind-by-first : (t f : List ℕ) (r : found.KindFound) → f ≡ firstField t → kindFound r ≡ kindOf f → kindFound r ≡ kindOf (identifier t)
+kind-by-first t f r q g = g ∙ rw q (kind-first t)
 
-  -- the kind of the line is its first field's
+module _ (t : List ℕ) (r : found.KindFound) (g : kindFound r ≡ kindOf (identifier t)) where
+  -- the kind of a line is its identifier's
   pub kind-known : (k : code.Kind) → r ≡ Known k → kindMeant k ≡ known (kindOf (identifier t))
-  kind-known k u = rw (← found-is, u)
+  kind-known k u = rw (← g, u)
 
   -- an unknown one is taken for a header's
   pub kind-unknown : r ≡ Unknown → header ≡ known (kindOf (identifier t))
-  kind-unknown u = rw (← found-is, u)
+  kind-unknown u = rw (← g, u)
 
-pub ruleset kinding = (needs, kind-known, kind-unknown)
+pub ruleset kinding = (needs, kind-by-first, kind-known, kind-unknown)

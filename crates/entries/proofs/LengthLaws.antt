@@ -8,7 +8,7 @@ use lib.ListN.{length, take, drop, length-drop}
 use lib.Seq.{length-take-le}
 use Rattle.text.specs.Places.{lineEnd, contentStart}
 use Rattle.text.proofs.FieldLaws.{content-part}
-use Rattle.entries.specs.Entries.{recOf, lineAt, entry}
+use Rattle.entries.specs.Entries.{recOf, lineAt, recordOf}
 use Rattle.entries.proofs.EntryLaws.{entry-held, entry-filed, line-past, line-here}
 
 -- the content of a line is as long as what stands from its start on
@@ -37,11 +37,11 @@ within-here s b at e l m u = omega (arith, length-take-le (e - at) (drop at s) (
 pub ruleset longrecord = (needs, long-past, long-here, within-past, within-here)
 
 -- an even entry's record is read in the holding
-pub long-held : (h f : List ℕ) (b v : ℕ) → v % 2 ≡ 0 → b ≡ length (recOf (lineAt h (v / 2)) .content) → b ≡ length (entry h f v .content)
+pub long-held : (h f : List ℕ) (b v : ℕ) → v % 2 ≡ 0 → b ≡ length (recOf (lineAt h (v / 2)) .content) → b ≡ length (recordOf h f v .content)
 long-held h f b v e u = u ∙ ap (λ r. length (r .content)) (sym (entry-held h f v e))
 
 -- an odd one's in the file
-pub long-filed : (h f : List ℕ) (b v : ℕ) → (v % 2 ≡ 0 → ⊥) → b ≡ length (recOf (lineAt f (v / 2)) .content) → b ≡ length (entry h f v .content)
+pub long-filed : (h f : List ℕ) (b v : ℕ) → (v % 2 ≡ 0 → ⊥) → b ≡ length (recOf (lineAt f (v / 2)) .content) → b ≡ length (recordOf h f v .content)
 long-filed h f b v e u = u ∙ ap (λ r. length (r .content)) (sym (entry-filed h f v e))
 
 pub ruleset longentry = (needs, long-held, long-filed)

@@ -22,7 +22,7 @@ use Rattle.keys.specs.declared.Referred.{Referred}
 use Rattle.keys.specs.Numbers.{numberOf, keyList, referredAs, keyNumbers, refAt}
 use Rattle.keys.specs.KeyLaws.{refs-are}
 use Rattle.keys.proofs.RowLaws.{ref-beyond, ref-low, ref-none, ref-some}
-use Rattle.entries.specs.Entries.{known, recOf, lineAt, entry}
+use Rattle.entries.specs.Entries.{known, recOf, lineAt, recordOf}
 use Rattle.entries.specs.Fields.{afterFields, firstField, byField}
 use Rattle.entries.specs.declared.references.Named.{Named}
 use Rattle.entries.specs.References.{RefersAs}
@@ -79,11 +79,11 @@ refers-at s at i c k own first second p q u v w x =
 pub ruleset atrefers = (needs, refers-at)
 
 -- an even entry's record is read in the holding
-pub refers-held : (h f : List ℕ) (v : ℕ) (r : Named) → v % 2 ≡ 0 → RefersAs (recOf (lineAt h (v / 2))) r → RefersAs (entry h f v) r
+pub refers-held : (h f : List ℕ) (v : ℕ) (r : Named) → v % 2 ≡ 0 → RefersAs (recOf (lineAt h (v / 2))) r → RefersAs (recordOf h f v) r
 refers-held h f v r e u = subst (λ x. RefersAs x r) (sym (entry-held h f v e)) u
 
 -- an odd one's in the file
-pub refers-filed : (h f : List ℕ) (v : ℕ) (r : Named) → (v % 2 ≡ 0 → ⊥) → RefersAs (recOf (lineAt f (v / 2))) r → RefersAs (entry h f v) r
+pub refers-filed : (h f : List ℕ) (v : ℕ) (r : Named) → (v % 2 ≡ 0 → ⊥) → RefersAs (recOf (lineAt f (v / 2))) r → RefersAs (recordOf h f v) r
 refers-filed h f v r e u = subst (λ x. RefersAs x r) (sym (entry-filed h f v e)) u
 
 pub ruleset entryrefers = (needs, refers-held, refers-filed)

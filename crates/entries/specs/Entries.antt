@@ -24,5 +24,5 @@ unfoldable pub lineAt : List ℕ → ℕ → List ℕ
 lineAt s at = take (lineLen (drop at s)) (drop at s)
 
 -- the record of an entry, which is twice the offset of its line's start: even for the holding, odd for the file
-unfoldable pub entry : List ℕ → List ℕ → ℕ → Rec
-entry h f v = recOf (lineAt (pick (eqb (v % 2) 0) h f) (v / 2))
+unfoldable pub recordOf : List ℕ → List ℕ → ℕ → Rec
+recordOf h f v = recOf (lineAt (pick (eqb (v % 2) 0) h f) (v / 2))

@@ -9,24 +9,24 @@ ghost use Rattle.entries.specs.Fields.{afterFields, firstField};
 use text::lines::ends_at;
 
 // Where the line at `at` starts: past the end stands an empty line.
-pub fn line_start(s: &[u8], at: usize) -> usize
-    ensures { λ r. ⌜ (lineAt (now (s .entry)) r ≡ lineAt (now (s .entry)) at) × (r ≤ length (now (s .entry))) ⌝ }
+pub fn line_start(bytes: &[u8], at: usize) -> usize
+    ensures { λ r. ⌜ (lineAt (now (bytes .entry)) r ≡ lineAt (now (bytes .entry)) at) × (r ≤ length (now (bytes .entry))) ⌝ }
 {
-    if s.len() < at {
-        return s.len();
+    if bytes.len() < at {
+        return bytes.len();
     }
     at
 }
 
 // Where the field at `at` ends: at the next separator, or where the line does. Most bytes are above commas, quotes and line ends.
-pub fn field_end(s: &[u8], at: usize) -> usize
-    requires { ⌜ at ≤ length (now s) ⌝ }
-    ensures { λ r. ⌜ (r ≡ at + fieldLen false (lineAt (now (s .entry)) at)) × (at ≤ r) × (r ≤ length (now (s .entry))) ⌝ }
+pub fn field_end(bytes: &[u8], at: usize) -> usize
+    requires { ⌜ at ≤ length (now bytes) ⌝ }
+    ensures { λ r. ⌜ (r ≡ at + fieldLen false (lineAt (now (bytes .entry)) at)) × (at ≤ r) × (r ≤ length (now (bytes .entry))) ⌝ }
 {
     let mut quoted = false;
     let mut i = at;
-    while i < s.len() {
-        let b = s[i];
+    while i < bytes.len() {
+        let b = bytes[i];
         if 44 < b {
             i += 1;
             continue;
@@ -43,7 +43,7 @@ pub fn field_end(s: &[u8], at: usize) -> usize
             i += 1;
             continue;
         }
-        if ends_at(s, i) {
+        if ends_at(bytes, i) {
             return i;
         }
         i += 1;
@@ -51,19 +51,19 @@ pub fn field_end(s: &[u8], at: usize) -> usize
     i
 }
 
-// Where what stands in the line after n fields starts.
-pub fn past_fields(s: &[u8], at: usize, n: usize) -> usize
-    requires { ⌜ at ≤ length (now s) ⌝ }
-    ensures { λ r. ⌜ (lineAt (now (s .entry)) r ≡ afterFields n (lineAt (now (s .entry)) at)) × (r ≤ length (now (s .entry))) ⌝ }
+// Where what stands in the line after `count` fields starts.
+pub fn past_fields(bytes: &[u8], at: usize, count: usize) -> usize
+    requires { ⌜ at ≤ length (now bytes) ⌝ }
+    ensures { λ r. ⌜ (lineAt (now (bytes .entry)) r ≡ afterFields count (lineAt (now (bytes .entry)) at)) × (r ≤ length (now (bytes .entry))) ⌝ }
 {
-    if n == 0 {
+    if count == 0 {
         return at;
     }
     let mut quoted = false;
-    let mut left = n;
+    let mut left = count;
     let mut i = at;
-    while i < s.len() {
-        let b = s[i];
+    while i < bytes.len() {
+        let b = bytes[i];
         if 44 < b {
             i += 1;
             continue;
@@ -85,7 +85,7 @@ pub fn past_fields(s: &[u8], at: usize, n: usize) -> usize
             i += 1;
             continue;
         }
-        if ends_at(s, i) {
+        if ends_at(bytes, i) {
             return i;
         }
         i += 1;
@@ -94,10 +94,10 @@ pub fn past_fields(s: &[u8], at: usize, n: usize) -> usize
 }
 
 // The field at `at`, with its quotes.
-pub fn first_field(s: &[u8], at: usize) -> &[u8]
-    requires { ⌜ at ≤ length (now s) ⌝ }
-    ensures { λ r. ⌜ now r ≡ firstField (lineAt (now (s .entry)) at) ⌝ }
+pub fn first_field(bytes: &[u8], at: usize) -> &[u8]
+    requires { ⌜ at ≤ length (now bytes) ⌝ }
+    ensures { λ r. ⌜ now r ≡ firstField (lineAt (now (bytes .entry)) at) ⌝ }
 {
-    let end = field_end(s, at);
-    &s[at..end]
+    let end = field_end(bytes, at);
+    &bytes[at..end]
 }

@@ -9,7 +9,7 @@ ghost use Rattle.meaning.specs.Table.{kindOf};
 ghost use Rattle.text.specs.Order.{triOf};
 ghost use Rattle.layout.specs.Meant.{kindMeant};
 ghost use Rattle.keys.specs.Numbers.{keyList, keyNumbers};
-ghost use Rattle.entries.specs.Entries.{known, recOf, lineAt, entry};
+ghost use Rattle.entries.specs.Entries.{known, recOf, lineAt, recordOf};
 ghost use Rattle.entries.specs.Fields.{afterFields, restNumbers};
 use crate::fields::line_start;
 use crate::heads::content_at;
@@ -35,15 +35,15 @@ pub fn line_kind(line: &[u8]) -> Kind
 }
 
 // The key of a record whose content stands in the line from `content` on.
-pub fn key_at(kind: Kind, s: &[u8], content: usize) -> Key
-    requires { ⌜ content ≤ length (now s) ⌝ }
-    ensures { λ r. ⌜ keyList r ≡ keyNumbers (record { kind = kindMeant kind; content = lineAt (now (s .entry)) content }) ⌝ }
+pub fn key_at(kind: Kind, bytes: &[u8], content: usize) -> Key
+    requires { ⌜ content ≤ length (now bytes) ⌝ }
+    ensures { λ r. ⌜ keyList r ≡ keyNumbers (record { kind = kindMeant kind; content = lineAt (now (bytes .entry)) content }) ⌝ }
 {
     let l = layout(kind);
     let places = l.key;
-    let first = number_at(kind, s, content, places[0]);
-    let second = number_at(kind, s, content, places[1]);
-    let third = number_at(kind, s, content, places[2]);
+    let first = number_at(kind, bytes, content, places[0]);
+    let second = number_at(kind, bytes, content, places[1]);
+    let third = number_at(kind, bytes, content, places[2]);
     Key {
         kind: l.number,
         first: first,
@@ -53,72 +53,72 @@ pub fn key_at(kind: Kind, s: &[u8], content: usize) -> Key
 }
 
 // The key of the record whose line starts at `at`; past the end stands an empty line.
-pub fn record_key(s: &[u8], at: usize) -> Key
-    ensures { λ r. ⌜ keyList r ≡ keyNumbers (recOf (lineAt (now (s .entry)) at)) ⌝ }
+pub fn record_key(bytes: &[u8], at: usize) -> Key
+    ensures { λ r. ⌜ keyList r ≡ keyNumbers (recOf (lineAt (now (bytes .entry)) at)) ⌝ }
 {
-    let start = line_start(s, at);
-    let kind = kind_at(s, start);
-    key_at(kind, s, content_at(s, start))
+    let start = line_start(bytes, at);
+    let kind = kind_at(bytes, start);
+    key_at(kind, bytes, content_at(bytes, start))
 }
 
 // The key of an entry's record.
-pub fn entry_key(h: &[u8], f: &[u8], v: u64) -> Key
-    ensures { λ r. ⌜ keyList r ≡ keyNumbers (entry (now (h .entry)) (now (f .entry)) v) ⌝ }
+pub fn entry_key(holding: &[u8], file: &[u8], entry: u64) -> Key
+    ensures { λ r. ⌜ keyList r ≡ keyNumbers (recordOf (now (holding .entry)) (now (file .entry)) entry) ⌝ }
 {
-    let at = (v / 2) as usize;
-    if v % 2 == 0 {
-        return record_key(h, at);
+    let at = (entry / 2) as usize;
+    if entry % 2 == 0 {
+        return record_key(holding, at);
     }
-    record_key(f, at)
+    record_key(file, at)
 }
 
 // How the second and third numbers of a key stand to those of a record whose content stands in the line from `content` on.
-fn rest_against(kind: Kind, s: &[u8], content: usize, k: Key) -> Order
-    requires { ⌜ content ≤ length (now s) ⌝ }
-    ensures { λ r. ⌜ triOf r ≡ lex (k .second ∷ (k .third ∷ [])) (restNumbers (kindMeant kind) (lineAt (now (s .entry)) content)) ⌝ }
+fn rest_against(kind: Kind, bytes: &[u8], content: usize, key: Key) -> Order
+    requires { ⌜ content ≤ length (now bytes) ⌝ }
+    ensures { λ r. ⌜ triOf r ≡ lex (key .second ∷ (key .third ∷ [])) (restNumbers (kindMeant kind) (lineAt (now (bytes .entry)) content)) ⌝ }
 {
     let l = layout(kind);
     let places = l.key;
-    let second = number_at(kind, s, content, places[1]);
-    if k.second != second {
-        return numbers(k.second, second);
+    let second = number_at(kind, bytes, content, places[1]);
+    if key.second != second {
+        return numbers(key.second, second);
     }
-    numbers(k.third, number_at(kind, s, content, places[2]))
+    numbers(key.third, number_at(kind, bytes, content, places[2]))
 }
 
 // How a key stands to that of a record of a kind in the line from `start` on: no field is read where the kinds tell, and no second
 // field where the first ones do.
-fn against_at(kind: Kind, s: &[u8], start: usize, k: Key) -> Order
-    requires { ⌜ start ≤ length (now s) ⌝ }
-    ensures { λ r. ⌜ triOf r ≡ lex (keyList k) (keyNumbers (record { kind = kindMeant kind; content = afterFields 3 (lineAt (now (s .entry)) start) })) ⌝ }
+fn against_at(kind: Kind, bytes: &[u8], start: usize, key: Key) -> Order
+    requires { ⌜ start ≤ length (now bytes) ⌝ }
+    ensures { λ r. ⌜ triOf r ≡ lex (keyList key) (keyNumbers (record { kind = kindMeant kind; content = afterFields 3 (lineAt (now (bytes .entry)) start) })) ⌝ }
 {
     let l = layout(kind);
-    if k.kind != l.number {
-        return numbers(k.kind, l.number);
+    if key.kind != l.number {
+        return numbers(key.kind, l.number);
     }
-    let content = content_at(s, start);
-    let first = first_number(kind, s, content);
-    if k.first != first {
-        return numbers(k.first, first);
+    let content = content_at(bytes, start);
+    let first = first_number(kind, bytes, content);
+    if key.first != first {
+        return numbers(key.first, first);
     }
-    rest_against(kind, s, content, k)
+    rest_against(kind, bytes, content, key)
 }
 
 // How a key stands to that of the record whose line starts at `at`.
-pub fn against_line(s: &[u8], at: usize, k: Key) -> Order
-    ensures { λ r. ⌜ triOf r ≡ lex (keyList k) (keyNumbers (recOf (lineAt (now (s .entry)) at))) ⌝ }
+pub fn against_line(bytes: &[u8], at: usize, key: Key) -> Order
+    ensures { λ r. ⌜ triOf r ≡ lex (keyList key) (keyNumbers (recOf (lineAt (now (bytes .entry)) at))) ⌝ }
 {
-    let start = line_start(s, at);
-    against_at(kind_at(s, start), s, start, k)
+    let start = line_start(bytes, at);
+    against_at(kind_at(bytes, start), bytes, start, key)
 }
 
 // How a key stands to an entry's.
-pub fn against(h: &[u8], f: &[u8], v: u64, k: Key) -> Order
-    ensures { λ r. ⌜ triOf r ≡ lex (keyList k) (keyNumbers (entry (now (h .entry)) (now (f .entry)) v)) ⌝ }
+pub fn against(holding: &[u8], file: &[u8], entry: u64, key: Key) -> Order
+    ensures { λ r. ⌜ triOf r ≡ lex (keyList key) (keyNumbers (recordOf (now (holding .entry)) (now (file .entry)) entry)) ⌝ }
 {
-    let at = (v / 2) as usize;
-    if v % 2 == 0 {
-        return against_line(h, at, k);
+    let at = (entry / 2) as usize;
+    if entry % 2 == 0 {
+        return against_line(holding, at, key);
     }
-    against_line(f, at, k)
+    against_line(file, at, key)
 }

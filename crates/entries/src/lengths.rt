@@ -2,7 +2,7 @@
 ghost use mathlib.Core.Path.{_≡_};
 ghost use Prim.Native.Nat.{_≤_, max};
 ghost use lib.ListN.{length};
-ghost use Rattle.entries.specs.Entries.{recOf, lineAt, entry};
+ghost use Rattle.entries.specs.Entries.{recOf, lineAt, recordOf};
 
 // The length of a line's content.
 fn line_length(line: &[u8]) -> usize
@@ -12,23 +12,23 @@ fn line_length(line: &[u8]) -> usize
 }
 
 // The length of the content of the line that starts at `at`.
-fn record_length(s: &[u8], at: usize) -> usize
-    ensures { λ r. ⌜ (r ≡ length (recOf (lineAt (now (s .entry)) at) .content)) × (r ≤ length (now (s .entry))) ⌝ }
+fn record_length(bytes: &[u8], at: usize) -> usize
+    ensures { λ r. ⌜ (r ≡ length (recOf (lineAt (now (bytes .entry)) at) .content)) × (r ≤ length (now (bytes .entry))) ⌝ }
 {
-    if s.len() < at {
-        return line_length(&s[0..0]);
+    if bytes.len() < at {
+        return line_length(&bytes[0..0]);
     }
-    let end = text::lines::line_end(s, at);
-    line_length(&s[at..end])
+    let end = text::lines::line_end(bytes, at);
+    line_length(&bytes[at..end])
 }
 
 // The length of the content of an entry's record.
-pub fn entry_length(h: &[u8], f: &[u8], v: u64) -> usize
-    ensures { λ r. ⌜ (r ≡ length (entry (now (h .entry)) (now (f .entry)) v .content)) × (r ≤ max (length (now (h .entry))) (length (now (f .entry)))) ⌝ }
+pub fn entry_length(holding: &[u8], file: &[u8], entry: u64) -> usize
+    ensures { λ r. ⌜ (r ≡ length (recordOf (now (holding .entry)) (now (file .entry)) entry .content)) × (r ≤ max (length (now (holding .entry))) (length (now (file .entry)))) ⌝ }
 {
-    let at = (v / 2) as usize;
-    if v % 2 == 0 {
-        return record_length(h, at);
+    let at = (entry / 2) as usize;
+    if entry % 2 == 0 {
+        return record_length(holding, at);
     }
-    record_length(f, at)
+    record_length(file, at)
 }

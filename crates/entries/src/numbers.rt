@@ -30,11 +30,11 @@ fn digit_above(b: u8) -> u64
 }
 
 // How many bytes from `at` on are a number's at most.
-fn room(s: &[u8], at: usize) -> usize
-    requires { ⌜ at ≤ length (now s) ⌝ }
-    ensures { λ r. ⌜ (r ≡ pick (ltb (length (now (s .entry)) - at) 16) (length (now (s .entry)) - at) 16) × (at + r ≤ length (now (s .entry))) × (r ≤ 16) ⌝ }
+fn room(bytes: &[u8], at: usize) -> usize
+    requires { ⌜ at ≤ length (now bytes) ⌝ }
+    ensures { λ r. ⌜ (r ≡ pick (ltb (length (now (bytes .entry)) - at) 16) (length (now (bytes .entry)) - at) 16) × (at + r ≤ length (now (bytes .entry))) × (r ≤ 16) ⌝ }
 {
-    let left = s.len() - at;
+    let left = bytes.len() - at;
     if left < 16 {
         return left;
     }
@@ -42,64 +42,64 @@ fn room(s: &[u8], at: usize) -> usize
 }
 
 // The value of the field at `at`, or of its first 16 bytes: digit by digit up to a comma, or by the field where another byte comes first.
-fn value_at(s: &[u8], at: usize) -> u64
-    requires { ⌜ at ≤ length (now s) ⌝ }
-    ensures { λ r. ⌜ r ≡ value (take 16 (firstField (lineAt (now (s .entry)) at))) ⌝ }
+fn value_at(bytes: &[u8], at: usize) -> u64
+    requires { ⌜ at ≤ length (now bytes) ⌝ }
+    ensures { λ r. ⌜ r ≡ value (take 16 (firstField (lineAt (now (bytes .entry)) at))) ⌝ }
 {
-    let most = room(s, at);
-    let mut v: u64 = 0;
-    let mut k = 0;
-    while k < most {
-        let b = s[at + k];
+    let most = room(bytes, at);
+    let mut value: u64 = 0;
+    let mut i = 0;
+    while i < most {
+        let b = bytes[at + i];
         if b < 48 {
             if b == 44 {
-                return v;
+                return value;
             }
-            return plain_number(first_field(s, at));
+            return plain_number(first_field(bytes, at));
         }
-        v = v * 10 + digit_above(b);
-        k += 1;
+        value = value * 10 + digit_above(b);
+        i += 1;
     }
-    v
+    value
 }
 
 // The number of the field at `at`.
-pub fn number_here(form: Form, s: &[u8], at: usize) -> u64
-    requires { ⌜ at ≤ length (now s) ⌝ }
-    ensures { λ r. ⌜ r ≡ numberOf (meant form) (firstField (lineAt (now (s .entry)) at)) ⌝ }
+pub fn number_here(form: Form, bytes: &[u8], at: usize) -> u64
+    requires { ⌜ at ≤ length (now bytes) ⌝ }
+    ensures { λ r. ⌜ r ≡ numberOf (meant form) (firstField (lineAt (now (bytes .entry)) at)) ⌝ }
 {
     if form::is_textual(form) {
-        return text_number(first_field(s, at));
+        return text_number(first_field(bytes, at));
     }
-    value_at(s, at)
+    value_at(bytes, at)
 }
 
 // The first number of the key of a record whose content stands in the line from `content` on. No kind's key begins with a text in
 // field 4, so that its form is not looked up there.
-pub fn first_number(kind: Kind, s: &[u8], content: usize) -> u64
-    requires { ⌜ content ≤ length (now s) ⌝ }
-    ensures { λ r. ⌜ r ≡ numberAt (kindMeant kind) (lineAt (now (s .entry)) content) (getD (laidOut (kindMeant kind) .key) 0 0) ⌝ }
+pub fn first_number(kind: Kind, bytes: &[u8], content: usize) -> u64
+    requires { ⌜ content ≤ length (now bytes) ⌝ }
+    ensures { λ r. ⌜ r ≡ numberAt (kindMeant kind) (lineAt (now (bytes .entry)) content) (getD (laidOut (kindMeant kind) .key) 0 0) ⌝ }
 {
     let l = layout(kind);
     let places = l.key;
     let place = places[0];
     if place == 4 {
-        return value_at(s, content);
+        return value_at(bytes, content);
     }
-    number_at(kind, s, content, place)
+    number_at(kind, bytes, content, place)
 }
 
 // The number of the field at a place of a record whose content stands in the line from `content` on; 0 where there is none.
-pub fn number_at(kind: Kind, s: &[u8], content: usize, place: usize) -> u64
-    requires { ⌜ content ≤ length (now s) ⌝ }
-    ensures { λ r. ⌜ r ≡ numberAt (kindMeant kind) (lineAt (now (s .entry)) content) place ⌝ }
+pub fn number_at(kind: Kind, bytes: &[u8], content: usize, place: usize) -> u64
+    requires { ⌜ content ≤ length (now bytes) ⌝ }
+    ensures { λ r. ⌜ r ≡ numberAt (kindMeant kind) (lineAt (now (bytes .entry)) content) place ⌝ }
 {
     if place < 4 {
         return 0;
     }
     number_here(
         form_at(kind, place - 1),
-        s,
-        past_fields(s, content, place - 4),
+        bytes,
+        past_fields(bytes, content, place - 4),
     )
 }

@@ -7,7 +7,7 @@ ghost use Rattle.theory.specs.Lex.{lex};
 ghost use Rattle.form.specs.Meant.{meant};
 ghost use Rattle.layout.specs.Meant.{kindMeant};
 ghost use Rattle.keys.specs.Numbers.{keyList, referredAs, refAt};
-ghost use Rattle.entries.specs.Entries.{recOf, lineAt, entry};
+ghost use Rattle.entries.specs.Entries.{recOf, lineAt, recordOf};
 ghost use Rattle.entries.specs.Fields.{firstField, byField};
 ghost use Rattle.entries.specs.References.{RefersAs};
 use crate::fields::first_field;
@@ -26,25 +26,25 @@ use layout::rules::layout;
 use text::order::Order;
 
 // What the field at `at`, of that form, makes a record refer to of a kind's number.
-fn reference_by(form: Form, s: &[u8], at: usize, to: u64) -> Referred
-    requires { ⌜ at ≤ length (now s) ⌝ }
-    ensures { λ r. ⌜ referredAs r ≡ byField (meant form) (firstField (lineAt (now (s .entry)) at)) to ⌝ }
+fn reference_by(form: Form, bytes: &[u8], at: usize, to: u64) -> Referred
+    requires { ⌜ at ≤ length (now bytes) ⌝ }
+    ensures { λ r. ⌜ referredAs r ≡ byField (meant form) (firstField (lineAt (now (bytes .entry)) at)) to ⌝ }
 {
-    if form::is_empty(form, first_field(s, at)) {
+    if form::is_empty(form, first_field(bytes, at)) {
         return Referred::Nothing;
     }
     Referred::To(Key {
         kind: to,
-        first: number_here(form, s, at),
+        first: number_here(form, bytes, at),
         second: 0,
         third: 0,
     })
 }
 
 // What the table's row j makes a record refer to whose content stands in the line from `content` on.
-fn reference_at(kind: Kind, s: &[u8], content: usize, j: usize) -> Referred
-    requires { ⌜ content ≤ length (now s) ⌝ }
-    ensures { λ r. ⌜ referredAs r ≡ refAt (kindMeant kind) (lineAt (now (s .entry)) content) j ⌝ }
+fn reference_at(kind: Kind, bytes: &[u8], content: usize, j: usize) -> Referred
+    requires { ⌜ content ≤ length (now bytes) ⌝ }
+    ensures { λ r. ⌜ referredAs r ≡ refAt (kindMeant kind) (lineAt (now (bytes .entry)) content) j ⌝ }
 {
     if 1 < j {
         return Referred::Nothing;
@@ -58,8 +58,8 @@ fn reference_at(kind: Kind, s: &[u8], content: usize, j: usize) -> Referred
     let kinds = l.to;
     reference_by(
         form_at(kind, place - 1),
-        s,
-        past_fields(s, content, place - 4),
+        bytes,
+        past_fields(bytes, content, place - 4),
         kinds[j],
     )
 }
@@ -72,28 +72,28 @@ pub struct Named {
 }
 
 // What the record whose line starts at `at` refers to.
-fn references_at(s: &[u8], at: usize) -> Named
-    ensures { λ r. ⌜ RefersAs (recOf (lineAt (now (s .entry)) at)) r ⌝ }
+fn references_at(bytes: &[u8], at: usize) -> Named
+    ensures { λ r. ⌜ RefersAs (recOf (lineAt (now (bytes .entry)) at)) r ⌝ }
 {
-    let start = line_start(s, at);
-    let kind = kind_at(s, start);
-    let content = content_at(s, start);
+    let start = line_start(bytes, at);
+    let kind = kind_at(bytes, start);
+    let content = content_at(bytes, start);
     Named {
-        own: key_at(kind, s, content),
-        first: reference_at(kind, s, content, 0),
-        second: reference_at(kind, s, content, 1),
+        own: key_at(kind, bytes, content),
+        first: reference_at(kind, bytes, content, 0),
+        second: reference_at(kind, bytes, content, 1),
     }
 }
 
 // What an entry's record refers to.
-pub fn references(h: &[u8], f: &[u8], v: u64) -> Named
-    ensures { λ r. ⌜ RefersAs (entry (now (h .entry)) (now (f .entry)) v) r ⌝ }
+pub fn references(holding: &[u8], file: &[u8], entry: u64) -> Named
+    ensures { λ r. ⌜ RefersAs (recordOf (now (holding .entry)) (now (file .entry)) entry) r ⌝ }
 {
-    let at = (v / 2) as usize;
-    if v % 2 == 0 {
-        return references_at(h, at);
+    let at = (entry / 2) as usize;
+    if entry % 2 == 0 {
+        return references_at(holding, at);
     }
-    references_at(f, at)
+    references_at(file, at)
 }
 
 // Whether two keys are the same.

@@ -2,7 +2,7 @@
 ghost use mathlib.Core.Path.{_≡_};
 ghost use Prim.Native.Nat.{_≤_};
 ghost use Rattle.keys.specs.Numbers.{keyList, keyNumbers};
-ghost use Rattle.entries.specs.Entries.{entry};
+ghost use Rattle.entries.specs.Entries.{recordOf};
 ghost use Rattle.entries.specs.Tags.{looseness, tagOf};
 use crate::key::entry_key;
 use keys::Key;
@@ -31,21 +31,21 @@ fn looseness(second: u64, third: u64) -> u64
 
 // A key's tag: its kind's number times the span, and twice its first number, with one more where other keys have the same two. What is
 // beyond has the highest tag of its kind, or of all. So an even tag is of one key only.
-pub fn tag(k: Key) -> u64
-    ensures { λ r. ⌜ r ≡ tagOf (keyList k) ⌝ }
+pub fn tag(key: Key) -> u64
+    ensures { λ r. ⌜ r ≡ tagOf (keyList key) ⌝ }
 {
-    if KINDS <= k.kind {
+    if KINDS <= key.kind {
         return 18446744073709551615;
     }
-    if FIRSTS <= k.first {
-        return k.kind * SPAN + (SPAN - 1);
+    if FIRSTS <= key.first {
+        return key.kind * SPAN + (SPAN - 1);
     }
-    k.kind * SPAN + (2 * k.first + looseness(k.second, k.third))
+    key.kind * SPAN + (2 * key.first + looseness(key.second, key.third))
 }
 
 // The tag of an entry's record.
-pub fn entry_tag(h: &[u8], f: &[u8], v: u64) -> u64
-    ensures { λ r. ⌜ r ≡ tagOf (keyNumbers (entry (now (h .entry)) (now (f .entry)) v)) ⌝ }
+pub fn entry_tag(holding: &[u8], file: &[u8], entry: u64) -> u64
+    ensures { λ r. ⌜ r ≡ tagOf (keyNumbers (recordOf (now (holding .entry)) (now (file .entry)) entry)) ⌝ }
 {
-    tag(entry_key(h, f, v))
+    tag(entry_key(holding, file, entry))
 }

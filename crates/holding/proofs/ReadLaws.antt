@@ -26,7 +26,7 @@ use Rattle.laws.specs.Body.{fine}
 use Rattle.laws.specs.HoldingReadBack.{Scanned, Reads, scanned}
 use Rattle.keys.specs.Numbers.{refNumbers}
 use Rattle.keys.specs.KeyLaws.{meets-agree}
-use Rattle.entries.specs.Entries.{entry}
+use Rattle.entries.specs.Entries.{recordOf}
 use Rattle.entries.specs.Tags.{tagOf}
 use Rattle.places.specs.Places.{says}
 use Rattle.places.specs.Counts.{times, refers, tally, byKey, moved, Open, Notes}
@@ -42,14 +42,14 @@ use Rattle.holding.specs.Verdict.{verdictOf}
 
 module _ (h a : List ℕ) (n i : ℕ) (l : n ≤ length a) (g : i < n) where
   -- what is left begins with the record of entry i
-  left-at : drop i (says h h a n) ≡ entry h h (getD a i 0) ∷ drop (i + 1) (says h h a n)
+  left-at : drop i (says h h a n) ≡ recordOf h h (getD a i 0) ∷ drop (i + 1) (says h h a n)
   left-at = rw (add-one i) (says-at h h a n l i g)
 
   -- which is sound, as all are
-  pub fine-at : T (all fine (says h h a n)) → T (fine (entry h h (getD a i 0)))
+  pub fine-at : T (all fine (says h h a n)) → T (fine (recordOf h h (getD a i 0)))
   fine-at t =
       let d : T (all fine (drop i (says h h a n))) = append-all fine (take i (says h h a n)) (drop i (says h h a n)) (rw (take-append-drop i (says h h a n)) t) .1 in
-      and-l (fine (entry h h (getD a i 0))) _ (subst (λ s. T (all fine s)) left-at d)
+      and-l (fine (recordOf h h (getD a i 0))) _ (subst (λ s. T (all fine s)) left-at d)
 
 -- the records from i on are left, and the references of those before it are counted
 pub record Counting (h a : List ℕ) (n : ℕ) (t : List ℕ) (i : ℕ) : Type 0 where
@@ -64,16 +64,16 @@ unmet-start h a n t l e = record { left = refl; told = e ∙ sym (by-nothing (sa
 module _ (h a : List ℕ) (n : ℕ) (t : List ℕ) (i : ℕ) (w : Counting h a n t i) (l : n ≤ length a) where
   module _ (m : n ≤ 8192) (g : i < n) (y : Asc keyed (says h h a n)) (p : T (all fine (says h h a n))) where
     -- one record's references more can be counted
-    pub unmet-open : Open true (says h h a n) t (refNumbers (entry h h (getD a i 0)))
+    pub unmet-open : Open true (says h h a n) t (refNumbers (recordOf h h (getD a i 0)))
     unmet-open =
-        open-up (says h h a n) (asc-told (says h h a n) y p) n (sym (length-says h h a n l)) (refNumbers (entry h h (getD a i 0))) (tally (take i (says h h a n))) t (w .told)
-        (λ k. omega (arith, tally-few (take i (says h h a n)) k, length-take-le i (says h h a n) (omega (arith, length-says h h a n l)), refs-few (entry h h (getD a i 0))))
+        open-up (says h h a n) (asc-told (says h h a n) y p) n (sym (length-says h h a n l)) (refNumbers (recordOf h h (getD a i 0))) (tally (take i (says h h a n))) t (w .told)
+        (λ k. omega (arith, tally-few (take i (says h h a n)) k, length-take-le i (says h h a n) (omega (arith, length-says h h a n l)), refs-few (recordOf h h (getD a i 0))))
 
-    module _ (u : List ℕ) (b : Bool) (q : Notes true (says h h a n) (entry h h (getD a i 0)) t u b) where
+    module _ (u : List ℕ) (b : Bool) (q : Notes true (says h h a n) (recordOf h h (getD a i 0)) t u b) where
       here : faultOf (pick b (referring (says h h a n) (suc (i + 1)) (drop (i + 1) (says h h a n))) (unsound (i + 1))) ≡ faultOf (referring (says h h a n) 1 (says h h a n))
       unfolding referring
       here =
-          let e : b ≡ meets keyed refsOf (says h h a n) (entry h h (getD a i 0)) = q .met ∙ meets-agree (says h h a n) p (entry h h (getD a i 0)) (fine-at h a n i l g p) in
+          let e : b ≡ meets keyed refsOf (says h h a n) (recordOf h h (getD a i 0)) = q .met ∙ meets-agree (says h h a n) p (recordOf h h (getD a i 0)) (fine-at h a n i l g p) in
           rw (left-at h a n i l g, ← e) at (w .left)
 
       -- one that is not met is the lowest
@@ -89,7 +89,7 @@ module _ (h a : List ℕ) (n : ℕ) (t : List ℕ) (i : ℕ) (w : Counting h a n
           st = says h h a n
 
           x : Rec
-          x = entry h h (getD a i 0)
+          x = recordOf h h (getD a i 0)
 
           more : take (i + 1) st ≡ take i st ++ (x ∷ [])
           more =

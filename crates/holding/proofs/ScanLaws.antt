@@ -40,7 +40,7 @@ use Rattle.layout.specs.Meant.{kindMeant, kindFound}
 use Rattle.keys.specs.declared.Key.{Key}
 use Rattle.keys.specs.Numbers.{keyList, keyNumbers}
 use Rattle.keys.specs.KeyLaws.{key-agrees}
-use Rattle.entries.specs.Entries.{entry}
+use Rattle.entries.specs.Entries.{recordOf}
 use Rattle.entries.specs.Tags.{tagOf}
 use Rattle.entries.proofs.EntryLaws.{entry-even, content-told}
 use Rattle.entries.proofs.LineLaws.{held-there}
@@ -246,7 +246,7 @@ module _ (h : List ℕ) (at e : ℕ) (b : Bool) (g : at < length h) (q : e ≡ p
         let t : Took (suc n) (s .lo) (recordAs judged (heldAs (suc n) b judged)) (λ r. scan (suc (suc n)) (some (keyOf r)) rest) (keyList j) = rw y at found in
         let r : Rec = t .taken in
         let m : n < length a = omega (arith, t .few) in
-        let f : entry h h (2 * at) ≡ r = entry-even h h at (2 * at) (omega arith) ∙ held-there h at (suc n) (firstLine (drop at h)) rest r (lines-at h at g) (line-held (suc n) ∙ t .held) in
+        let f : recordOf h h (2 * at) ≡ r = entry-even h h at (2 * at) (omega arith) ∙ held-there h at (suc n) (firstLine (drop at h)) rest r (lines-at h at g) (line-held (suc n) ∙ t .held) in
         let d : says h h (set a n (2 * at)) (n + 1) ≡ says h h a n ++ (r ∷ []) = says-more h h a n (2 * at) m ∙ rw f in
         record {
           lo = some (keyOf r);

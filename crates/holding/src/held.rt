@@ -13,18 +13,18 @@ use layout::rules::is_held;
 use text::fields::field;
 use text::order::is_same;
 
-// Whether a field is the number n without leading zeros.
-fn is_number(f: &[u8], n: usize) -> bool
-    ensures { λ r. ⌜ r ≡ same (now (f .entry)) (dec n) ⌝ }
+// Whether a field's text is that number without leading zeros.
+fn is_number(text: &[u8], number: usize) -> bool
+    ensures { λ r. ⌜ r ≡ same (now (text .entry)) (dec number) ⌝ }
 {
     let mut digits = [0u8; 20];
-    let width = text::put::number(&mut digits, n as u64);
-    is_same(f, &digits[0..width])
+    let width = text::put::number(&mut digits, number as u64);
+    is_same(text, &digits[0..width])
 }
 
-// Whether a line of a kind is sound as line n of a holding.
-fn passes(kind: Kind, text: &[u8], n: usize) -> bool
-    ensures { λ r. ⌜ r ≡ heldTest n (kindMeant kind) (now (text .entry)) ⌝ }
+// Whether a line of a kind is sound as the line of that number in a holding.
+fn passes(kind: Kind, text: &[u8], line: usize) -> bool
+    ensures { λ r. ⌜ r ≡ heldTest line (kindMeant kind) (now (text .entry)) ⌝ }
 {
     if !is_held(kind) {
         return false;
@@ -33,16 +33,16 @@ fn passes(kind: Kind, text: &[u8], n: usize) -> bool
     if fault.code != 0 {
         return false;
     }
-    let numbered = is_number(field(text, 2), n);
+    let numbered = is_number(field(text, 2), line);
     if !is_same(field(text, 1), b"\"I\"") {
         return false;
     }
     numbered
 }
 
-// The kind of line n, where it ends well and is sound as such.
-pub fn held_line(text: &[u8], ended: bool, n: usize) -> KindFound
-    ensures { λ r. ⌜ kindFound r ≡ heldAs n ended (now (text .entry)) ⌝ }
+// The kind of the line of that number, where it ends well and is sound as such.
+pub fn held_line(text: &[u8], ended: bool, line: usize) -> KindFound
+    ensures { λ r. ⌜ kindFound r ≡ heldAs line ended (now (text .entry)) ⌝ }
 {
     if !ended {
         return KindFound::Unknown;
@@ -50,7 +50,7 @@ pub fn held_line(text: &[u8], ended: bool, n: usize) -> KindFound
     let KindFound::Known(kind) = kind_at(text) else {
         return KindFound::Unknown;
     };
-    if !passes(kind, text, n) {
+    if !passes(kind, text, line) {
         return KindFound::Unknown;
     }
     KindFound::Known(kind)

@@ -27,14 +27,14 @@ pub enum Next {
     Faulty,
 }
 
-// The key of line n, where that is sound and its key stands after the one before.
-fn next_key(text: &[u8], ended: bool, n: usize, before: Key) -> Next
-    ensures { λ r. ⌜ keyTaken r ≡ nextAs n (keyList before) (recordAs (now (text .entry)) (heldAs n ended (now (text .entry)))) ⌝ }
+// The key of the line of that number, where that is sound and its key stands after the one before.
+fn next_key(text: &[u8], ended: bool, line: usize, before: Key) -> Next
+    ensures { λ r. ⌜ keyTaken r ≡ nextAs line (keyList before) (recordAs (now (text .entry)) (heldAs line ended (now (text .entry)))) ⌝ }
 {
-    if Holding::most_lines() < n {
+    if Holding::most_lines() < line {
         return Next::Faulty;
     }
-    let KindFound::Known(kind) = held_line(text, ended, n) else {
+    let KindFound::Known(kind) = held_line(text, ended, line) else {
         return Next::Faulty;
     };
     let start = content_start(text);

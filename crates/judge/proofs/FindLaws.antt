@@ -18,7 +18,7 @@ use Rattle.laws.specs.Body.{fine}
 use Rattle.keys.specs.declared.Key.{Key}
 use Rattle.keys.specs.Numbers.{keyList, keyNumbers, numbered}
 use Rattle.keys.specs.KeyLaws.{get-alike, own-agrees}
-use Rattle.entries.specs.Entries.{entry}
+use Rattle.entries.specs.Entries.{recordOf}
 use Rattle.places.specs.Places.{says}
 use Rattle.places.proofs.SaysLaws.{says-at}
 use Rattle.places.proofs.SearchLaws.{Stops, get-rank, stands-in}
@@ -30,28 +30,28 @@ pub get-both : (st : List Rec) (x : Rec) → T (all fine st) → T (fine x) → 
 get-both st x p g = get-alike st p (keyNumbers x) (keyOf x) (own-agrees x g)
 
 -- the place by halves and what stands there are what is asked for
-pub finds : (h f a : List ℕ) (n v : ℕ) (k : Key) (i : ℕ) (b : Bool) → T (all fine (says h f a n)) → T (fine (entry h f v)) → keyList k ≡ keyNumbers (entry h f v)
+pub finds : (h f a : List ℕ) (n v : ℕ) (k : Key) (i : ℕ) (b : Bool) → T (all fine (says h f a n)) → T (fine (recordOf h f v)) → keyList k ≡ keyNumbers (recordOf h f v)
     → i ≡ rank numbered (keyList k) (says h f a n) → i ≤ n → b ≡ some? (get numbered (keyList k) (says h f a n)) → Finds h f a n v (record { place = i; stands = b })
 finds h f a n v k i b p g e r l q =
-    record { placed = r ∙ ap (λ z. rank numbered z (says h f a n)) e; within = l; there = q ∙ ap (λ z. some? (get numbered z (says h f a n))) e ∙ ap some? (get-both (says h f a n) (entry h f v) p g) }
+    record { placed = r ∙ ap (λ z. rank numbered z (says h f a n)) e; within = l; there = q ∙ ap (λ z. some? (get numbered z (says h f a n))) e ∙ ap some? (get-both (says h f a n) (recordOf h f v) p g) }
 
 pub ruleset finding = (needs, asc-told, finds)
 
 -- where a key stands, the entry at its place is of the record that stands there
-pub found-at : (h f a k : List ℕ) (n i : ℕ) → n ≤ length a → i ≡ rank numbered k (says h f a n) → T (some? (get numbered k (says h f a n))) → get numbered k (says h f a n) ≡ some (entry h f (getD a i 0))
+pub found-at : (h f a k : List ℕ) (n i : ℕ) → n ≤ length a → i ≡ rank numbered k (says h f a n) → T (some? (get numbered k (says h f a n))) → get numbered k (says h f a n) ≡ some (recordOf h f (getD a i 0))
 unfolding get gets
-found-at h f a k n i l r t = whole ∙ go (lex k (keyNumbers (entry h f (getD a i 0)))) stop (subst (λ o. T (some? o)) whole t)
+found-at h f a k n i l r t = whole ∙ go (lex k (keyNumbers (recordOf h f (getD a i 0)))) stop (subst (λ o. T (some? o)) whole t)
   where
-    here : drop (rank numbered k (says h f a n)) (says h f a n) ≡ entry h f (getD a i 0) ∷ drop (suc i) (says h f a n)
+    here : drop (rank numbered k (says h f a n)) (says h f a n) ≡ recordOf h f (getD a i 0) ∷ drop (suc i) (says h f a n)
     here = ap (λ z. drop z (says h f a n)) (sym r) ∙ says-at h f a n l i (stands-in h f a n i k l r (some? (get numbered k (says h f a n))) refl (T-true _ t))
 
-    whole : get numbered k (says h f a n) ≡ get numbered k (entry h f (getD a i 0) ∷ drop (suc i) (says h f a n))
+    whole : get numbered k (says h f a n) ≡ get numbered k (recordOf h f (getD a i 0) ∷ drop (suc i) (says h f a n))
     whole = get-rank numbered k (says h f a n) .0 ∙ ap (get numbered k) here
 
-    stop : T (not (isGt (lex k (keyNumbers (entry h f (getD a i 0))))))
+    stop : T (not (isGt (lex k (keyNumbers (recordOf h f (getD a i 0))))))
     stop = subst (Stops numbered k) here (get-rank numbered k (says h f a n) .1)
 
-    go : (c : Tri) → T (not (isGt c)) → T (some? (gets numbered c (entry h f (getD a i 0)) (get numbered k (drop (suc i) (says h f a n))))) → gets numbered c (entry h f (getD a i 0)) (get numbered k (drop (suc i) (says h f a n))) ≡ some (entry h f (getD a i 0))
+    go : (c : Tri) → T (not (isGt c)) → T (some? (gets numbered c (recordOf h f (getD a i 0)) (get numbered k (drop (suc i) (says h f a n))))) → gets numbered c (recordOf h f (getD a i 0)) (get numbered k (drop (suc i) (says h f a n))) ≡ some (recordOf h f (getD a i 0))
     go lt w u = absurd u
     go eq w u = refl
     go gt w u = absurd w

@@ -30,7 +30,7 @@ use Rattle.laws.specs.Body.{fine}
 use Rattle.laws.specs.FastStep.{printed, written-render, written-length, fast-step}
 use Rattle.keys.specs.Numbers.{keyNumbers, refNumbers, numbered}
 use Rattle.keys.specs.KeyLaws.{clear-agree}
-use Rattle.entries.specs.Entries.{entry}
+use Rattle.entries.specs.Entries.{recordOf}
 use Rattle.places.specs.Places.{says}
 use Rattle.places.specs.Counts.{tally, Counted}
 use Rattle.places.specs.Changes.{change}
@@ -98,110 +98,110 @@ module _ (h f a : List ℕ) (room : ℕ) (s : State) (y : Ready h f a room s) wh
   sizes : size printed (says h f a (s .count)) ≡ s .size
   sizes = sym (written-length (says h f a (s .count))) ∙ sym (y .sized)
 
-  module _ (v : ℕ) (g : T (fine (entry h f v))) (p : Found) (q : Finds h f a (s .count) v p) where
-    at-none : p .stands ≡ false → get keyed (keyOf (entry h f v)) (says h f a (s .count)) ≡ none
-    at-none t = none-of (get keyed (keyOf (entry h f v)) (says h f a (s .count))) (sym (q .there) ∙ t)
+  module _ (v : ℕ) (g : T (fine (recordOf h f v))) (p : Found) (q : Finds h f a (s .count) v p) where
+    at-none : p .stands ≡ false → get keyed (keyOf (recordOf h f v)) (says h f a (s .count)) ≡ none
+    at-none t = none-of (get keyed (keyOf (recordOf h f v)) (says h f a (s .count))) (sym (q .there) ∙ t)
 
-    stood : p .stands ≡ true → T (some? (get numbered (keyNumbers (entry h f v)) (says h f a (s .count))))
-    stood t = rw (get-both (says h f a (s .count)) (entry h f v) (y .fines) g, sym (q .there) ∙ t) tt
+    stood : p .stands ≡ true → T (some? (get numbered (keyNumbers (recordOf h f v)) (says h f a (s .count))))
+    stood t = rw (get-both (says h f a (s .count)) (recordOf h f v) (y .fines) g, sym (q .there) ∙ t) tt
 
-    at-some : p .stands ≡ true → get keyed (keyOf (entry h f v)) (says h f a (s .count)) ≡ some (entry h f (getD a (p .place) 0))
+    at-some : p .stands ≡ true → get keyed (keyOf (recordOf h f v)) (says h f a (s .count)) ≡ some (recordOf h f (getD a (p .place) 0))
     at-some t =
-        sym (get-both (says h f a (s .count)) (entry h f v) (y .fines) g)
-        ∙ found-at h f a (keyNumbers (entry h f v)) (s .count) (p .place) ready-in (q .placed) (stood t)
+        sym (get-both (says h f a (s .count)) (recordOf h f v) (y .fines) g)
+        ∙ found-at h f a (keyNumbers (recordOf h f v)) (s .count) (p .place) ready-in (q .placed) (stood t)
 
     -- the place of a key that stands is in the array
     pub place-in : p .stands ≡ true → p .place < length a
-    place-in t = omega (arith, ready-in, stands-in h f a (s .count) (p .place) (keyNumbers (entry h f v)) ready-in (q .placed) (some? (get numbered (keyNumbers (entry h f v)) (says h f a (s .count)))) refl (T-true _ (stood t)))
+    place-in t = omega (arith, ready-in, stands-in h f a (s .count) (p .place) (keyNumbers (recordOf h f v)) ready-in (q .placed) (some? (get numbered (keyNumbers (recordOf h f v)) (says h f a (s .count)))) refl (T-true _ (stood t)))
 
-    refused : (o : Op) (w z : ℕ) → w ≡ codeNumber (judge keyed (stepTests room) (says h f a (s .count)) (change o (entry h f v))) → (w ≡ 0 → ⊥)
-        → Judges h f a room (change o (entry h f v)) s (record { code = w; place = p .place; size = z })
+    refused : (o : Op) (w z : ℕ) → w ≡ codeNumber (judge keyed (stepTests room) (says h f a (s .count)) (change o (recordOf h f v))) → (w ≡ 0 → ⊥)
+        → Judges h f a room (change o (recordOf h f v)) s (record { code = w; place = p .place; size = z })
     refused o w z e n = record { coded = e; placed = q .placed; within = q .within; sized = λ u. absurd (n u) }
 
-    taken : (o : Op) (z : ℕ) → judge keyed (stepTests room) (says h f a (s .count)) (change o (entry h f v)) ≡ none → z ≡ length (written (after keyed (says h f a (s .count)) (change o (entry h f v))))
-        → Judges h f a room (change o (entry h f v)) s (record { code = 0; place = p .place; size = z })
+    taken : (o : Op) (z : ℕ) → judge keyed (stepTests room) (says h f a (s .count)) (change o (recordOf h f v)) ≡ none → z ≡ length (written (after keyed (says h f a (s .count)) (change o (recordOf h f v))))
+        → Judges h f a room (change o (recordOf h f v)) s (record { code = 0; place = p .place; size = z })
     taken o z e n = record { coded = rw e; placed = q .placed; within = q .within; sized = λ u. n }
 
     -- ---- insert
 
-    told-ins : judge keyed (stepTests room) (says h f a (s .count)) (change ins (entry h f v))
-        ≡ ask (not (some? (get keyed (keyOf (entry h f v)) (says h f a (s .count))))) 10
+    told-ins : judge keyed (stepTests room) (says h f a (s .count)) (change ins (recordOf h f v))
+        ≡ ask (not (some? (get keyed (keyOf (recordOf h f v)) (says h f a (s .count))))) 10
         (ask (leb (suc (length (says h f a (s .count)))) most) 16
-        (ask (meets keyed refsOf (says h f a (s .count)) (entry h f v)) 12
-        (ask (leb (length (render printed (says h f a (s .count))) + bare printed (entry h f v) + width (suc (length (says h f a (s .count))))) room) 13 none)))
+        (ask (meets keyed refsOf (says h f a (s .count)) (recordOf h f v)) 12
+        (ask (leb (length (render printed (says h f a (s .count))) + bare printed (recordOf h f v) + width (suc (length (says h f a (s .count))))) room) 13 none)))
     unfolding fast fewAfter metAfter sizeAfter
-    told-ins = fast-step room (says h f a (s .count)) (change ins (entry h f v)) (y .asc) (y .pass)
+    told-ins = fast-step room (says h f a (s .count)) (change ins (recordOf h f v)) (y .asc) (y .pass)
 
     -- a key that stands is not inserted
-    pub ins-held : p .stands ≡ true → Judges h f a room (change ins (entry h f v)) s (record { code = 10; place = p .place; size = s .size })
+    pub ins-held : p .stands ≡ true → Judges h f a room (change ins (recordOf h f v)) s (record { code = 10; place = p .place; size = s .size })
     unfolding ask
     ins-held t = refused ins 10 (s .size) (rw (told-ins, ← q .there, t)) (λ e. omega arith)
 
     module _ (t : p .stands ≡ false) (limit : ℕ) (limited : limit ≡ most) where
       -- 8,192 records are enough
-      pub ins-many : limit ≤ s .count → Judges h f a room (change ins (entry h f v)) s (record { code = 16; place = p .place; size = s .size })
+      pub ins-many : limit ≤ s .count → Judges h f a room (change ins (recordOf h f v)) s (record { code = 16; place = p .place; size = s .size })
       unfolding ask
       ins-many m = refused ins 16 (s .size) (rw (told-ins, ← q .there, t, lt-leb (suc (length (says h f a (s .count)))) most (omega (arith, y .counted)))) (λ e. omega arith)
 
-      module _ (m : s .count < limit) (b : Bool) (r : b ≡ meets keyed refsOf (says h f a (s .count)) (entry h f v)) where
+      module _ (m : s .count < limit) (b : Bool) (r : b ≡ meets keyed refsOf (says h f a (s .count)) (recordOf h f v)) where
         few-ok : leb (suc (length (says h f a (s .count)))) most ≡ true
         few-ok = le-leb (suc (length (says h f a (s .count)))) most (omega (arith, y .counted))
 
         -- its references must be met
-        pub ins-unmet : b ≡ false → Judges h f a room (change ins (entry h f v)) s (record { code = 12; place = p .place; size = s .size })
+        pub ins-unmet : b ≡ false → Judges h f a room (change ins (recordOf h f v)) s (record { code = 12; place = p .place; size = s .size })
         unfolding ask
         ins-unmet u = refused ins 12 (s .size) (rw (told-ins, ← q .there, t, few-ok, ← r, u)) (λ e. omega arith)
 
-        module _ (u : b ≡ true) (l w : ℕ) (d : l ≡ length (entry h f v .content)) (e : w ≡ width (s .count + 1)) where
+        module _ (u : b ≡ true) (l w : ℕ) (d : l ≡ length (recordOf h f v .content)) (e : w ≡ width (s .count + 1)) where
           wider : width (suc (length (says h f a (s .count)))) ≡ w
           wider =
               let i : suc (length (says h f a (s .count))) ≡ s .count + 1 = omega (arith, y .counted) in
               rw i (sym e)
 
-          grown : length (render printed (says h f a (s .count))) + bare printed (entry h f v) + width (suc (length (says h f a (s .count)))) ≡ s .size + (l + 10 + w)
-          grown = omega (arith, rendered, bare-is (entry h f v), wider)
+          grown : length (render printed (says h f a (s .count))) + bare printed (recordOf h f v) + width (suc (length (says h f a (s .count)))) ≡ s .size + (l + 10 + w)
+          grown = omega (arith, rendered, bare-is (recordOf h f v), wider)
 
           -- it must fit
-          pub ins-long : room - s .size < l + 10 + w → Judges h f a room (change ins (entry h f v)) s (record { code = 13; place = p .place; size = s .size })
+          pub ins-long : room - s .size < l + 10 + w → Judges h f a room (change ins (recordOf h f v)) s (record { code = 13; place = p .place; size = s .size })
           unfolding ask
           ins-long x = refused ins 13 (s .size) (rw (told-ins, ← q .there, t, few-ok, ← r, u, grown, lt-leb (s .size + (l + 10 + w)) room (omega (arith, y .fits)))) (λ e. omega arith)
 
-          ins-sized : s .size + (l + 10 + w) ≡ length (written (after keyed (says h f a (s .count)) (change ins (entry h f v))))
+          ins-sized : s .size + (l + 10 + w) ≡ length (written (after keyed (says h f a (s .count)) (change ins (recordOf h f v))))
           unfolding after
-          ins-sized = omega (arith, written-length (put keyed (keyOf (entry h f v)) (some (entry h f v)) (says h f a (s .count))), size-ins keyed printed (keyOf (entry h f v)) (entry h f v) (says h f a (s .count)) (at-none t), sizes, bare-is (entry h f v), wider)
+          ins-sized = omega (arith, written-length (put keyed (keyOf (recordOf h f v)) (some (recordOf h f v)) (says h f a (s .count))), size-ins keyed printed (keyOf (recordOf h f v)) (recordOf h f v) (says h f a (s .count)) (at-none t), sizes, bare-is (recordOf h f v), wider)
 
           -- else it is taken
-          pub ins-taken : l + 10 + w ≤ room - s .size → Judges h f a room (change ins (entry h f v)) s (record { code = 0; place = p .place; size = s .size + (l + 10 + w) })
+          pub ins-taken : l + 10 + w ≤ room - s .size → Judges h f a room (change ins (recordOf h f v)) s (record { code = 0; place = p .place; size = s .size + (l + 10 + w) })
           unfolding ask
           ins-taken x = taken ins (s .size + (l + 10 + w)) (rw (told-ins, ← q .there, t, few-ok, ← r, u, grown, le-leb (s .size + (l + 10 + w)) room (omega (arith, y .fits)))) ins-sized
 
     -- ---- update
 
     -- a key that stands nowhere is not updated
-    pub upd-absent : p .stands ≡ false → Judges h f a room (change upd (entry h f v)) s (record { code = 11; place = p .place; size = s .size })
+    pub upd-absent : p .stands ≡ false → Judges h f a room (change upd (recordOf h f v)) s (record { code = 11; place = p .place; size = s .size })
     unfolding ask fast
-    upd-absent t = refused upd 11 (s .size) (rw (fast-step room (says h f a (s .count)) (change upd (entry h f v)) (y .asc) (y .pass), at-none t)) (λ e. omega arith)
+    upd-absent t = refused upd 11 (s .size) (rw (fast-step room (says h f a (s .count)) (change upd (recordOf h f v)) (y .asc) (y .pass), at-none t)) (λ e. omega arith)
 
     module _ (t : p .stands ≡ true) where
-      told-upd : judge keyed (stepTests room) (says h f a (s .count)) (change upd (entry h f v))
-          ≡ ask (meets keyed refsOf (says h f a (s .count)) (entry h f v)) 12
-          (ask (leb (length (render printed (says h f a (s .count))) + bare printed (entry h f v) - bare printed (entry h f (getD a (p .place) 0))) room) 13 none)
+      told-upd : judge keyed (stepTests room) (says h f a (s .count)) (change upd (recordOf h f v))
+          ≡ ask (meets keyed refsOf (says h f a (s .count)) (recordOf h f v)) 12
+          (ask (leb (length (render printed (says h f a (s .count))) + bare printed (recordOf h f v) - bare printed (recordOf h f (getD a (p .place) 0))) room) 13 none)
       unfolding fast fewAfter metAfter sizeAfter ask
-      told-upd = fast-step room (says h f a (s .count)) (change upd (entry h f v)) (y .asc) (y .pass) ∙ rw (at-some t)
+      told-upd = fast-step room (says h f a (s .count)) (change upd (recordOf h f v)) (y .asc) (y .pass) ∙ rw (at-some t)
 
-      module _ (b : Bool) (r : b ≡ meets keyed refsOf (says h f a (s .count)) (entry h f v)) where
+      module _ (b : Bool) (r : b ≡ meets keyed refsOf (says h f a (s .count)) (recordOf h f v)) where
         -- its references must be met
-        pub upd-unmet : b ≡ false → Judges h f a room (change upd (entry h f v)) s (record { code = 12; place = p .place; size = s .size })
+        pub upd-unmet : b ≡ false → Judges h f a room (change upd (recordOf h f v)) s (record { code = 12; place = p .place; size = s .size })
         unfolding ask
         upd-unmet u = refused upd 12 (s .size) (rw (told-upd, ← r, u)) (λ e. omega arith)
 
-        module _ (l n : ℕ) (d : l ≡ length (entry h f (getD a (p .place) 0) .content)) (e : n ≡ length (entry h f v .content)) where
-          upd-sized : length (written (after keyed (says h f a (s .count)) (change upd (entry h f v)))) + l ≡ s .size + n
+        module _ (l n : ℕ) (d : l ≡ length (recordOf h f (getD a (p .place) 0) .content)) (e : n ≡ length (recordOf h f v .content)) where
+          upd-sized : length (written (after keyed (says h f a (s .count)) (change upd (recordOf h f v)))) + l ≡ s .size + n
           unfolding after
-          upd-sized = omega (arith, written-length (put keyed (keyOf (entry h f v)) (some (entry h f v)) (says h f a (s .count))), size-upd keyed printed (keyOf (entry h f v)) (entry h f (getD a (p .place) 0)) (entry h f v) (says h f a (s .count)) (at-some t), sizes, bare-is (entry h f v), bare-is (entry h f (getD a (p .place) 0)))
+          upd-sized = omega (arith, written-length (put keyed (keyOf (recordOf h f v)) (some (recordOf h f v)) (says h f a (s .count))), size-upd keyed printed (keyOf (recordOf h f v)) (recordOf h f (getD a (p .place) 0)) (recordOf h f v) (says h f a (s .count)) (at-some t), sizes, bare-is (recordOf h f v), bare-is (recordOf h f (getD a (p .place) 0)))
 
-          upd-changed : length (render printed (says h f a (s .count))) + bare printed (entry h f v) - bare printed (entry h f (getD a (p .place) 0)) ≡ s .size + n - l
-          upd-changed = omega (arith, rendered, bare-is (entry h f v), bare-is (entry h f (getD a (p .place) 0)))
+          upd-changed : length (render printed (says h f a (s .count))) + bare printed (recordOf h f v) - bare printed (recordOf h f (getD a (p .place) 0)) ≡ s .size + n - l
+          upd-changed = omega (arith, rendered, bare-is (recordOf h f v), bare-is (recordOf h f (getD a (p .place) 0)))
 
           -- a shorter record leaves what is not its own
           pub upd-room : n ≤ l → l - n ≤ s .size
@@ -209,60 +209,60 @@ module _ (h f a : List ℕ) (room : ℕ) (s : State) (y : Ready h f a room s) wh
 
           module _ (u : b ≡ true) where
             -- a record that is no longer always fits
-            pub upd-shorter : n ≤ l → Judges h f a room (change upd (entry h f v)) s (record { code = 0; place = p .place; size = s .size - (l - n) })
+            pub upd-shorter : n ≤ l → Judges h f a room (change upd (recordOf h f v)) s (record { code = 0; place = p .place; size = s .size - (l - n) })
             unfolding ask
             upd-shorter x = taken upd (s .size - (l - n)) (rw (told-upd, ← r, u, upd-changed, le-leb (s .size + n - l) room (omega (arith, y .fits)))) (omega (arith, upd-sized))
 
             -- a longer one must fit
-            pub upd-long : l < n → room - s .size < n - l → Judges h f a room (change upd (entry h f v)) s (record { code = 13; place = p .place; size = s .size })
+            pub upd-long : l < n → room - s .size < n - l → Judges h f a room (change upd (recordOf h f v)) s (record { code = 13; place = p .place; size = s .size })
             unfolding ask
             upd-long x z = refused upd 13 (s .size) (rw (told-upd, ← r, u, upd-changed, lt-leb (s .size + n - l) room (omega (arith, y .fits)))) (λ e. omega arith)
 
             -- else it is taken
-            pub upd-longer : l < n → n - l ≤ room - s .size → Judges h f a room (change upd (entry h f v)) s (record { code = 0; place = p .place; size = s .size + (n - l) })
+            pub upd-longer : l < n → n - l ≤ room - s .size → Judges h f a room (change upd (recordOf h f v)) s (record { code = 0; place = p .place; size = s .size + (n - l) })
             unfolding ask
             upd-longer x z = taken upd (s .size + (n - l)) (rw (told-upd, ← r, u, upd-changed, le-leb (s .size + n - l) room (omega (arith, y .fits)))) (omega (arith, upd-sized))
 
     -- ---- delete
 
     -- a key that stands nowhere is not deleted
-    pub del-absent : p .stands ≡ false → Judges h f a room (change del (entry h f v)) s (record { code = 11; place = p .place; size = s .size })
+    pub del-absent : p .stands ≡ false → Judges h f a room (change del (recordOf h f v)) s (record { code = 11; place = p .place; size = s .size })
     unfolding ask fast
-    del-absent t = refused del 11 (s .size) (rw (fast-step room (says h f a (s .count)) (change del (entry h f v)) (y .asc) (y .pass), at-none t)) (λ e. omega arith)
+    del-absent t = refused del 11 (s .size) (rw (fast-step room (says h f a (s .count)) (change del (recordOf h f v)) (y .asc) (y .pass), at-none t)) (λ e. omega arith)
 
     module _ (t : p .stands ≡ true) where
-      told-del : judge keyed (stepTests room) (says h f a (s .count)) (change del (entry h f v))
-          ≡ ask (all (clear keyed refsOf (keyOf (entry h f v))) (says h f a (s .count))) 12
-          (ask (leb (length (render printed (says h f a (s .count))) - bare printed (entry h f (getD a (p .place) 0)) - width (length (says h f a (s .count)))) room) 13 none)
+      told-del : judge keyed (stepTests room) (says h f a (s .count)) (change del (recordOf h f v))
+          ≡ ask (all (clear keyed refsOf (keyOf (recordOf h f v))) (says h f a (s .count))) 12
+          (ask (leb (length (render printed (says h f a (s .count))) - bare printed (recordOf h f (getD a (p .place) 0)) - width (length (says h f a (s .count)))) room) 13 none)
       unfolding fast fewAfter metAfter sizeAfter ask
-      told-del = fast-step room (says h f a (s .count)) (change del (entry h f v)) (y .asc) (y .pass) ∙ rw (at-some t)
+      told-del = fast-step room (says h f a (s .count)) (change del (recordOf h f v)) (y .asc) (y .pass) ∙ rw (at-some t)
 
       module _ (c : List ℕ) (k : Counted h f a c (s .count)) where
         -- its count is beside it
         pub count-in : p .place < length c
-        count-in = omega (arith, k .space, ready-few, stands-in h f a (s .count) (p .place) (keyNumbers (entry h f v)) ready-in (q .placed) (some? (get numbered (keyNumbers (entry h f v)) (says h f a (s .count)))) refl (T-true _ (stood t)))
+        count-in = omega (arith, k .space, ready-few, stands-in h f a (s .count) (p .place) (keyNumbers (recordOf h f v)) ready-in (q .placed) (some? (get numbered (keyNumbers (recordOf h f v)) (says h f a (s .count)))) refl (T-true _ (stood t)))
 
-        counts : getD c (p .place) 0 ≡ tally (says h f a (s .count)) (keyNumbers (entry h f v))
+        counts : getD c (p .place) 0 ≡ tally (says h f a (s .count)) (keyNumbers (recordOf h f v))
         unfolding has
         counts =
             ap (λ i. getD c i 0) (q .placed)
-            ∙ count-at (says h f a (s .count)) (asc-told (says h f a (s .count)) (y .asc) (y .fines)) (s .count) (y .counted) true (tally (says h f a (s .count))) c (k .told) (keyNumbers (entry h f v)) (stood t)
+            ∙ count-at (says h f a (s .count)) (asc-told (says h f a (s .count)) (y .asc) (y .fines)) (s .count) (y .counted) true (tally (says h f a (s .count))) c (k .told) (keyNumbers (recordOf h f v)) (stood t)
 
-        seen : all (clear keyed refsOf (keyOf (entry h f v))) (says h f a (s .count)) ≡ eqb (getD c (p .place) 0) 0
-        seen = sym (clear-all (entry h f v) (says h f a (s .count)) g (y .fines)) ∙ clear-tally (keyNumbers (entry h f v)) (says h f a (s .count)) ∙ ap (λ n. eqb n 0) (sym counts)
+        seen : all (clear keyed refsOf (keyOf (recordOf h f v))) (says h f a (s .count)) ≡ eqb (getD c (p .place) 0) 0
+        seen = sym (clear-all (recordOf h f v) (says h f a (s .count)) g (y .fines)) ∙ clear-tally (keyNumbers (recordOf h f v)) (says h f a (s .count)) ∙ ap (λ n. eqb n 0) (sym counts)
 
         -- no record may refer to the one that goes
-        pub del-met : (getD c (p .place) 0 ≡ 0 → ⊥) → Judges h f a room (change del (entry h f v)) s (record { code = 12; place = p .place; size = s .size })
+        pub del-met : (getD c (p .place) 0 ≡ 0 → ⊥) → Judges h f a room (change del (recordOf h f v)) s (record { code = 12; place = p .place; size = s .size })
         unfolding ask
         del-met u = refused del 12 (s .size) (rw (told-del, seen, ne-eqb (getD c (p .place) 0) 0 u)) (λ e. omega arith)
 
-      module _ (l w : ℕ) (d : l ≡ length (entry h f (getD a (p .place) 0) .content)) (e : w ≡ width (s .count)) where
+      module _ (l w : ℕ) (d : l ≡ length (recordOf h f (getD a (p .place) 0) .content)) (e : w ≡ width (s .count)) where
         narrower : width (length (says h f a (s .count))) ≡ w
         narrower = ap width (sym (y .counted)) ∙ sym e
 
-        del-sized : length (written (after keyed (says h f a (s .count)) (change del (entry h f v)))) + (l + 10 + w) ≡ s .size
+        del-sized : length (written (after keyed (says h f a (s .count)) (change del (recordOf h f v)))) + (l + 10 + w) ≡ s .size
         unfolding after
-        del-sized = omega (arith, written-length (put keyed (keyOf (entry h f v)) none (says h f a (s .count))), size-del keyed printed (keyOf (entry h f v)) (entry h f (getD a (p .place) 0)) (says h f a (s .count)) (at-some t), sizes, bare-is (entry h f (getD a (p .place) 0)), narrower)
+        del-sized = omega (arith, written-length (put keyed (keyOf (recordOf h f v)) none (says h f a (s .count))), size-del keyed printed (keyOf (recordOf h f v)) (recordOf h f (getD a (p .place) 0)) (says h f a (s .count)) (at-some t), sizes, bare-is (recordOf h f (getD a (p .place) 0)), narrower)
 
         -- its line was written
         pub del-room : l + 10 + w ≤ s .size
@@ -270,11 +270,11 @@ module _ (h f a : List ℕ) (room : ℕ) (s : State) (y : Ready h f a room s) wh
 
         -- else it is taken
         pub del-taken : (c : List ℕ) → Counted h f a c (s .count) → getD c (p .place) 0 ≡ 0
-            → Judges h f a room (change del (entry h f v)) s (record { code = 0; place = p .place; size = s .size - (l + 10 + w) })
+            → Judges h f a room (change del (recordOf h f v)) s (record { code = 0; place = p .place; size = s .size - (l + 10 + w) })
         unfolding ask
         del-taken c k u =
-            let x : length (render printed (says h f a (s .count))) - bare printed (entry h f (getD a (p .place) 0)) - width (length (says h f a (s .count))) ≤ room = omega (arith, rendered, y .fits) in
-            taken del (s .size - (l + 10 + w)) (rw (told-del, seen c k, eq-eqb (getD c (p .place) 0) 0 u, le-leb (length (render printed (says h f a (s .count))) - bare printed (entry h f (getD a (p .place) 0)) - width (length (says h f a (s .count)))) room x)) (omega (arith, del-sized))
+            let x : length (render printed (says h f a (s .count))) - bare printed (recordOf h f (getD a (p .place) 0)) - width (length (says h f a (s .count))) ≤ room = omega (arith, rendered, y .fits) in
+            taken del (s .size - (l + 10 + w)) (rw (told-del, seen c k, eq-eqb (getD c (p .place) 0) 0 u, le-leb (length (render printed (says h f a (s .count))) - bare printed (recordOf h f (getD a (p .place) 0)) - width (length (says h f a (s .count)))) room x)) (omega (arith, del-sized))
 
 -- what is told is judged as it was put together
 pub judged-told : (h f a : List ℕ) (room : ℕ) (c : Change Rec) (s : State) (x y : Judged) → x ≡ y → Judges h f a room c s y → Judges h f a room c s x

@@ -15,7 +15,7 @@ use Rattle.meaning.specs.Load.{stepTests}
 use Rattle.laws.specs.Body.{fine}
 use Rattle.laws.specs.HoldingReadBack.{always}
 use Rattle.keys.specs.Numbers.{keyNumbers, numbered}
-use Rattle.entries.specs.Entries.{entry}
+use Rattle.entries.specs.Entries.{recordOf}
 use Rattle.places.specs.Places.{says}
 use Rattle.judge.specs.declared.State.{State}
 use Rattle.judge.specs.declared.Found.{Found}
@@ -41,9 +41,9 @@ pub record Ready (h f a : List ℕ) (room : ℕ) (s : State) : Type 0 where
 
 -- the place of the key of an entry's record among the first n, and whether a record stands there
 pub record Finds (h f a : List ℕ) (n v : ℕ) (r : Found) : Type 0 where
-  pub placed : r .place ≡ rank numbered (keyNumbers (entry h f v)) (says h f a n)
+  pub placed : r .place ≡ rank numbered (keyNumbers (recordOf h f v)) (says h f a n)
   pub within : r .place ≤ n
-  pub there : r .stands ≡ some? (get keyed (keyOf (entry h f v)) (says h f a n))
+  pub there : r .stands ≡ some? (get keyed (keyOf (recordOf h f v)) (says h f a n))
 
 -- the code of a change over the state, the place of its key, and the bytes after it where it is not refused
 pub record Judges (h f a : List ℕ) (room : ℕ) (c : Change Rec) (s : State) (r : Judged) : Type 0 where

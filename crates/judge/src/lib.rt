@@ -9,7 +9,7 @@ ghost use Rattle.theory.specs.Step.{ins, upd, del};
 ghost use Rattle.theory.specs.Decimal.{width};
 ghost use Rattle.meaning.specs.Records.{keyed};
 ghost use Rattle.laws.specs.Body.{fine};
-ghost use Rattle.entries.specs.Entries.{entry};
+ghost use Rattle.entries.specs.Entries.{recordOf};
 ghost use Rattle.places.specs.Places.{says};
 ghost use Rattle.places.specs.Counts.{Counted};
 ghost use Rattle.places.specs.Tags.{Tagged};
@@ -52,14 +52,21 @@ fn verdict(code: u64, place: usize, size: usize) -> Judged
     Judged { code, place, size }
 }
 
-// Looks up the key of an entry's record among the first n entries.
-pub fn find(h: &[u8], f: &[u8], a: &[u64], tags: &[u64], n: usize, v: u64) -> Found
-    requires { ⌜ (n ≤ length (now a)) × Asc keyed (says (now h) (now f) (now a) n) × T (all fine (says (now h) (now f) (now a) n)) × T (fine (entry (now h) (now f) v)) × Tagged (now h) (now f) (now a) (now tags) n ⌝ }
-    ensures { λ r. ⌜ Finds (now (h .entry)) (now (f .entry)) (now (a .entry)) n v r ⌝ }
+// Looks up the key of an entry's record among the first `count` entries.
+pub fn find(
+    holding: &[u8],
+    file: &[u8],
+    places: &[u64],
+    tags: &[u64],
+    count: usize,
+    entry: u64,
+) -> Found
+    requires { ⌜ (count ≤ length (now places)) × Asc keyed (says (now holding) (now file) (now places) count) × T (all fine (says (now holding) (now file) (now places) count)) × T (fine (recordOf (now holding) (now file) entry)) × Tagged (now holding) (now file) (now places) (now tags) count ⌝ }
+    ensures { λ r. ⌜ Finds (now (holding .entry)) (now (file .entry)) (now (places .entry)) count entry r ⌝ }
 {
-    let key = entry_key(h, f, v);
-    let i = place(h, f, a, tags, n, key);
-    let there = stands(h, f, a, tags, n, i, key);
+    let key = entry_key(holding, file, entry);
+    let i = place(holding, file, places, tags, count, key);
+    let there = stands(holding, file, places, tags, count, i, key);
     Found {
         place: i,
         stands: there,
@@ -68,20 +75,20 @@ pub fn find(h: &[u8], f: &[u8], a: &[u64], tags: &[u64], n: usize, v: u64) -> Fo
 
 // An insert of an entry's record.
 pub fn judge_insert(
-    h: &[u8],
-    f: &[u8],
-    a: &[u64],
+    holding: &[u8],
+    file: &[u8],
+    places: &[u64],
     tags: &[u64],
-    v: u64,
-    s: State,
+    entry: u64,
+    state: State,
     room: usize,
 ) -> Judged
-    requires { ⌜ Ready (now h) (now f) (now a) room s × T (fine (entry (now h) (now f) v)) × Tagged (now h) (now f) (now a) (now tags) (s .count) ⌝ }
-    ensures { λ r. ⌜ Judges (now (h .entry)) (now (f .entry)) (now (a .entry)) room (change ins (entry (now (h .entry)) (now (f .entry)) v)) s r ⌝ }
+    requires { ⌜ Ready (now holding) (now file) (now places) room state × T (fine (recordOf (now holding) (now file) entry)) × Tagged (now holding) (now file) (now places) (now tags) (state .count) ⌝ }
+    ensures { λ r. ⌜ Judges (now (holding .entry)) (now (file .entry)) (now (places .entry)) room (change ins (recordOf (now (holding .entry)) (now (file .entry)) entry)) state r ⌝ }
 {
-    let count = s.count;
-    let size = s.size;
-    let found = find(h, f, a, tags, count, v);
+    let count = state.count;
+    let size = state.size;
+    let found = find(holding, file, places, tags, count, entry);
     let i = found.place;
     let there = found.stands;
     if there {
@@ -90,11 +97,11 @@ pub fn judge_insert(
     if Holding::most_lines() <= count {
         return verdict(16, i, size);
     }
-    let met = meets(h, f, a, tags, count, v);
+    let met = meets(holding, file, places, tags, count, entry);
     if !met {
         return verdict(12, i, size);
     }
-    let added = entry_length(h, f, v) + AROUND + width((count + 1) as u64);
+    let added = entry_length(holding, file, entry) + AROUND + width((count + 1) as u64);
     if room - size < added {
         return verdict(13, i, size);
     }
@@ -103,30 +110,30 @@ pub fn judge_insert(
 
 // An update to an entry's record.
 pub fn judge_update(
-    h: &[u8],
-    f: &[u8],
-    a: &[u64],
+    holding: &[u8],
+    file: &[u8],
+    places: &[u64],
     tags: &[u64],
-    v: u64,
-    s: State,
+    entry: u64,
+    state: State,
     room: usize,
 ) -> Judged
-    requires { ⌜ Ready (now h) (now f) (now a) room s × T (fine (entry (now h) (now f) v)) × Tagged (now h) (now f) (now a) (now tags) (s .count) ⌝ }
-    ensures { λ r. ⌜ Judges (now (h .entry)) (now (f .entry)) (now (a .entry)) room (change upd (entry (now (h .entry)) (now (f .entry)) v)) s r ⌝ }
+    requires { ⌜ Ready (now holding) (now file) (now places) room state × T (fine (recordOf (now holding) (now file) entry)) × Tagged (now holding) (now file) (now places) (now tags) (state .count) ⌝ }
+    ensures { λ r. ⌜ Judges (now (holding .entry)) (now (file .entry)) (now (places .entry)) room (change upd (recordOf (now (holding .entry)) (now (file .entry)) entry)) state r ⌝ }
 {
-    let count = s.count;
-    let size = s.size;
-    let found = find(h, f, a, tags, count, v);
+    let count = state.count;
+    let size = state.size;
+    let found = find(holding, file, places, tags, count, entry);
     let i = found.place;
     let there = found.stands;
     if !there {
         return verdict(11, i, size);
     }
-    if !meets(h, f, a, tags, count, v) {
+    if !meets(holding, file, places, tags, count, entry) {
         return verdict(12, i, size);
     }
-    let old = entry_length(h, f, a[i]);
-    let new = entry_length(h, f, v);
+    let old = entry_length(holding, file, places[i]);
+    let new = entry_length(holding, file, entry);
     if new <= old {
         return verdict(0, i, size - (old - new));
     }
@@ -138,21 +145,21 @@ pub fn judge_update(
 
 // A delete at the key of an entry's record.
 pub fn judge_delete(
-    h: &[u8],
-    f: &[u8],
-    a: &[u64],
+    holding: &[u8],
+    file: &[u8],
+    places: &[u64],
     tags: &[u64],
     counts: &[u16],
-    v: u64,
-    s: State,
+    entry: u64,
+    state: State,
     room: usize,
 ) -> Judged
-    requires { ⌜ Ready (now h) (now f) (now a) room s × Counted (now h) (now f) (now a) (now counts) (s .count) × T (fine (entry (now h) (now f) v)) × Tagged (now h) (now f) (now a) (now tags) (s .count) ⌝ }
-    ensures { λ r. ⌜ Judges (now (h .entry)) (now (f .entry)) (now (a .entry)) room (change del (entry (now (h .entry)) (now (f .entry)) v)) s r ⌝ }
+    requires { ⌜ Ready (now holding) (now file) (now places) room state × Counted (now holding) (now file) (now places) (now counts) (state .count) × T (fine (recordOf (now holding) (now file) entry)) × Tagged (now holding) (now file) (now places) (now tags) (state .count) ⌝ }
+    ensures { λ r. ⌜ Judges (now (holding .entry)) (now (file .entry)) (now (places .entry)) room (change del (recordOf (now (holding .entry)) (now (file .entry)) entry)) state r ⌝ }
 {
-    let count = s.count;
-    let size = s.size;
-    let found = find(h, f, a, tags, count, v);
+    let count = state.count;
+    let size = state.size;
+    let found = find(holding, file, places, tags, count, entry);
     let i = found.place;
     let there = found.stands;
     if !there {
@@ -161,6 +168,6 @@ pub fn judge_delete(
     if counts[i] != 0 {
         return verdict(12, i, size);
     }
-    let gone = entry_length(h, f, a[i]) + AROUND + width(count as u64);
+    let gone = entry_length(holding, file, places[i]) + AROUND + width(count as u64);
     verdict(0, i, size - gone)
 }

@@ -62,7 +62,7 @@ forms-shaped n (d ∷ ds) [] rest r = r
 forms-shaped n (d ∷ ds) (f ∷ fs) rest r = ask-shaped (soundField d f) (5, suc n) (forms (suc (suc n)) ds fs rest) (five n) (forms-shaped (suc n) ds fs rest r)
 
 -- a kind that has no field of that name has no bytes of it
-none-named : (n : ℕ) (s : String) (ds : List Field) (fs : List (List ℕ)) → placeFrom (suc n) s ds ≡ 0 → named s ds fs ≡ []
+pub none-named : (n : ℕ) (s : String) (ds : List Field) (fs : List (List ℕ)) → placeFrom (suc n) s ds ≡ 0 → named s ds fs ≡ []
 unfolding placeFrom named
 none-named n s [] fs e = refl
 none-named n s (d ∷ ds) [] e = refl

@@ -50,10 +50,10 @@ abbrev CodeIn : Option ℕ → Type 0
 CodeIn none = Unit {0}
 CodeIn (some w) = T (among w stepCodes)
 
-need-in : (b : Bool) (w : ℕ) (rest : Option ℕ) → T (among w stepCodes) → CodeIn rest → CodeIn (ask b w rest)
+ask-in : (b : Bool) (w : ℕ) (rest : Option ℕ) → T (among w stepCodes) → CodeIn rest → CodeIn (ask b w rest)
 unfolding ask
-need-in true w rest p r = r
-need-in false w rest p r = p
+ask-in true w rest p r = r
+ask-in false w rest p r = p
 
 -- each test has one of those codes
 abbrev TestsIn : List (Test Rec) → Type 0
@@ -63,7 +63,7 @@ TestsIn (t ∷ ts) = T (among (t .0) stepCodes) × TestsIn ts
 fails-in : (ts : List (Test Rec)) (st : List Rec) → TestsIn ts → CodeIn (fails ts st)
 unfolding fails
 fails-in [] st i = tt
-fails-in (t ∷ ts) st i = need-in (t .1 st) (t .0) (fails ts st) (i .0) (fails-in ts st (i .1))
+fails-in (t ∷ ts) st i = ask-in (t .1 st) (t .0) (fails ts st) (i .0) (fails-in ts st (i .1))
 
 op-in : (o : Op) → T (among (codeOf o) stepCodes)
 unfolding among
@@ -74,7 +74,7 @@ op-in del = tt
 step-in : (room : ℕ) (st : List Rec) (c : Change Rec) → CodeIn (judge keyed (stepTests room) st c)
 unfolding judge
 step-in room st c =
-    need-in (allowed (c .op) (get keyed (at keyed c) st)) (codeOf (c .op)) (fails (stepTests room) (after keyed st c)) (op-in (c .op))
+    ask-in (allowed (c .op) (get keyed (at keyed c) st)) (codeOf (c .op)) (fails (stepTests room) (after keyed st c)) (op-in (c .op))
     (fails-in (stepTests room) (after keyed st c) (unfold stepTests among in (tt, (tt, (tt, tt)))))
 
 -- a run from line n on that stops does so at one of its m lines, with the code of a step

@@ -23,7 +23,7 @@ use Rattle.meaning.specs.Load.{Six, three, fits, stepTests, outcome, fromStart,
 use Rattle.meaning.specs.Enquiries.{Found, refusal, spanned, partOf, heldAt, heldPart, findIn, findKind, find, lastNaming, named, inForcePart, inForceFile, inForceHeld, inForceKind, inForce, fieldPart, fieldIn, fieldOf, first, second}
 use Rattle.laws.specs.LinesAndFields.{endsAll}
 use Rattle.laws.specs.LinePart.{noLine}
-use Rattle.laws.specs.SoundFile.{SaysChanges, read-sound}
+use Rattle.laws.specs.SoundFile.{says-length, read-sound}
 use Rattle.laws.specs.FileRefusals.{endNumber, shaped, ReadShaped, file-shape, among}
 use Rattle.laws.specs.FirstFault.{FaultAt, file-fault-at}
 use Rattle.laws.specs.HoldingRefusals.{HeldAt, holding-fault-at}
@@ -185,12 +185,6 @@ length-ends : (ts : List (List ℕ)) → length (endsAll ts) ≡ length ts
 length-ends [] = refl
 length-ends (t ∷ ts) = ap suc (length-ends ts)
 
-length-says : (n : ℕ) (ts : List (List ℕ)) (cs : List (Change Rec)) → SaysChanges n ts cs → length ts ≡ length cs
-length-says n [] [] s = refl
-length-says n [] (c ∷ cs) s = absurd s
-length-says n (t ∷ ts) [] s = absurd s
-length-says n (t ∷ ts) (c ∷ cs) s = ap suc (length-says (suc n) ts cs (s .1))
-
 file-given : (b : List ℕ) → FileGiven b (readFile b)
 file-given b = go (readFile b) refl (file-shape b) (file-fault-at b)
   where
@@ -200,7 +194,7 @@ file-given b = go (readFile b) refl (file-shape b) (file-fault-at b)
         let w = read-sound b (s .0) (s .1) e in
         let fr = s .0 in
         let all = fr .headerText ∷ (w .texts ++ (fr .metadataText ∷ fr .trailerText ∷ [])) in
-        ap length (w .lines) ∙ length-ends all ∙ omega (arith, length-append (w .texts) (fr .metadataText ∷ fr .trailerText ∷ []), length-says 1 (w .texts) (s .1) (w .body))
+        ap length (w .lines) ∙ length-ends all ∙ omega (arith, length-append (w .texts) (fr .metadataText ∷ fr .trailerText ∷ []), says-length 1 (w .texts) (s .1) (w .body))
 
 -- the six numbers of the check of a file
 pub check-given : (b : List ℕ) → T (given (checkRows b) (checkFile b .code) (checkFile b .line) (checkFile b .field))

@@ -32,10 +32,10 @@ abbrev None13 : Option ℕ → Type 0
 None13 none = Unit {0}
 None13 (some w) = w ≡ 13
 
-need-13 : (b : Bool) → None13 (ask b 13 none)
+ask-13 : (b : Bool) → None13 (ask b 13 none)
 unfolding ask
-need-13 true = tt
-need-13 false = refl
+ask-13 true = tt
+ask-13 false = refl
 
 step-13 : (room space : ℕ) (st : List Rec) (c : Change Rec) → judge keyed (always ++ late room) st c ≡ none → None13 (judge keyed (stepTests space) st c)
 unfolding judge fails stepTests ask
@@ -44,7 +44,7 @@ step-13 room space st c e =
     let a = ok-judge keyed (always ++ late room) st c e in
     let f : few st2 ≡ true = T-true (few st2) (and-l (few st2) _ (a .1)) in
     let m : met keyed refsOf st2 ≡ true = T-true (met keyed refsOf st2) (and-l (met keyed refsOf st2) _ (and-r (few st2) _ (a .1))) in
-    rw (T-true (allowed (c .op) (get keyed (at keyed c) st)) (a .0), f, m) (need-13 (fits space st2))
+    rw (T-true (allowed (c .op) (get keyed (at keyed c) st)) (a .0), f, m) (ask-13 (fits space st2))
 
 run-13 : (room space n : ℕ) (st : List Rec) (cs : List (Change Rec)) → Taken keyed (always ++ late room) st cs → Only13 (run keyed (stepTests space) n st cs)
 unfolding run

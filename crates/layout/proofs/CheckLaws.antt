@@ -25,6 +25,7 @@ use Rattle.theory.specs.Lex.{lex}
 use Rattle.text.specs.declared.order.Order.{Order}
 use Rattle.text.specs.Order.{triOf}
 use Rattle.laws.specs.Kinds.{every}
+use Rattle.laws.specs.FileRefusals.{none-named}
 use Rattle.text.specs.Places.{fieldCount, fieldLen, fieldEnd}
 use Rattle.text.proofs.FieldLaws.{fields-at, fields-wrong, fields-right, fields-many}
 use Rattle.layout.specs.Rows.{Row, bare, noRow, rowOf, decoded, formDecoded, filledDecoded, laidOut}
@@ -201,17 +202,6 @@ named-at n s (d ∷ ds) (f ∷ fs) h = go (eqt s (d .name)) h (place-from (suc (
         let z : placeFrom (suc (suc n)) s ds - suc n ≡ suc (placeFrom (suc (suc n)) s ds - suc (suc n)) = omega arith in
         rw z (ih h)
 
--- where there is none, so is its place
-named-none : (n : ℕ) (s : String) (ds : List Field) (fs : List (List ℕ)) → placeFrom (suc n) s ds ≡ 0 → named s ds fs ≡ []
-unfolding named placeFrom
-named-none n s [] fs h = refl
-named-none n s (d ∷ ds) [] h = refl
-named-none n s (d ∷ ds) (f ∷ fs) h = go (eqt s (d .name)) h (named-none (suc n) s ds fs)
-  where
-    go : (b : Bool) → pick b (suc n) (placeFrom (suc (suc n)) s ds) ≡ 0 → (placeFrom (suc (suc n)) s ds ≡ 0 → named s ds fs ≡ []) → pick b f (named s ds fs) ≡ []
-    go true h ih = absurd (omega arith)
-    go false h ih = ih h
-
 module _ (kd : Kind) (t a : List ℕ) (l : Layout) (e : l ≡ laidOut kd) (p : Parted kd t a) where
   -- a place in the table is one of the line's fields
   pub start-there : (l .start ≡ 0 → ⊥) → l .start - 1 < length (fieldsOf t)
@@ -230,7 +220,7 @@ module _ (kd : Kind) (t : List ℕ) (l : Layout) (e : l ≡ laidOut kd) where
   -- a kind with no START_DATE has nothing to be before
   pub kind-no-start : l .start ≡ 0 → true ≡ kindDates kd (fieldsOf t)
   unfolding laidOut kindDates datesAgree
-  kind-no-start h = rw (named-none 0 startDate (fields kd) (fieldsOf t) (rw e at h)) (go (named endDate (fields kd) (fieldsOf t)))
+  kind-no-start h = rw (none-named 0 startDate (fields kd) (fieldsOf t) (rw e at h)) (go (named endDate (fields kd) (fieldsOf t)))
     where
       go : (f : List ℕ) → true ≡ datesAgree [] f
       go [] = refl
@@ -239,7 +229,7 @@ module _ (kd : Kind) (t : List ℕ) (l : Layout) (e : l ≡ laidOut kd) where
   -- one with no END_DATE is in order
   pub kind-no-end : l .end ≡ 0 → true ≡ kindDates kd (fieldsOf t)
   unfolding laidOut kindDates
-  kind-no-end h = rw (named-none 0 endDate (fields kd) (fieldsOf t) (rw e at h)) (dates-no-end _ [] refl)
+  kind-no-end h = rw (none-named 0 endDate (fields kd) (fieldsOf t) (rw e at h)) (dates-no-end _ [] refl)
 
   -- so is a line whose END_DATE is empty
   pub kind-end-empty : (f : List ℕ) → (l .end ≡ 0 → ⊥) → f ≡ getD (fieldsOf t) (l .end - 1) [] → length f ≡ 0 → true ≡ kindDates kd (fieldsOf t)

@@ -8,7 +8,7 @@ use lib.Seq.{getD-set-same, getD-set-other}
 use Rattle.theory.specs.Step.{inv, Change, after, back}
 use Rattle.theory.specs.Trail.{undo}
 use Rattle.meaning.specs.Records.{Rec, keyed}
-use Rattle.entries.specs.Entries.{entry}
+use Rattle.entries.specs.Entries.{recordOf}
 use Rattle.places.specs.Changes.{changeAt, opAt, stepsBack}
 
 -- there are as many as steps
@@ -26,7 +26,7 @@ back-set h f steps before (suc n) m v w g =
 
 -- one step more is taken back first
 back-more : (h f steps before : List ℕ) (n v w : ℕ) → n < length steps → n < length before
-    → stepsBack h f (set steps n v) (set before n w) (n + 1) ≡ record { op = inv (opAt f v); rec = entry h f w } ∷ stepsBack h f steps before n
+    → stepsBack h f (set steps n v) (set before n w) (n + 1) ≡ record { op = inv (opAt f v); rec = recordOf h f w } ∷ stepsBack h f steps before n
 unfolding stepsBack
 back-more h f steps before n v w g k =
     let z : n + 1 ≡ suc n = omega arith in
@@ -39,7 +39,7 @@ op-at f at = let d : (2 * at + 1) / 2 ≡ at = omega arith in rw d
 
 -- so the steps back of a run are its undo: each has the record that stood at its key before it, or its own where none did
 pub back-turn : (h f steps before : List ℕ) (n at w : ℕ) (st : List Rec) (cs all : List (Change Rec)) → n < length steps → n < length before
-    → entry h f w ≡ back keyed st (changeAt f at) .rec
+    → recordOf h f w ≡ back keyed st (changeAt f at) .rec
     → undo (after keyed) (back keyed) st (changeAt f at ∷ cs) ++ stepsBack h f steps before n ≡ all
     → undo (after keyed) (back keyed) (after keyed st (changeAt f at)) cs ++ stepsBack h f (set steps n (2 * at + 1)) (set before n w) (n + 1) ≡ all
 unfolding back

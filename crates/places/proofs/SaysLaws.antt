@@ -16,7 +16,7 @@ use Rattle.theory.specs.Place.{rank}
 use Rattle.theory.specs.PlaceLaws.{put-at}
 use Rattle.meaning.specs.Records.{Rec}
 use Rattle.keys.specs.Numbers.{numbered}
-use Rattle.entries.specs.Entries.{entry}
+use Rattle.entries.specs.Entries.{recordOf}
 use Rattle.entries.proofs.EntryLaws.{held-any}
 use Rattle.places.specs.Places.{says, opened, closed}
 
@@ -48,7 +48,7 @@ pub says-held : (h f g a : List ℕ) (n : ℕ) → T (all (λ v. eqb (v % 2) 0) 
 unfolding says
 says-held h f g a n t = go (take n a) t
   where
-    go : (l : List ℕ) → T (all (λ v. eqb (v % 2) 0) l) → map (entry h f) l ≡ map (entry h g) l
+    go : (l : List ℕ) → T (all (λ v. eqb (v % 2) 0) l) → map (recordOf h f) l ≡ map (recordOf h g) l
     go [] t = refl
     go (v ∷ l) t = rw (held-any h f g v (eqb→eq (v % 2) 0 (and-l (eqb (v % 2) 0) _ t)), go l (and-r (eqb (v % 2) 0) _ t))
 
@@ -56,22 +56,22 @@ module _ (h f a : List ℕ) (n : ℕ) (l : n ≤ length a) where
   -- they are n records
   pub length-says : length (says h f a n) ≡ n
   unfolding says
-  length-says = length-map (take n a) (entry h f) ∙ length-take-le n a l
+  length-says = length-map (take n a) (recordOf h f) ∙ length-take-le n a l
 
   -- what is left at i is the record of entry i and what is left after it
-  pub says-at : (i : ℕ) → i < n → drop i (says h f a n) ≡ entry h f (getD a i 0) ∷ drop (suc i) (says h f a n)
+  pub says-at : (i : ℕ) → i < n → drop i (says h f a n) ≡ recordOf h f (getD a i 0) ∷ drop (suc i) (says h f a n)
   unfolding says
   says-at i g =
-      sym (map-drop (entry h f) i (take n a))
-      ∙ ap (map (entry h f)) (drop-cons (take n a) i 0 (omega (arith, length-take-le n a l)))
-      ∙ rw (getD-take n a i 0 g) (ap (λ t. entry h f (getD a i 0) ∷ t) (map-drop (entry h f) (suc i) (take n a)))
+      sym (map-drop (recordOf h f) i (take n a))
+      ∙ ap (map (recordOf h f)) (drop-cons (take n a) i 0 (omega (arith, length-take-le n a l)))
+      ∙ rw (getD-take n a i 0 g) (ap (λ t. recordOf h f (getD a i 0) ∷ t) (map-drop (recordOf h f) (suc i) (take n a)))
 
   -- the record of entry i stands after those of the entries before it
-  pub says-split : (i : ℕ) → i < n → says h f a n ≡ take i (says h f a n) ++ (entry h f (getD a i 0) ∷ drop (suc i) (says h f a n))
+  pub says-split : (i : ℕ) → i < n → says h f a n ≡ take i (says h f a n) ++ (recordOf h f (getD a i 0) ∷ drop (suc i) (says h f a n))
   says-split i g = sym (take-append-drop i (says h f a n)) ∙ ap (λ t. take i (says h f a n) ++ t) (says-at i g)
 
 -- one entry more after them says its record after theirs
-pub says-more : (h f a : List ℕ) (n v : ℕ) → n < length a → says h f (set a n v) (n + 1) ≡ says h f a n ++ (entry h f v ∷ [])
+pub says-more : (h f a : List ℕ) (n v : ℕ) → n < length a → says h f (set a n v) (n + 1) ≡ says h f a n ++ (recordOf h f v ∷ [])
 unfolding says
 says-more h f a n v l = rw (add-one n, take-suc-set a n v l, map-append)
 
@@ -101,26 +101,26 @@ close-take a n i m l =
 
 module _ (h f a k : List ℕ) (n i : ℕ) (r : i ≡ rank numbered k (says h f a n)) where
   -- where the key stands nowhere, room made at its place for v puts the record of v there
-  pub put-says : (v : ℕ) → n < length a → i ≤ n → get numbered k (says h f a n) ≡ none → says h f (opened a n i v) (n + 1) ≡ put numbered k (some (entry h f v)) (says h f a n)
+  pub put-says : (v : ℕ) → n < length a → i ≤ n → get numbered k (says h f a n) ≡ none → says h f (opened a n i v) (n + 1) ≡ put numbered k (some (recordOf h f v)) (says h f a n)
   unfolding says
   put-says v l m e =
-      ap (map (entry h f)) (open-take a n i v m l)
-      ∙ map-append (entry h f) (take i a) (v ∷ take (n - i) (drop i a))
-      ∙ sym (put-at numbered k (some (entry h f v)) (map (entry h f) (take n a)) ∙ rw (e, ← r, add-zero i, ← map-take (entry h f) i (take n a), ← map-drop (entry h f) i (take n a), take-take i n a m, drop-take i n a))
+      ap (map (recordOf h f)) (open-take a n i v m l)
+      ∙ map-append (recordOf h f) (take i a) (v ∷ take (n - i) (drop i a))
+      ∙ sym (put-at numbered k (some (recordOf h f v)) (map (recordOf h f) (take n a)) ∙ rw (e, ← r, add-zero i, ← map-take (recordOf h f) i (take n a), ← map-drop (recordOf h f) i (take n a), take-take i n a m, drop-take i n a))
 
   module _ (q : Rec) (l : n ≤ length a) (m : i < n) (e : get numbered k (says h f a n) ≡ some q) where
     -- where it stands, v in its place puts the record of v there
-    pub set-says : (v : ℕ) → says h f (set a i v) n ≡ put numbered k (some (entry h f v)) (says h f a n)
+    pub set-says : (v : ℕ) → says h f (set a i v) n ≡ put numbered k (some (recordOf h f v)) (says h f a n)
     unfolding says
     set-says v =
-        ap (map (entry h f)) (take-set-lt n a i v m ∙ set-split (take n a) i v (omega (arith, length-take-le n a l)))
-        ∙ map-append (entry h f) (take i (take n a)) (v ∷ drop (suc i) (take n a))
-        ∙ sym (put-at numbered k (some (entry h f v)) (map (entry h f) (take n a)) ∙ rw (e, ← r, add-one i, ← map-take (entry h f) i (take n a), ← map-drop (entry h f) (suc i) (take n a)))
+        ap (map (recordOf h f)) (take-set-lt n a i v m ∙ set-split (take n a) i v (omega (arith, length-take-le n a l)))
+        ∙ map-append (recordOf h f) (take i (take n a)) (v ∷ drop (suc i) (take n a))
+        ∙ sym (put-at numbered k (some (recordOf h f v)) (map (recordOf h f) (take n a)) ∙ rw (e, ← r, add-one i, ← map-take (recordOf h f) i (take n a), ← map-drop (recordOf h f) (suc i) (take n a)))
 
     -- and closed up over it, the array says no record there
     pub close-says : says h f (closed a n i) (n - 1) ≡ put numbered k none (says h f a n)
     unfolding says
     close-says =
-        ap (map (entry h f)) (close-take a n i m l)
-        ∙ map-append (entry h f) (take i a) (take (n - (i + 1)) (drop (i + 1) a))
-        ∙ sym (put-at numbered k none (map (entry h f) (take n a)) ∙ rw (e, ← r, ← map-take (entry h f) i (take n a), ← map-drop (entry h f) (i + 1) (take n a), take-take i n a (omega arith), drop-take (i + 1) n a))
+        ap (map (recordOf h f)) (close-take a n i m l)
+        ∙ map-append (recordOf h f) (take i a) (take (n - (i + 1)) (drop (i + 1) a))
+        ∙ sym (put-at numbered k none (map (recordOf h f) (take n a)) ∙ rw (e, ← r, ← map-take (recordOf h f) i (take n a), ← map-drop (recordOf h f) (i + 1) (take n a), take-take i n a (omega arith), drop-take (i + 1) n a))

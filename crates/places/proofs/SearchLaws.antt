@@ -21,7 +21,7 @@ use Rattle.theory.specs.PlaceLaws.{rank-scan, rank-stop, ahead-before}
 use Rattle.text.specs.declared.order.Order.{Order}
 use Rattle.text.specs.Order.{triOf}
 use Rattle.keys.specs.Numbers.{keyNumbers, numbered}
-use Rattle.entries.specs.Entries.{entry}
+use Rattle.entries.specs.Entries.{recordOf}
 use Rattle.entries.specs.Tags.{tagOf}
 use Rattle.places.specs.Places.{says}
 use Rattle.places.specs.Tags.{Tagged}
@@ -44,26 +44,26 @@ module _ (h f a : List ℕ) (n : ℕ) (k : List ℕ) (l : n ≤ length a) where
   placing-start = record { below = tt; beyond = rw (drop-of-length-le (says h f a n) {i = n} (omega (arith, length-says h f a n l))); order = omega arith; within = omega arith }
 
   module _ (s : Asc numbered (says h f a n)) (low high mid : ℕ) (o p : Order) (g : Placing h f a n k low high) (y : low < high) (m : mid ≡ low + (high - low) / 2)
-      (u : triOf o ≡ lex k (keyNumbers (entry h f (getD a mid 0)))) (q : o ≡ p) where
+      (u : triOf o ≡ lex k (keyNumbers (recordOf h f (getD a mid 0)))) (q : o ≡ p) where
     -- a record in the middle that stands before the key leaves the upper half
     pub placing-up : triOf p ≡ gt → Placing h f a n k (mid + 1) high
     placing-up t =
-        let b : T (ahead numbered k (entry h f (getD a mid 0))) = unfold ahead in rw (← u, q, t) tt in
-        let before = ahead-before numbered k (take mid (says h f a n)) (entry h f (getD a mid 0)) (drop (suc mid) (says h f a n)) (subst (Asc numbered) (says-split h f a n l mid (omega (arith, g .within))) s) b in
-        record { below = rw more (all-snoc (ahead numbered k) (take mid (says h f a n)) (entry h f (getD a mid 0)) before b); beyond = g .beyond; order = omega arith; within = g .within }
+        let b : T (ahead numbered k (recordOf h f (getD a mid 0))) = unfold ahead in rw (← u, q, t) tt in
+        let before = ahead-before numbered k (take mid (says h f a n)) (recordOf h f (getD a mid 0)) (drop (suc mid) (says h f a n)) (subst (Asc numbered) (says-split h f a n l mid (omega (arith, g .within))) s) b in
+        record { below = rw more (all-snoc (ahead numbered k) (take mid (says h f a n)) (recordOf h f (getD a mid 0)) before b); beyond = g .beyond; order = omega arith; within = g .within }
       where
-        more : take (mid + 1) (says h f a n) ≡ take mid (says h f a n) ++ (entry h f (getD a mid 0) ∷ [])
+        more : take (mid + 1) (says h f a n) ≡ take mid (says h f a n) ++ (recordOf h f (getD a mid 0) ∷ [])
         more =
-            let e : drop mid (says h f a n) ≡ entry h f (getD a mid 0) ∷ drop (suc mid) (says h f a n) = says-at h f a n l mid (omega (arith, g .within)) in
+            let e : drop mid (says h f a n) ≡ recordOf h f (getD a mid 0) ∷ drop (suc mid) (says h f a n) = says-at h f a n l mid (omega (arith, g .within)) in
             take-add mid 1 (says h f a n) ∙ rw e
 
     -- any other the lower half
     pub placing-down : isGt (triOf p) ≡ false → Placing h f a n k low mid
     placing-down t =
-        let b : T (not (ahead numbered k (entry h f (getD a mid 0)))) = unfold ahead in rw (← u, q, t) tt in
+        let b : T (not (ahead numbered k (recordOf h f (getD a mid 0)))) = unfold ahead in rw (← u, q, t) tt in
         record {
           below = g .below;
-          beyond = rw (says-at h f a n l mid (omega (arith, g .within))) (rank-stop numbered k (entry h f (getD a mid 0)) (drop (suc mid) (says h f a n)) b);
+          beyond = rw (says-at h f a n l mid (omega (arith, g .within))) (rank-stop numbered k (recordOf h f (getD a mid 0)) (drop (suc mid) (says h f a n)) b);
           order = omega arith;
           within = omega (arith, g .within);
         }
@@ -89,7 +89,7 @@ module _ (h f a t : List ℕ) (n : ℕ) (k : List ℕ) (low high : ℕ) (g : Pla
   mid-tag-in = tagged-in h f a t n u l (low + (high - low) / 2) (omega (arith, g .within))
 
   -- which is that of its key
-  pub mid-tag : getD t (low + (high - low) / 2) 0 ≡ tagOf (keyNumbers (entry h f (getD a (low + (high - low) / 2) 0)))
+  pub mid-tag : getD t (low + (high - low) / 2) 0 ≡ tagOf (keyNumbers (recordOf h f (getD a (low + (high - low) / 2) 0)))
   mid-tag = tagged-at h f a t n u l (low + (high - low) / 2) (omega (arith, g .within))
 
 pub ruleset placing = (needs, placing-start, placing-up, placing-down, placing-done, placing-in, mid-in, mid-tag-in, mid-tag)
@@ -129,14 +129,14 @@ module _ (h f a : List ℕ) (n i : ℕ) (k : List ℕ) (l : n ≤ length a) (r :
   stands-in b e t = elim (decLe n i) [ yes m ↦ absurd (subst T (sym t ∙ e ∙ sym (stands-past m)) tt) | no m ↦ lt-of-not-le m ]
 
   -- else it stands where the entry at its place has it
-  pub stands-at : (b : Bool) (o p : Order) → i < n → triOf o ≡ lex k (keyNumbers (entry h f (getD a i 0))) → o ≡ p → b ≡ isEq (triOf p) → b ≡ some? (get numbered k (says h f a n))
+  pub stands-at : (b : Bool) (o p : Order) → i < n → triOf o ≡ lex k (keyNumbers (recordOf h f (getD a i 0))) → o ≡ p → b ≡ isEq (triOf p) → b ≡ some? (get numbered k (says h f a n))
   unfolding get gets
   stands-at b o p m u q v =
-      let d : drop (rank numbered k (says h f a n)) (says h f a n) ≡ entry h f (getD a i 0) ∷ drop (suc i) (says h f a n) = rw (← r) (says-at h f a n l i m) in
-      let w : T (not (isGt (lex k (keyNumbers (entry h f (getD a i 0)))))) = subst (Stops numbered k) d (get-rank numbered k (says h f a n) .1) in
-      v ∙ rw (← q, u) (sym (ap some? (get-rank numbered k (says h f a n) .0) ∙ rw d (go (lex k (keyNumbers (entry h f (getD a i 0)))) w)))
+      let d : drop (rank numbered k (says h f a n)) (says h f a n) ≡ recordOf h f (getD a i 0) ∷ drop (suc i) (says h f a n) = rw (← r) (says-at h f a n l i m) in
+      let w : T (not (isGt (lex k (keyNumbers (recordOf h f (getD a i 0)))))) = subst (Stops numbered k) d (get-rank numbered k (says h f a n) .1) in
+      v ∙ rw (← q, u) (sym (ap some? (get-rank numbered k (says h f a n) .0) ∙ rw d (go (lex k (keyNumbers (recordOf h f (getD a i 0)))) w)))
     where
-      go : (c : Tri) → T (not (isGt c)) → some? (gets numbered c (entry h f (getD a i 0)) (get numbered k (drop (suc i) (says h f a n)))) ≡ isEq c
+      go : (c : Tri) → T (not (isGt c)) → some? (gets numbered c (recordOf h f (getD a i 0)) (get numbered k (drop (suc i) (says h f a n)))) ≡ isEq c
       go lt t = refl
       go eq t = refl
       go gt t = absurd t

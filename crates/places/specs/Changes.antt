@@ -5,7 +5,7 @@ use lib.ListN.{getD}
 use Rattle.theory.specs.Step.{Op, Change, inv}
 use Rattle.meaning.specs.Lines.{fieldsOf}
 use Rattle.meaning.specs.Records.{Rec, opOf}
-use Rattle.entries.specs.Entries.{lineAt, entry, recOf}
+use Rattle.entries.specs.Entries.{lineAt, recordOf, recOf}
 
 -- an operation on a record
 abbrev pub change : Op → Rec → Change Rec
@@ -22,4 +22,4 @@ opAt f v = opOf (getD (fieldsOf (lineAt f (v / 2))) 1 [])
 -- the first n steps taken back, the last first, each with the record that stood at its key before it, or its own where none did
 unfoldable pub stepsBack : List ℕ → List ℕ → List ℕ → List ℕ → ℕ → List (Change Rec)
 stepsBack h f steps before zero = []
-stepsBack h f steps before (suc k) = record { op = inv (opAt f (getD steps k 0)); rec = entry h f (getD before k 0) } ∷ stepsBack h f steps before k
+stepsBack h f steps before (suc k) = record { op = inv (opAt f (getD steps k 0)); rec = recordOf h f (getD before k 0) } ∷ stepsBack h f steps before k

@@ -7,11 +7,11 @@ use lib.ListN.{take, drop}
 use Rattle.theory.specs.Refs.{apart, has}
 use Rattle.meaning.specs.Records.{Rec}
 use Rattle.keys.specs.Numbers.{numbered}
-use Rattle.entries.specs.Entries.{entry}
+use Rattle.entries.specs.Entries.{recordOf}
 
 -- the records that the first n entries say
 unfoldable pub says : List ℕ → List ℕ → List ℕ → ℕ → List Rec
-says h f a n = map (entry h f) (take n a)
+says h f a n = map (recordOf h f) (take n a)
 
 -- the array once the elements from i up to n have made room for v
 unfoldable pub opened : List ℕ → ℕ → ℕ → ℕ → List ℕ

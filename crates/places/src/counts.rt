@@ -6,7 +6,7 @@ ghost use lib.ListN.{length, take};
 ghost use Rattle.base.specs.Lists.{zeros};
 ghost use Rattle.theory.specs.Store.{Asc, cons?};
 ghost use Rattle.keys.specs.Numbers.{keyList, referredAs, numbered, refNumbers};
-ghost use Rattle.entries.specs.Entries.{entry};
+ghost use Rattle.entries.specs.Entries.{recordOf};
 ghost use Rattle.places.specs.Places.{says, opened, closed};
 ghost use Rattle.places.specs.Counts.{moved, Movable, Open, NotesOne, Notes};
 ghost use Rattle.places.specs.Tags.{Tagged};
@@ -17,39 +17,39 @@ use entries::references::references;
 use keys::Key;
 use keys::Referred;
 
-// The first n counts, of nothing.
-pub fn clear(counts: &mut [u16], n: usize)
-    requires { ⌜ n ≤ length (now counts) ⌝ }
-    ensures { λ r. ⌜ take n (now (counts .exit)) ≡ zeros n ⌝ }
+// The first `count` counts, of nothing.
+pub fn clear(counts: &mut [u16], count: usize)
+    requires { ⌜ count ≤ length (now counts) ⌝ }
+    ensures { λ r. ⌜ take count (now (counts .exit)) ≡ zeros count ⌝ }
 {
     let mut i = 0;
-    while i < n {
+    while i < count {
         counts[i] = 0;
         i += 1;
     }
 }
 
-// Makes room at i among the first n counts and puts v there, as `moves` does for entries.
-pub fn open(counts: &mut [u16], n: usize, i: usize, v: u16)
-    requires { ⌜ (i ≤ n) × (n < length (now counts)) ⌝ }
-    ensures { λ r. ⌜ now (counts .exit) ≡ opened (now (counts .entry)) n i v ⌝ }
+// Makes room at i among the first `count` counts and puts `value` there, as `moves` does for entries.
+pub fn open(counts: &mut [u16], count: usize, i: usize, value: u16)
+    requires { ⌜ (i ≤ count) × (count < length (now counts)) ⌝ }
+    ensures { λ r. ⌜ now (counts .exit) ≡ opened (now (counts .entry)) count i value ⌝ }
 {
     let first = i + 1;
-    let mut j = n;
+    let mut j = count;
     while first <= j {
         counts[j] = counts[j - 1];
         j -= 1;
     }
-    counts[i] = v;
+    counts[i] = value;
 }
 
-// Closes up over count i of the first n.
-pub fn close(counts: &mut [u16], n: usize, i: usize)
-    requires { ⌜ (i < n) × (n ≤ length (now counts)) ⌝ }
-    ensures { λ r. ⌜ now (counts .exit) ≡ closed (now (counts .entry)) n i ⌝ }
+// Closes up over count i of the first `count`.
+pub fn close(counts: &mut [u16], count: usize, i: usize)
+    requires { ⌜ (i < count) × (count ≤ length (now counts)) ⌝ }
+    ensures { λ r. ⌜ now (counts .exit) ≡ closed (now (counts .entry)) count i ⌝ }
 {
     let mut j = i + 1;
-    while j < n {
+    while j < count {
         counts[j - 1] = counts[j];
         j += 1;
     }
@@ -68,18 +68,18 @@ fn moved(count: u16, up: bool) -> u16
 
 // Whether one reference of the record whose key is `own` is met, and if so counts it in (up) or out.
 fn note_one(
-    h: &[u8],
-    f: &[u8],
-    a: &[u64],
+    holding: &[u8],
+    file: &[u8],
+    places: &[u64],
     tags: &[u64],
     counts: &mut [u16],
-    n: usize,
+    count: usize,
     own: Key,
     to: Referred,
     up: bool,
 ) -> bool
-    requires { ⌜ (n ≤ length (now a)) × (n ≤ length (now counts)) × Asc numbered (says (now h) (now f) (now a) n) × Open up (says (now h) (now f) (now a) n) (now counts) (cons? (referredAs to) []) × Tagged (now h) (now f) (now a) (now tags) n ⌝ }
-    ensures { λ r. ⌜ NotesOne up (says (now (h .entry)) (now (f .entry)) (now (a .entry)) n) (keyList own) (referredAs to) (now (counts .entry)) (now (counts .exit)) r ⌝ }
+    requires { ⌜ (count ≤ length (now places)) × (count ≤ length (now counts)) × Asc numbered (says (now holding) (now file) (now places) count) × Open up (says (now holding) (now file) (now places) count) (now counts) (cons? (referredAs to) []) × Tagged (now holding) (now file) (now places) (now tags) count ⌝ }
+    ensures { λ r. ⌜ NotesOne up (says (now (holding .entry)) (now (file .entry)) (now (places .entry)) count) (keyList own) (referredAs to) (now (counts .entry)) (now (counts .exit)) r ⌝ }
 {
     let Referred::To(key) = to else {
         return true;
@@ -87,35 +87,55 @@ fn note_one(
     if is_same_key(key, own) {
         return false;
     }
-    let i = place(h, f, a, tags, n, key);
-    if !stands(h, f, a, tags, n, i, key) {
+    let i = place(holding, file, places, tags, count, key);
+    if !stands(holding, file, places, tags, count, i, key) {
         return false;
     }
-    let count = counts[i];
-    counts[i] = moved(count, up);
+    let old = counts[i];
+    counts[i] = moved(old, up);
     true
 }
 
 // Whether the references of an entry's record are met, and if so counts them in (up) or out.
 pub fn note(
-    h: &[u8],
-    f: &[u8],
-    a: &[u64],
+    holding: &[u8],
+    file: &[u8],
+    places: &[u64],
     tags: &[u64],
     counts: &mut [u16],
-    n: usize,
-    v: u64,
+    count: usize,
+    entry: u64,
     up: bool,
 ) -> bool
-    requires { ⌜ (n ≤ length (now a)) × (n ≤ length (now counts)) × Asc numbered (says (now h) (now f) (now a) n) × Open up (says (now h) (now f) (now a) n) (now counts) (refNumbers (entry (now h) (now f) v)) × Tagged (now h) (now f) (now a) (now tags) n ⌝ }
-    ensures { λ r. ⌜ Notes up (says (now (h .entry)) (now (f .entry)) (now (a .entry)) n) (entry (now (h .entry)) (now (f .entry)) v) (now (counts .entry)) (now (counts .exit)) r ⌝ }
+    requires { ⌜ (count ≤ length (now places)) × (count ≤ length (now counts)) × Asc numbered (says (now holding) (now file) (now places) count) × Open up (says (now holding) (now file) (now places) count) (now counts) (refNumbers (recordOf (now holding) (now file) entry)) × Tagged (now holding) (now file) (now places) (now tags) count ⌝ }
+    ensures { λ r. ⌜ Notes up (says (now (holding .entry)) (now (file .entry)) (now (places .entry)) count) (recordOf (now (holding .entry)) (now (file .entry)) entry) (now (counts .entry)) (now (counts .exit)) r ⌝ }
 {
-    let named = references(h, f, v);
+    let named = references(holding, file, entry);
     let own = named.own;
     let first = named.first;
     let second = named.second;
-    if !note_one(h, f, a, tags, &mut *counts, n, own, first, up) {
+    if !note_one(
+        holding,
+        file,
+        places,
+        tags,
+        &mut *counts,
+        count,
+        own,
+        first,
+        up,
+    ) {
         return false;
     }
-    note_one(h, f, a, tags, &mut *counts, n, own, second, up)
+    note_one(
+        holding,
+        file,
+        places,
+        tags,
+        &mut *counts,
+        count,
+        own,
+        second,
+        up,
+    )
 }

@@ -1,4 +1,4 @@
-// Whether what a record refers to stands among the first n entries; naming itself counts as unmet.
+// Whether what a record refers to stands among the first `count` entries; naming itself counts as unmet.
 ghost use mathlib.Core.Path.{_≡_};
 ghost use Prim.Native.Nat.{_≤_};
 ghost use lib.Dec.{T};
@@ -9,7 +9,7 @@ ghost use Rattle.theory.specs.Refs.{meets};
 ghost use Rattle.meaning.specs.Records.{keyed, refsOf};
 ghost use Rattle.laws.specs.Body.{fine};
 ghost use Rattle.keys.specs.Numbers.{keyList, referredAs, numbered};
-ghost use Rattle.entries.specs.Entries.{entry};
+ghost use Rattle.entries.specs.Entries.{recordOf};
 ghost use Rattle.places.specs.Places.{says, metBy};
 ghost use Rattle.places.specs.Tags.{Tagged};
 use crate::search::place;
@@ -20,9 +20,17 @@ use keys::Key;
 use keys::Referred;
 
 // Whether one reference of the record whose key is `own` is met.
-fn is_met(h: &[u8], f: &[u8], a: &[u64], tags: &[u64], n: usize, own: Key, to: Referred) -> bool
-    requires { ⌜ (n ≤ length (now a)) × Tagged (now h) (now f) (now a) (now tags) n × Asc numbered (says (now h) (now f) (now a) n) ⌝ }
-    ensures { λ r. ⌜ r ≡ metBy (says (now (h .entry)) (now (f .entry)) (now (a .entry)) n) (keyList own) (referredAs to) ⌝ }
+fn is_met(
+    holding: &[u8],
+    file: &[u8],
+    places: &[u64],
+    tags: &[u64],
+    count: usize,
+    own: Key,
+    to: Referred,
+) -> bool
+    requires { ⌜ (count ≤ length (now places)) × Tagged (now holding) (now file) (now places) (now tags) count × Asc numbered (says (now holding) (now file) (now places) count) ⌝ }
+    ensures { λ r. ⌜ r ≡ metBy (says (now (holding .entry)) (now (file .entry)) (now (places .entry)) count) (keyList own) (referredAs to) ⌝ }
 {
     let Referred::To(key) = to else {
         return true;
@@ -30,21 +38,28 @@ fn is_met(h: &[u8], f: &[u8], a: &[u64], tags: &[u64], n: usize, own: Key, to: R
     if is_same_key(key, own) {
         return false;
     }
-    let i = place(h, f, a, tags, n, key);
-    stands(h, f, a, tags, n, i, key)
+    let i = place(holding, file, places, tags, count, key);
+    stands(holding, file, places, tags, count, i, key)
 }
 
-// Whether the references of an entry's record are met among the first n entries, which are those of sound records in key order.
-pub fn meets(h: &[u8], f: &[u8], a: &[u64], tags: &[u64], n: usize, v: u64) -> bool
-    requires { ⌜ (n ≤ length (now a)) × Tagged (now h) (now f) (now a) (now tags) n × Asc keyed (says (now h) (now f) (now a) n) × T (all fine (says (now h) (now f) (now a) n)) × T (fine (entry (now h) (now f) v)) ⌝ }
-    ensures { λ r. ⌜ r ≡ meets keyed refsOf (says (now (h .entry)) (now (f .entry)) (now (a .entry)) n) (entry (now (h .entry)) (now (f .entry)) v) ⌝ }
+// Whether the references of an entry's record are met among the first `count` entries, which are those of sound records in key order.
+pub fn meets(
+    holding: &[u8],
+    file: &[u8],
+    places: &[u64],
+    tags: &[u64],
+    count: usize,
+    entry: u64,
+) -> bool
+    requires { ⌜ (count ≤ length (now places)) × Tagged (now holding) (now file) (now places) (now tags) count × Asc keyed (says (now holding) (now file) (now places) count) × T (all fine (says (now holding) (now file) (now places) count)) × T (fine (recordOf (now holding) (now file) entry)) ⌝ }
+    ensures { λ r. ⌜ r ≡ meets keyed refsOf (says (now (holding .entry)) (now (file .entry)) (now (places .entry)) count) (recordOf (now (holding .entry)) (now (file .entry)) entry) ⌝ }
 {
-    let named = references(h, f, v);
+    let named = references(holding, file, entry);
     let own = named.own;
     let first = named.first;
     let second = named.second;
-    if !is_met(h, f, a, tags, n, own, first) {
+    if !is_met(holding, file, places, tags, count, own, first) {
         return false;
     }
-    is_met(h, f, a, tags, n, own, second)
+    is_met(holding, file, places, tags, count, own, second)
 }

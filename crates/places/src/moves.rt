@@ -4,28 +4,28 @@ ghost use Prim.Native.Nat.{_≤_, _<_};
 ghost use lib.ListN.{length};
 ghost use Rattle.places.specs.Places.{opened, closed};
 
-// Makes room at i among the first n elements and puts v there.
-pub fn open(a: &mut [u64], n: usize, i: usize, v: u64)
-    requires { ⌜ (i ≤ n) × (n < length (now a)) ⌝ }
-    ensures { λ r. ⌜ now (a .exit) ≡ opened (now (a .entry)) n i v ⌝ }
+// Makes room at i among the first `count` elements and puts `value` there.
+pub fn open(array: &mut [u64], count: usize, i: usize, value: u64)
+    requires { ⌜ (i ≤ count) × (count < length (now array)) ⌝ }
+    ensures { λ r. ⌜ now (array .exit) ≡ opened (now (array .entry)) count i value ⌝ }
 {
     let first = i + 1;
-    let mut j = n;
+    let mut j = count;
     while first <= j {
-        a[j] = a[j - 1];
+        array[j] = array[j - 1];
         j -= 1;
     }
-    a[i] = v;
+    array[i] = value;
 }
 
-// Closes up over element i of the first n.
-pub fn close(a: &mut [u64], n: usize, i: usize)
-    requires { ⌜ (i < n) × (n ≤ length (now a)) ⌝ }
-    ensures { λ r. ⌜ now (a .exit) ≡ closed (now (a .entry)) n i ⌝ }
+// Closes up over element i of the first `count`.
+pub fn close(array: &mut [u64], count: usize, i: usize)
+    requires { ⌜ (i < count) × (count ≤ length (now array)) ⌝ }
+    ensures { λ r. ⌜ now (array .exit) ≡ closed (now (array .entry)) count i ⌝ }
 {
     let mut j = i + 1;
-    while j < n {
-        a[j - 1] = a[j];
+    while j < count {
+        array[j - 1] = array[j];
         j += 1;
     }
 }

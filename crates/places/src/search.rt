@@ -8,7 +8,7 @@ ghost use Rattle.theory.specs.Place.{rank};
 ghost use Rattle.theory.specs.Lex.{lex};
 ghost use Rattle.text.specs.Order.{triOf};
 ghost use Rattle.keys.specs.Numbers.{keyList, keyNumbers, numbered};
-ghost use Rattle.entries.specs.Entries.{entry};
+ghost use Rattle.entries.specs.Entries.{recordOf};
 ghost use Rattle.entries.specs.Tags.{tagOf};
 ghost use Rattle.places.specs.Places.{says};
 ghost use Rattle.places.specs.Tags.{Tagged};
@@ -17,10 +17,10 @@ use entries::tags::tag;
 use keys::Key;
 use text::order::Order;
 
-// How k stands to the key of entry v: as their tags do, and only where both have a tag that is not of one key alone is the line read.
-fn by_tags(h: &[u8], f: &[u8], v: u64, its: u64, ours: u64, k: Key) -> Order
-    requires { ⌜ (its ≡ tagOf (keyNumbers (entry (now h) (now f) v))) × (ours ≡ tagOf (keyList k)) ⌝ }
-    ensures { λ r. ⌜ triOf r ≡ lex (keyList k) (keyNumbers (entry (now (h .entry)) (now (f .entry)) v)) ⌝ }
+// How a key stands to that of an entry: as their tags do, and only where both have a tag that is not of one key alone is the line read.
+fn by_tags(holding: &[u8], file: &[u8], entry: u64, its: u64, ours: u64, key: Key) -> Order
+    requires { ⌜ (its ≡ tagOf (keyNumbers (recordOf (now holding) (now file) entry))) × (ours ≡ tagOf (keyList key)) ⌝ }
+    ensures { λ r. ⌜ triOf r ≡ lex (keyList key) (keyNumbers (recordOf (now (holding .entry)) (now (file .entry)) entry)) ⌝ }
 {
     if ours < its {
         return Order::Before;
@@ -31,21 +31,28 @@ fn by_tags(h: &[u8], f: &[u8], v: u64, its: u64, ours: u64, k: Key) -> Order
     if ours % 2 == 0 {
         return Order::Same;
     }
-    against(h, f, v, k)
+    against(holding, file, entry, key)
 }
 
-// Where k stands among the first n entries, or would stand: a search by halves.
-pub fn place(h: &[u8], f: &[u8], a: &[u64], tags: &[u64], n: usize, k: Key) -> usize
-    requires { ⌜ (n ≤ length (now a)) × Tagged (now h) (now f) (now a) (now tags) n × Asc numbered (says (now h) (now f) (now a) n) ⌝ }
-    ensures { λ r. ⌜ (r ≡ rank numbered (keyList k) (says (now (h .entry)) (now (f .entry)) (now (a .entry)) n)) × (r ≤ n) ⌝ }
+// Where a key stands among the first `count` entries, or would stand: a search by halves.
+pub fn place(
+    holding: &[u8],
+    file: &[u8],
+    places: &[u64],
+    tags: &[u64],
+    count: usize,
+    key: Key,
+) -> usize
+    requires { ⌜ (count ≤ length (now places)) × Tagged (now holding) (now file) (now places) (now tags) count × Asc numbered (says (now holding) (now file) (now places) count) ⌝ }
+    ensures { λ r. ⌜ (r ≡ rank numbered (keyList key) (says (now (holding .entry)) (now (file .entry)) (now (places .entry)) count)) × (r ≤ count) ⌝ }
 {
-    let ours = tag(k);
+    let ours = tag(key);
     let mut low = 0;
-    let mut high = n;
+    let mut high = count;
     while low < high {
         let mid = low + (high - low) / 2;
         let next = mid + 1;
-        match by_tags(h, f, a[mid], tags[mid], ours, k) {
+        match by_tags(holding, file, places[mid], tags[mid], ours, key) {
             Order::Before => high = mid,
             Order::Same => high = mid,
             Order::After => low = next,
@@ -54,15 +61,23 @@ pub fn place(h: &[u8], f: &[u8], a: &[u64], tags: &[u64], n: usize, k: Key) -> u
     low
 }
 
-// Whether k stands at its place i.
-pub fn stands(h: &[u8], f: &[u8], a: &[u64], tags: &[u64], n: usize, i: usize, k: Key) -> bool
-    requires { ⌜ (n ≤ length (now a)) × Tagged (now h) (now f) (now a) (now tags) n × (i ≡ rank numbered (keyList k) (says (now h) (now f) (now a) n)) ⌝ }
-    ensures { λ r. ⌜ r ≡ some? (get numbered (keyList k) (says (now (h .entry)) (now (f .entry)) (now (a .entry)) n)) ⌝ }
+// Whether a key stands at its place i.
+pub fn stands(
+    holding: &[u8],
+    file: &[u8],
+    places: &[u64],
+    tags: &[u64],
+    count: usize,
+    i: usize,
+    key: Key,
+) -> bool
+    requires { ⌜ (count ≤ length (now places)) × Tagged (now holding) (now file) (now places) (now tags) count × (i ≡ rank numbered (keyList key) (says (now holding) (now file) (now places) count)) ⌝ }
+    ensures { λ r. ⌜ r ≡ some? (get numbered (keyList key) (says (now (holding .entry)) (now (file .entry)) (now (places .entry)) count)) ⌝ }
 {
-    if n <= i {
+    if count <= i {
         return false;
     }
-    match by_tags(h, f, a[i], tags[i], tag(k), k) {
+    match by_tags(holding, file, places[i], tags[i], tag(key), key) {
         Order::Before => false,
         Order::Same => true,
         Order::After => false,

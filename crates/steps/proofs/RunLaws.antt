@@ -63,7 +63,7 @@ line-kind-at f at e l k q i u = ap kindMeant i ∙ u ∙ ap (λ t. known (kindOf
 pub line-change-at : (f : List ℕ) (at e : ℕ) (o : Op) → e ≡ lineEnd f at → o ≡ opOf (getD (fieldsOf (take (e - at) (drop at f))) 1 []) → o ≡ opOf (getD (fieldsOf (lineAt f at)) 1 [])
 line-change-at f at e o q u = u ∙ ap (λ t. opOf (getD (fieldsOf t) 1 [])) (line-here f at e q)
 
-pub ruleset lineat = (needs, line-kind-at, line-change-at)
+pub ruleset readline = (needs, line-kind-at, line-change-at)
 
 -- ---- the body of a sound file
 

@@ -36,7 +36,7 @@ use Rattle.volume.specs.declared.lines.Line.{Line}
 use Rattle.volume.specs.Meant.{changeMeant}
 use Rattle.keys.specs.Numbers.{keyNumbers, refNumbers, numbered}
 use Rattle.keys.specs.KeyLaws.{put-alike, own-agrees, meets-agree}
-use Rattle.entries.specs.Entries.{recOf, lineAt, entry}
+use Rattle.entries.specs.Entries.{recOf, lineAt, recordOf}
 use Rattle.entries.specs.Tags.{tagOf}
 use Rattle.entries.proofs.EntryLaws.{entry-odd}
 use Rattle.places.specs.Places.{says, opened, closed}
@@ -116,40 +116,40 @@ length-closed a n i l m =
 
 -- ---- a step that is not refused
 
-module _ (h f a : List ℕ) (room v : ℕ) (s : State) (y : Ready h f a room s) (g : T (fine (entry h f v))) (j : Judged) where
+module _ (h f a : List ℕ) (room v : ℕ) (s : State) (y : Ready h f a room s) (g : T (fine (recordOf h f v))) (j : Judged) where
   -- a step that is refused leaves everything as it was
-  pub step-refused : (o t : List ℕ) (p : Op) → Judges h f a room (change p (entry h f v)) s j → (j .code ≡ 0 → ⊥) → Steps h f a a o t room (change p (entry h f v)) s (record { code = j .code; state = s; before = v })
+  pub step-refused : (o t : List ℕ) (p : Op) → Judges h f a room (change p (recordOf h f v)) s j → (j .code ≡ 0 → ⊥) → Steps h f a a o t room (change p (recordOf h f v)) s (record { code = j .code; state = s; before = v })
   step-refused o t p q n = record { coded = q .coded; left = λ z. absurd (n z) }
 
-  module _ (p : Op) (q : Judges h f a room (change p (entry h f v)) s j) (z : j .code ≡ 0) where
-    passed : T (allowed p (get keyed (keyOf (entry h f v)) (says h f a (s .count)))) × T (passes (stepTests room) (after keyed (says h f a (s .count)) (change p (entry h f v))))
-    passed = ok-judge keyed (stepTests room) (says h f a (s .count)) (change p (entry h f v)) (code-none room (j .code) (says h f a (s .count)) (change p (entry h f v)) (q .coded) z)
+  module _ (p : Op) (q : Judges h f a room (change p (recordOf h f v)) s j) (z : j .code ≡ 0) where
+    passed : T (allowed p (get keyed (keyOf (recordOf h f v)) (says h f a (s .count)))) × T (passes (stepTests room) (after keyed (says h f a (s .count)) (change p (recordOf h f v))))
+    passed = ok-judge keyed (stepTests room) (says h f a (s .count)) (change p (recordOf h f v)) (code-none room (j .code) (says h f a (s .count)) (change p (recordOf h f v)) (q .coded) z)
 
-    few-after : T (few (after keyed (says h f a (s .count)) (change p (entry h f v))))
+    few-after : T (few (after keyed (says h f a (s .count)) (change p (recordOf h f v))))
     unfolding stepTests
-    few-after = and-l (few (after keyed (says h f a (s .count)) (change p (entry h f v)))) _ (passed .1)
+    few-after = and-l (few (after keyed (says h f a (s .count)) (change p (recordOf h f v)))) _ (passed .1)
 
-    met-after : T (met keyed refsOf (after keyed (says h f a (s .count)) (change p (entry h f v))))
+    met-after : T (met keyed refsOf (after keyed (says h f a (s .count)) (change p (recordOf h f v))))
     unfolding stepTests
-    met-after = and-l (met keyed refsOf (after keyed (says h f a (s .count)) (change p (entry h f v)))) _ (and-r (few (after keyed (says h f a (s .count)) (change p (entry h f v)))) _ (passed .1))
+    met-after = and-l (met keyed refsOf (after keyed (says h f a (s .count)) (change p (recordOf h f v)))) _ (and-r (few (after keyed (says h f a (s .count)) (change p (recordOf h f v)))) _ (passed .1))
 
-    fits-after : length (written (after keyed (says h f a (s .count)) (change p (entry h f v)))) ≤ room
+    fits-after : length (written (after keyed (says h f a (s .count)) (change p (recordOf h f v)))) ≤ room
     unfolding stepTests fits
     fits-after =
-        leb→le (length (written (after keyed (says h f a (s .count)) (change p (entry h f v))))) room
-        (and-l (leb (length (written (after keyed (says h f a (s .count)) (change p (entry h f v))))) room) _
-        (and-r (met keyed refsOf (after keyed (says h f a (s .count)) (change p (entry h f v)))) _ (and-r (few (after keyed (says h f a (s .count)) (change p (entry h f v)))) _ (passed .1))))
+        leb→le (length (written (after keyed (says h f a (s .count)) (change p (recordOf h f v))))) room
+        (and-l (leb (length (written (after keyed (says h f a (s .count)) (change p (recordOf h f v))))) room) _
+        (and-r (met keyed refsOf (after keyed (says h f a (s .count)) (change p (recordOf h f v)))) _ (and-r (few (after keyed (says h f a (s .count)) (change p (recordOf h f v)))) _ (passed .1))))
 
-    fines-after : T (all fine (after keyed (says h f a (s .count)) (change p (entry h f v))))
+    fines-after : T (all fine (after keyed (says h f a (s .count)) (change p (recordOf h f v))))
     unfolding after
-    fines-after = all-put keyed fine (keyOf (entry h f v)) (new p (entry h f v)) (says h f a (s .count)) (new-fine p (entry h f v) g) (y .fines)
+    fines-after = all-put keyed fine (keyOf (recordOf h f v)) (new p (recordOf h f v)) (says h f a (s .count)) (new-fine p (recordOf h f v) g) (y .fines)
 
-    ready-next : (b : List ℕ) (m : ℕ) → says h f b m ≡ after keyed (says h f a (s .count)) (change p (entry h f v)) → m ≡ length (after keyed (says h f a (s .count)) (change p (entry h f v))) → length b ≡ length a
+    ready-next : (b : List ℕ) (m : ℕ) → says h f b m ≡ after keyed (says h f a (s .count)) (change p (recordOf h f v)) → m ≡ length (after keyed (says h f a (s .count)) (change p (recordOf h f v))) → length b ≡ length a
         → Ready h f b room (record { count = m; size = j .size })
     ready-next b m e n l = record {
-      asc = subst (Asc keyed) (sym e) (asc-after keyed (says h f a (s .count)) (change p (entry h f v)) (y .asc));
+      asc = subst (Asc keyed) (sym e) (asc-after keyed (says h f a (s .count)) (change p (recordOf h f v)) (y .asc));
       fines = subst (λ x. T (all fine x)) (sym e) fines-after;
-      pass = subst (λ x. T (passes always x)) (sym e) (and-in (few (after keyed (says h f a (s .count)) (change p (entry h f v)))) _ few-after (and-in (met keyed refsOf (after keyed (says h f a (s .count)) (change p (entry h f v)))) true met-after tt));
+      pass = subst (λ x. T (passes always x)) (sym e) (and-in (few (after keyed (says h f a (s .count)) (change p (recordOf h f v)))) _ few-after (and-in (met keyed refsOf (after keyed (says h f a (s .count)) (change p (recordOf h f v)))) true met-after tt));
       counted = n ∙ ap length (sym e);
       sized = q .sized z ∙ ap (λ x. length (written x)) (sym e);
       fits = omega (arith, q .sized z, fits-after);
@@ -159,28 +159,28 @@ module _ (h f a : List ℕ) (room v : ℕ) (s : State) (y : Ready h f a room s) 
       fileShort = y .fileShort;
     }
 
-    stepped : (b o t : List ℕ) (m u : ℕ) → says h f b m ≡ after keyed (says h f a (s .count)) (change p (entry h f v)) → m ≡ length (after keyed (says h f a (s .count)) (change p (entry h f v))) → length b ≡ length a
-        → Tagged h f b o m → take m t ≡ byKey (tally (says h f b m)) (says h f b m) → 8192 ≤ length t → entry h f u ≡ Option·getD (get keyed (keyOf (entry h f v)) (says h f a (s .count))) (entry h f v)
-        → Steps h f a b o t room (change p (entry h f v)) s (record { code = 0; state = record { count = m; size = j .size }; before = u })
+    stepped : (b o t : List ℕ) (m u : ℕ) → says h f b m ≡ after keyed (says h f a (s .count)) (change p (recordOf h f v)) → m ≡ length (after keyed (says h f a (s .count)) (change p (recordOf h f v))) → length b ≡ length a
+        → Tagged h f b o m → take m t ≡ byKey (tally (says h f b m)) (says h f b m) → 8192 ≤ length t → recordOf h f u ≡ Option·getD (get keyed (keyOf (recordOf h f v)) (says h f a (s .count))) (recordOf h f v)
+        → Steps h f a b o t room (change p (recordOf h f v)) s (record { code = 0; state = record { count = m; size = j .size }; before = u })
     stepped b o t m u e n l i c d w = record { coded = sym z ∙ q .coded; left = λ x. record { said = e; ready = ready-next b m e n l; tagged = i; tallied = record { space = d; told = c }; stood = w } }
 
-    meets-after : T (all (meets numbered refNumbers (after keyed (says h f a (s .count)) (change p (entry h f v)))) (after keyed (says h f a (s .count)) (change p (entry h f v))))
-    meets-after = met-told (after keyed (says h f a (s .count)) (change p (entry h f v))) fines-after met-after
+    meets-after : T (all (meets numbered refNumbers (after keyed (says h f a (s .count)) (change p (recordOf h f v)))) (after keyed (says h f a (s .count)) (change p (recordOf h f v))))
+    meets-after = met-told (after keyed (says h f a (s .count)) (change p (recordOf h f v))) fines-after met-after
 
-    put-both : (o : Option Rec) → put numbered (keyNumbers (entry h f v)) o (says h f a (s .count)) ≡ put keyed (keyOf (entry h f v)) o (says h f a (s .count))
-    put-both o = put-alike (says h f a (s .count)) (y .fines) (keyNumbers (entry h f v)) (keyOf (entry h f v)) (own-agrees (entry h f v) g) o
+    put-both : (o : Option Rec) → put numbered (keyNumbers (recordOf h f v)) o (says h f a (s .count)) ≡ put keyed (keyOf (recordOf h f v)) o (says h f a (s .count))
+    put-both o = put-alike (says h f a (s .count)) (y .fines) (keyNumbers (recordOf h f v)) (keyOf (recordOf h f v)) (own-agrees (recordOf h f v) g) o
 
-    stood-at : T (some? (get keyed (keyOf (entry h f v)) (says h f a (s .count)))) → T (some? (get numbered (keyNumbers (entry h f v)) (says h f a (s .count))))
-    stood-at t = subst (λ o. T (some? o)) (sym (get-both (says h f a (s .count)) (entry h f v) (y .fines) g)) t
+    stood-at : T (some? (get keyed (keyOf (recordOf h f v)) (says h f a (s .count)))) → T (some? (get numbered (keyNumbers (recordOf h f v)) (says h f a (s .count))))
+    stood-at t = subst (λ o. T (some? o)) (sym (get-both (says h f a (s .count)) (recordOf h f v) (y .fines) g)) t
 
-    found : T (some? (get keyed (keyOf (entry h f v)) (says h f a (s .count)))) → get numbered (keyNumbers (entry h f v)) (says h f a (s .count)) ≡ some (entry h f (getD a (j .place) 0))
-    found t = found-at h f a (keyNumbers (entry h f v)) (s .count) (j .place) (ready-in h f a room s y) (q .placed) (stood-at t)
+    found : T (some? (get keyed (keyOf (recordOf h f v)) (says h f a (s .count)))) → get numbered (keyNumbers (recordOf h f v)) (says h f a (s .count)) ≡ some (recordOf h f (getD a (j .place) 0))
+    found t = found-at h f a (keyNumbers (recordOf h f v)) (s .count) (j .place) (ready-in h f a room s y) (q .placed) (stood-at t)
 
-    found-key : T (some? (get keyed (keyOf (entry h f v)) (says h f a (s .count)))) → get keyed (keyOf (entry h f v)) (says h f a (s .count)) ≡ some (entry h f (getD a (j .place) 0))
-    found-key t = sym (get-both (says h f a (s .count)) (entry h f v) (y .fines) g) ∙ found t
+    found-key : T (some? (get keyed (keyOf (recordOf h f v)) (says h f a (s .count)))) → get keyed (keyOf (recordOf h f v)) (says h f a (s .count)) ≡ some (recordOf h f (getD a (j .place) 0))
+    found-key t = sym (get-both (says h f a (s .count)) (recordOf h f v) (y .fines) g) ∙ found t
 
-    found-in : T (some? (get keyed (keyOf (entry h f v)) (says h f a (s .count)))) → j .place < s .count
-    found-in t = stands-in h f a (s .count) (j .place) (keyNumbers (entry h f v)) (ready-in h f a room s y) (q .placed) (some? (get numbered (keyNumbers (entry h f v)) (says h f a (s .count)))) refl (T-true _ (stood-at t))
+    found-in : T (some? (get keyed (keyOf (recordOf h f v)) (says h f a (s .count)))) → j .place < s .count
+    found-in t = stands-in h f a (s .count) (j .place) (keyNumbers (recordOf h f v)) (ready-in h f a room s y) (q .placed) (some? (get numbered (keyNumbers (recordOf h f v)) (says h f a (s .count)))) refl (T-true _ (stood-at t))
 
   -- ---- counts
 
@@ -189,7 +189,7 @@ module _ (h f a : List ℕ) (room v : ℕ) (s : State) (y : Ready h f a room s) 
   st = says h f a (s .count)
 
   abbrev x : Rec
-  x = entry h f v
+  x = recordOf h f v
 
   asc-now : Asc numbered st
   asc-now = asc-told st (y .asc) (y .fines)
@@ -206,18 +206,18 @@ module _ (h f a : List ℕ) (room v : ℕ) (s : State) (y : Ready h f a room s) 
 
   -- ---- insert
 
-  module _ (q : Judges h f a room (change ins (entry h f v)) s j) (z : j .code ≡ 0) where
-    ins-none : get keyed (keyOf (entry h f v)) (says h f a (s .count)) ≡ none
-    ins-none = none-of (get keyed (keyOf (entry h f v)) (says h f a (s .count))) (T-false _ (passed ins q z .0))
+  module _ (q : Judges h f a room (change ins (recordOf h f v)) s j) (z : j .code ≡ 0) where
+    ins-none : get keyed (keyOf (recordOf h f v)) (says h f a (s .count)) ≡ none
+    ins-none = none-of (get keyed (keyOf (recordOf h f v)) (says h f a (s .count))) (T-false _ (passed ins q z .0))
 
-    ins-count : length (after keyed (says h f a (s .count)) (change ins (entry h f v))) ≡ s .count + 1
+    ins-count : length (after keyed (says h f a (s .count)) (change ins (recordOf h f v))) ≡ s .count + 1
     unfolding after
-    ins-count = omega (arith, rw ins-none at (length-put keyed (keyOf (entry h f v)) (some (entry h f v)) (says h f a (s .count))), y .counted)
+    ins-count = omega (arith, rw ins-none at (length-put keyed (keyOf (recordOf h f v)) (some (recordOf h f v)) (says h f a (s .count))), y .counted)
 
     -- there is room for one entry more
     pub ins-in : s .count < length a
     unfolding few
-    ins-in = omega (arith, ins-count, y .space, leb→le (length (after keyed (says h f a (s .count)) (change ins (entry h f v)))) most (few-after ins q z))
+    ins-in = omega (arith, ins-count, y .space, leb→le (length (after keyed (says h f a (s .count)) (change ins (recordOf h f v)))) most (few-after ins q z))
 
     -- its place is among the entries, or after them
     pub ins-place : j .place ≤ s .count
@@ -227,11 +227,11 @@ module _ (h f a : List ℕ) (room v : ℕ) (s : State) (y : Ready h f a room s) 
     pub ins-fits : Fits w64 (s .count + 1)
     ins-fits = record { fits = omega (arith, ready-few h f a room s y) }
 
-    ins-says : says h f (opened a (s .count) (j .place) v) (s .count + 1) ≡ after keyed (says h f a (s .count)) (change ins (entry h f v))
+    ins-says : says h f (opened a (s .count) (j .place) v) (s .count + 1) ≡ after keyed (says h f a (s .count)) (change ins (recordOf h f v))
     unfolding after
     ins-says =
-        put-says h f a (keyNumbers (entry h f v)) (s .count) (j .place) (q .placed) v ins-in (q .within) (get-both (says h f a (s .count)) (entry h f v) (y .fines) g ∙ ins-none)
-        ∙ put-both ins q z (some (entry h f v))
+        put-says h f a (keyNumbers (recordOf h f v)) (s .count) (j .place) (q .placed) v ins-in (q .within) (get-both (says h f a (s .count)) (recordOf h f v) (y .fines) g ∙ ins-none)
+        ∙ put-both ins q z (some (recordOf h f v))
 
     ins-space : (o : List ℕ) → 8192 ≤ length o → s .count < length o
     unfolding few
@@ -285,24 +285,24 @@ module _ (h f a : List ℕ) (room v : ℕ) (s : State) (y : Ready h f a room s) 
 
   -- ---- update
 
-  module _ (q : Judges h f a room (change upd (entry h f v)) s j) (z : j .code ≡ 0) where
-    upd-count : length (after keyed (says h f a (s .count)) (change upd (entry h f v))) ≡ s .count
+  module _ (q : Judges h f a room (change upd (recordOf h f v)) s j) (z : j .code ≡ 0) where
+    upd-count : length (after keyed (says h f a (s .count)) (change upd (recordOf h f v))) ≡ s .count
     unfolding after
-    upd-count = omega (arith, rw (found-key upd q z (passed upd q z .0)) at (length-put keyed (keyOf (entry h f v)) (some (entry h f v)) (says h f a (s .count))), y .counted)
+    upd-count = omega (arith, rw (found-key upd q z (passed upd q z .0)) at (length-put keyed (keyOf (recordOf h f v)) (some (recordOf h f v)) (says h f a (s .count))), y .counted)
 
     -- the entry is in the array
     pub upd-in : j .place < length a
     upd-in = omega (arith, found-in upd q z (passed upd q z .0), ready-in h f a room s y)
 
-    upd-says : says h f (set a (j .place) v) (s .count) ≡ after keyed (says h f a (s .count)) (change upd (entry h f v))
+    upd-says : says h f (set a (j .place) v) (s .count) ≡ after keyed (says h f a (s .count)) (change upd (recordOf h f v))
     unfolding after
     upd-says =
-        set-says h f a (keyNumbers (entry h f v)) (s .count) (j .place) (q .placed) (entry h f (getD a (j .place) 0)) (ready-in h f a room s y) (found-in upd q z (passed upd q z .0)) (found upd q z (passed upd q z .0)) v
-        ∙ put-both upd q z (some (entry h f v))
+        set-says h f a (keyNumbers (recordOf h f v)) (s .count) (j .place) (q .placed) (recordOf h f (getD a (j .place) 0)) (ready-in h f a room s y) (found-in upd q z (passed upd q z .0)) (found upd q z (passed upd q z .0)) v
+        ∙ put-both upd q z (some (recordOf h f v))
 
     module _ (t : List ℕ) (k : Counted h f a t (s .count)) (o : List ℕ) (l : Tagged h f a o (s .count)) where
       abbrev old : Rec
-      old = entry h f (getD a (j .place) 0)
+      old = recordOf h f (getD a (j .place) 0)
 
       upd-get : get numbered (keyNumbers x) st ≡ some old
       upd-get = found upd q z (passed upd q z .0)
@@ -357,7 +357,7 @@ module _ (h f a : List ℕ) (room v : ℕ) (s : State) (y : Ready h f a room s) 
 
   -- ---- delete
 
-  module _ (q : Judges h f a room (change del (entry h f v)) s j) (z : j .code ≡ 0) where
+  module _ (q : Judges h f a room (change del (recordOf h f v)) s j) (z : j .code ≡ 0) where
     -- the entry is one of those that count
     pub del-place : j .place < s .count
     del-place = found-in del q z (passed del q z .0)
@@ -374,19 +374,19 @@ module _ (h f a : List ℕ) (room v : ℕ) (s : State) (y : Ready h f a room s) 
     pub del-one : 1 ≤ s .count
     del-one = omega (arith, del-place)
 
-    del-count : length (after keyed (says h f a (s .count)) (change del (entry h f v))) + 1 ≡ s .count
+    del-count : length (after keyed (says h f a (s .count)) (change del (recordOf h f v))) + 1 ≡ s .count
     unfolding after
-    del-count = omega (arith, rw (found-key del q z (passed del q z .0)) at (length-put keyed (keyOf (entry h f v)) none (says h f a (s .count))), y .counted)
+    del-count = omega (arith, rw (found-key del q z (passed del q z .0)) at (length-put keyed (keyOf (recordOf h f v)) none (says h f a (s .count))), y .counted)
 
-    del-says : says h f (closed a (s .count) (j .place)) (s .count - 1) ≡ after keyed (says h f a (s .count)) (change del (entry h f v))
+    del-says : says h f (closed a (s .count) (j .place)) (s .count - 1) ≡ after keyed (says h f a (s .count)) (change del (recordOf h f v))
     unfolding after
     del-says =
-        close-says h f a (keyNumbers (entry h f v)) (s .count) (j .place) (q .placed) (entry h f (getD a (j .place) 0)) (ready-in h f a room s y) del-place (found del q z (passed del q z .0))
+        close-says h f a (keyNumbers (recordOf h f v)) (s .count) (j .place) (q .placed) (recordOf h f (getD a (j .place) 0)) (ready-in h f a room s y) del-place (found del q z (passed del q z .0))
         ∙ put-both del q z none
 
     module _ (t : List ℕ) (k : Counted h f a t (s .count)) (o : List ℕ) (l : Tagged h f a o (s .count)) where
       abbrev gone : Rec
-      gone = entry h f (getD a (j .place) 0)
+      gone = recordOf h f (getD a (j .place) 0)
 
       del-get : get numbered (keyNumbers x) st ≡ some gone
       del-get = found del q z (passed del q z .0)
@@ -468,11 +468,11 @@ unfolding fine
 fine-held x g = and-l (isHeld (role (x .kind))) _ g
 
 module _ (h f : List ℕ) (at : ℕ) (l : Line) (q : Carries f at l) where
-  filed : entry h f (2 * at + 1) ≡ recOf (lineAt f at)
+  filed : recordOf h f (2 * at + 1) ≡ recOf (lineAt f at)
   filed = entry-odd h f at (2 * at + 1) (omega arith)
 
   -- the entry of a line is of a sound record
-  pub line-fine : T (fine (entry h f (2 * at + 1)))
+  pub line-fine : T (fine (recordOf h f (2 * at + 1)))
   line-fine = subst (λ x. T (fine x)) (sym filed) (q .sound)
 
   -- it can be written down
@@ -489,7 +489,7 @@ module _ (h f : List ℕ) (at : ℕ) (l : Line) (q : Carries f at l) where
     step-unheld k e t = absurd (subst T (ap (λ z. isHeld (role z)) (sym (q .kinded)) ∙ ap (λ z. isHeld (role (kindMeant z))) e ∙ held-is k ∙ ap not t) (fine-held (recOf (lineAt f at)) (q .sound)))
 
     -- the line's change is made
-    pub step-made : (k : code-change.Change) → l .change ≡ k → Steps h f a b o t room (change (changeMeant k) (entry h f (2 * at + 1))) s r → Steps h f a b o t room (changeAt f at) s r
+    pub step-made : (k : code-change.Change) → l .change ≡ k → Steps h f a b o t room (change (changeMeant k) (recordOf h f (2 * at + 1))) s r → Steps h f a b o t room (changeAt f at) s r
     step-made k e u = subst (λ c. Steps h f a b o t room c s r) (ap₂ change (ap changeMeant (sym e) ∙ q .changed) filed) u
 
 pub ruleset stepping = (needs, line-fine, twice-fits, odd-fits, step-unheld, step-made)

@@ -13,7 +13,7 @@ use Rattle.laws.specs.Body.{fine}
 use Rattle.layout.specs.Meant.{kindMeant}
 use Rattle.volume.specs.Meant.{changeMeant}
 use Rattle.volume.specs.declared.lines.Line.{Line}
-use Rattle.entries.specs.Entries.{entry}
+use Rattle.entries.specs.Entries.{recordOf}
 use Rattle.places.specs.Places.{says}
 use Rattle.places.specs.Counts.{Counted}
 use Rattle.places.specs.Tags.{Tagged}
@@ -28,7 +28,7 @@ pub record Leaves (h f a b g t : List ℕ) (room : ℕ) (c : Change Rec) (s : St
   pub ready : Ready h f b room (r .state)
   pub tagged : Tagged h f b g (r .state .count)
   pub tallied : Counted h f b t (r .state .count)
-  pub stood : entry h f (r .before) ≡ Option·getD (get keyed (keyOf (c .rec)) (says h f a (s .count))) (c .rec)
+  pub stood : recordOf h f (r .before) ≡ Option·getD (get keyed (keyOf (c .rec)) (says h f a (s .count))) (c .rec)
 
 -- a step: its code, and where that is 0 what it leaves
 pub record Steps (h f a b g t : List ℕ) (room : ℕ) (c : Change Rec) (s : State) (r : Stepped) : Type 0 where

@@ -31,11 +31,11 @@ pub struct Ran {
 }
 
 // The kind and change of the line that starts at `at` and ends at `end`.
-fn line_at(f: &[u8], at: usize, end: usize) -> Line
-    requires { ⌜ (end ≡ lineEnd (now f) at) × (at ≤ end) × (end ≤ length (now f)) ⌝ }
-    ensures { λ r. ⌜ (kindMeant (r .kind) ≡ changeAt (now (f .entry)) at .rec .kind) × (changeMeant (r .change) ≡ changeAt (now (f .entry)) at .op) ⌝ }
+fn read_line(file: &[u8], at: usize, end: usize) -> Line
+    requires { ⌜ (end ≡ lineEnd (now file) at) × (at ≤ end) × (end ≤ length (now file)) ⌝ }
+    ensures { λ r. ⌜ (kindMeant (r .kind) ≡ changeAt (now (file .entry)) at .rec .kind) × (changeMeant (r .change) ≡ changeAt (now (file .entry)) at .op) ⌝ }
 {
-    let text = &f[at..end];
+    let text = &file[at..end];
     let kind = line_kind(text);
     known(kind, text)
 }
@@ -56,35 +56,35 @@ fn ended(code: u64, line: usize, state: State, steps: usize, end: usize) -> Ran
 // The steps of a sound file, body line by body line; its header stands on line 1. Each step leaves its own entry in `steps`, and in
 // `before` what stood at its key, or its own entry where nothing did.
 pub fn run(
-    h: &[u8],
-    f: &[u8],
-    a: &mut [u64],
+    holding: &[u8],
+    file: &[u8],
+    places: &mut [u64],
     tags: &mut [u64],
     counts: &mut [u16],
     steps: &mut [u64],
     before: &mut [u64],
-    s: State,
+    start: State,
     room: usize,
 ) -> Ran
-    requires { ⌜ Ready (now h) (now f) (now a) room s × Counted (now h) (now f) (now a) (now counts) (s .count) × T (isFile (readFile (now f))) × (4096 ≤ length (now steps)) × (4096 ≤ length (now before)) × Tagged (now h) (now f) (now a) (now tags) (s .count) ⌝ }
-    ensures { λ r. ⌜ Runs (now (h .entry)) (now (f .entry)) (now (a .entry)) (now (a .exit)) (now (steps .exit)) (now (before .exit)) room s r ⌝ }
+    requires { ⌜ Ready (now holding) (now file) (now places) room start × Counted (now holding) (now file) (now places) (now counts) (start .count) × T (isFile (readFile (now file))) × (4096 ≤ length (now steps)) × (4096 ≤ length (now before)) × Tagged (now holding) (now file) (now places) (now tags) (start .count) ⌝ }
+    ensures { λ r. ⌜ Runs (now (holding .entry)) (now (file .entry)) (now (places .entry)) (now (places .exit)) (now (steps .exit)) (now (before .exit)) room start r ⌝ }
 {
-    let mut at = line_end(f, 0) + 2;
-    let mut n = 0;
-    let mut state = s;
-    while at < f.len() {
-        let end = line_end(f, at);
-        let read = line_at(f, at, end);
+    let mut at = line_end(file, 0) + 2;
+    let mut made = 0;
+    let mut state = start;
+    while at < file.len() {
+        let end = line_end(file, at);
+        let read = read_line(file, at, end);
         let kind = read.kind;
         if !is_held(kind) {
-            return ended(0, 0, state, n, at);
+            return ended(0, 0, state, made, at);
         }
         let stepped = step(
-            h,
-            f,
+            holding,
+            file,
             at,
             read,
-            &mut *a,
+            &mut *places,
             &mut *tags,
             &mut *counts,
             state,
@@ -92,13 +92,13 @@ pub fn run(
         );
         let code = stepped.code;
         if code != 0 {
-            return ended(code, n + 2, state, n, at);
+            return ended(code, made + 2, state, made, at);
         }
-        steps[n] = 2 * (at as u64) + 1;
-        before[n] = stepped.before;
+        steps[made] = 2 * (at as u64) + 1;
+        before[made] = stepped.before;
         state = stepped.state;
         at = end + 2;
-        n += 1;
+        made += 1;
     }
-    ended(0, 0, state, n, at)
+    ended(0, 0, state, made, at)
 }

@@ -3,7 +3,7 @@ ghost use mathlib.Core.Path.{_≡_};
 ghost use lib.Dec.{T};
 ghost use Rattle.theory.specs.Step.{ins, upd, del};
 ghost use Rattle.laws.specs.Body.{fine};
-ghost use Rattle.entries.specs.Entries.{entry};
+ghost use Rattle.entries.specs.Entries.{recordOf};
 ghost use Rattle.places.specs.Counts.{Counted};
 ghost use Rattle.places.specs.Tags.{Tagged};
 ghost use Rattle.places.specs.Changes.{change, changeAt};
@@ -31,72 +31,90 @@ pub struct Stepped {
 
 // An insert of an entry's record.
 fn insert(
-    h: &[u8],
-    f: &[u8],
-    a: &mut [u64],
+    holding: &[u8],
+    file: &[u8],
+    places: &mut [u64],
     tags: &mut [u64],
     counts: &mut [u16],
-    v: u64,
-    s: State,
+    entry: u64,
+    state: State,
     room: usize,
 ) -> Stepped
-    requires { ⌜ Ready (now h) (now f) (now a) room s × Counted (now h) (now f) (now a) (now counts) (s .count) × T (fine (entry (now h) (now f) v)) × Tagged (now h) (now f) (now a) (now tags) (s .count) ⌝ }
-    ensures { λ r. ⌜ Steps (now (h .entry)) (now (f .entry)) (now (a .entry)) (now (a .exit)) (now (tags .exit)) (now (counts .exit)) room (change ins (entry (now (h .entry)) (now (f .entry)) v)) s r ⌝ }
+    requires { ⌜ Ready (now holding) (now file) (now places) room state × Counted (now holding) (now file) (now places) (now counts) (state .count) × T (fine (recordOf (now holding) (now file) entry)) × Tagged (now holding) (now file) (now places) (now tags) (state .count) ⌝ }
+    ensures { λ r. ⌜ Steps (now (holding .entry)) (now (file .entry)) (now (places .entry)) (now (places .exit)) (now (tags .exit)) (now (counts .exit)) room (change ins (recordOf (now (holding .entry)) (now (file .entry)) entry)) state r ⌝ }
 {
-    let judged = judge_insert(h, f, a, tags, v, s, room);
+    let judged = judge_insert(holding, file, places, tags, entry, state, room);
     let code = judged.code;
     let i = judged.place;
     let size = judged.size;
     if code != 0 {
         return Stepped {
             code,
-            state: s,
-            before: v,
+            state,
+            before: entry,
         };
     }
-    let count = s.count;
+    let count = state.count;
     let next = count + 1;
-    open(&mut *a, count, i, v);
-    open(&mut *tags, count, i, entry_tag(h, f, v));
+    open(&mut *places, count, i, entry);
+    open(&mut *tags, count, i, entry_tag(holding, file, entry));
     counts::open(&mut *counts, count, i, 0);
-    note(h, f, a, tags, &mut *counts, next, v, true);
+    note(holding, file, places, tags, &mut *counts, next, entry, true);
     Stepped {
         code: 0,
         state: State { count: next, size },
-        before: v,
+        before: entry,
     }
 }
 
 // An update to an entry's record.
 fn update(
-    h: &[u8],
-    f: &[u8],
-    a: &mut [u64],
+    holding: &[u8],
+    file: &[u8],
+    places: &mut [u64],
     tags: &[u64],
     counts: &mut [u16],
-    v: u64,
-    s: State,
+    entry: u64,
+    state: State,
     room: usize,
 ) -> Stepped
-    requires { ⌜ Ready (now h) (now f) (now a) room s × Counted (now h) (now f) (now a) (now counts) (s .count) × T (fine (entry (now h) (now f) v)) × Tagged (now h) (now f) (now a) (now tags) (s .count) ⌝ }
-    ensures { λ r. ⌜ Steps (now (h .entry)) (now (f .entry)) (now (a .entry)) (now (a .exit)) (now (tags .entry)) (now (counts .exit)) room (change upd (entry (now (h .entry)) (now (f .entry)) v)) s r ⌝ }
+    requires { ⌜ Ready (now holding) (now file) (now places) room state × Counted (now holding) (now file) (now places) (now counts) (state .count) × T (fine (recordOf (now holding) (now file) entry)) × Tagged (now holding) (now file) (now places) (now tags) (state .count) ⌝ }
+    ensures { λ r. ⌜ Steps (now (holding .entry)) (now (file .entry)) (now (places .entry)) (now (places .exit)) (now (tags .entry)) (now (counts .exit)) room (change upd (recordOf (now (holding .entry)) (now (file .entry)) entry)) state r ⌝ }
 {
-    let judged = judge_update(h, f, a, tags, v, s, room);
+    let judged = judge_update(holding, file, places, tags, entry, state, room);
     let code = judged.code;
     let i = judged.place;
     let size = judged.size;
     if code != 0 {
         return Stepped {
             code,
-            state: s,
-            before: v,
+            state,
+            before: entry,
         };
     }
-    let count = s.count;
-    let before = a[i];
-    note(h, f, a, tags, &mut *counts, count, before, false);
-    a[i] = v;
-    note(h, f, a, tags, &mut *counts, count, v, true);
+    let count = state.count;
+    let before = places[i];
+    note(
+        holding,
+        file,
+        places,
+        tags,
+        &mut *counts,
+        count,
+        before,
+        false,
+    );
+    places[i] = entry;
+    note(
+        holding,
+        file,
+        places,
+        tags,
+        &mut *counts,
+        count,
+        entry,
+        true,
+    );
     Stepped {
         code: 0,
         state: State { count, size },
@@ -106,33 +124,42 @@ fn update(
 
 // A delete at the key of an entry's record.
 fn delete(
-    h: &[u8],
-    f: &[u8],
-    a: &mut [u64],
+    holding: &[u8],
+    file: &[u8],
+    places: &mut [u64],
     tags: &mut [u64],
     counts: &mut [u16],
-    v: u64,
-    s: State,
+    entry: u64,
+    state: State,
     room: usize,
 ) -> Stepped
-    requires { ⌜ Ready (now h) (now f) (now a) room s × Counted (now h) (now f) (now a) (now counts) (s .count) × T (fine (entry (now h) (now f) v)) × Tagged (now h) (now f) (now a) (now tags) (s .count) ⌝ }
-    ensures { λ r. ⌜ Steps (now (h .entry)) (now (f .entry)) (now (a .entry)) (now (a .exit)) (now (tags .exit)) (now (counts .exit)) room (change del (entry (now (h .entry)) (now (f .entry)) v)) s r ⌝ }
+    requires { ⌜ Ready (now holding) (now file) (now places) room state × Counted (now holding) (now file) (now places) (now counts) (state .count) × T (fine (recordOf (now holding) (now file) entry)) × Tagged (now holding) (now file) (now places) (now tags) (state .count) ⌝ }
+    ensures { λ r. ⌜ Steps (now (holding .entry)) (now (file .entry)) (now (places .entry)) (now (places .exit)) (now (tags .exit)) (now (counts .exit)) room (change del (recordOf (now (holding .entry)) (now (file .entry)) entry)) state r ⌝ }
 {
-    let judged = judge_delete(h, f, a, tags, counts, v, s, room);
+    let judged = judge_delete(holding, file, places, tags, counts, entry, state, room);
     let code = judged.code;
     let i = judged.place;
     let size = judged.size;
     if code != 0 {
         return Stepped {
             code,
-            state: s,
-            before: v,
+            state,
+            before: entry,
         };
     }
-    let count = s.count;
-    let gone = a[i];
-    note(h, f, a, tags, &mut *counts, count, gone, false);
-    close(&mut *a, count, i);
+    let count = state.count;
+    let gone = places[i];
+    note(
+        holding,
+        file,
+        places,
+        tags,
+        &mut *counts,
+        count,
+        gone,
+        false,
+    );
+    close(&mut *places, count, i);
     close(&mut *tags, count, i);
     counts::close(&mut *counts, count, i);
     Stepped {
@@ -146,47 +173,47 @@ fn delete(
 }
 
 // A step that changes nothing.
-fn unchanged(s: State, v: u64) -> Stepped
-    ensures { λ r. ⌜ r ≡ record { code = 0; state = s; before = v } ⌝ }
+fn unchanged(state: State, entry: u64) -> Stepped
+    ensures { λ r. ⌜ r ≡ record { code = 0; state = state; before = entry } ⌝ }
 {
     Stepped {
         code: 0,
-        state: s,
-        before: v,
+        state,
+        before: entry,
     }
 }
 
 // The step of the line that starts at `at` of the file; a line of a kind that is not held changes nothing.
 pub fn step(
-    h: &[u8],
-    f: &[u8],
+    holding: &[u8],
+    file: &[u8],
     at: usize,
     line: Line,
-    a: &mut [u64],
+    places: &mut [u64],
     tags: &mut [u64],
     counts: &mut [u16],
-    s: State,
+    state: State,
     room: usize,
 ) -> Stepped
-    requires { ⌜ Ready (now h) (now f) (now a) room s × Counted (now h) (now f) (now a) (now counts) (s .count) × Carries (now f) at line × Tagged (now h) (now f) (now a) (now tags) (s .count) ⌝ }
-    ensures { λ r. ⌜ Steps (now (h .entry)) (now (f .entry)) (now (a .entry)) (now (a .exit)) (now (tags .exit)) (now (counts .exit)) room (changeAt (now (f .entry)) at) s r ⌝ }
+    requires { ⌜ Ready (now holding) (now file) (now places) room state × Counted (now holding) (now file) (now places) (now counts) (state .count) × Carries (now file) at line × Tagged (now holding) (now file) (now places) (now tags) (state .count) ⌝ }
+    ensures { λ r. ⌜ Steps (now (holding .entry)) (now (file .entry)) (now (places .entry)) (now (places .exit)) (now (tags .exit)) (now (counts .exit)) room (changeAt (now (file .entry)) at) state r ⌝ }
 {
     let kind = line.kind;
     let change = line.change;
-    let v = 2 * (at as u64) + 1;
+    let entry = 2 * (at as u64) + 1;
     match kind {
-        Kind::Header => return unchanged(s, v),
+        Kind::Header => return unchanged(state, entry),
         Kind::Street => {}
         Kind::StreetXref => {}
         Kind::Blpu => {}
         Kind::AppXref => {}
         Kind::Lpi => {}
-        Kind::Metadata => return unchanged(s, v),
-        Kind::Trailer => return unchanged(s, v),
+        Kind::Metadata => return unchanged(state, entry),
+        Kind::Trailer => return unchanged(state, entry),
     }
     match change {
-        Change::Insert => insert(h, f, a, tags, counts, v, s, room),
-        Change::Update => update(h, f, a, tags, counts, v, s, room),
-        Change::Delete => delete(h, f, a, tags, counts, v, s, room),
+        Change::Insert => insert(holding, file, places, tags, counts, entry, state, room),
+        Change::Update => update(holding, file, places, tags, counts, entry, state, room),
+        Change::Delete => delete(holding, file, places, tags, counts, entry, state, room),
     }
 }

@@ -20,10 +20,10 @@ use Rattle.theory.specs.Written.{Printed, render}
 use Rattle.theory.specs.WrittenLaws.{length-render, size-ins, size-upd, size-del}
 use Rattle.theory.specs.Fast.{always, fits, tests, fewAfter, metAfter, sizeAfter, fast}
 
-need-same : (b : Bool) (w : ℕ) (o p : Option ℕ) → (T b → o ≡ p) → ask b w o ≡ ask b w p
+ask-same : (b : Bool) (w : ℕ) (o p : Option ℕ) → (T b → o ≡ p) → ask b w o ≡ ask b w p
 unfolding ask
-need-same true w o p f = f tt
-need-same false w o p f = refl
+ask-same true w o p f = f tt
+ask-same false w o p f = refl
 
 still-few : (m n : ℕ) → m ≤ n → T (leb n most) → leb m most ≡ true
 still-few m n h t = T-true (leb m most) (le→leb m most (omega (arith, leb→le n most t)))
@@ -60,5 +60,5 @@ module _ (K : Keyed) (refs : K .Rec → List (K .Key)) (P : Printed (K .Rec)) wh
   pub judge-fast : (room : ℕ) (st : List Rec) (c : Change Rec) → Asc K st → T (passes (always K refs P) st) → judge K (tests K refs P room) st c ≡ fast K refs P room st c
   unfolding judge fails fast fits after
   judge-fast room st c a p =
-      need-same (allowed (c .op) (get K (at K c) st)) (codeOf (c .op)) _ _
+      ask-same (allowed (c .op) (get K (at K c) st)) (codeOf (c .op)) _ _
       (λ t. let s = same st (c .op) (c .rec) (get K (at K c) st) a (search bools) (search bools) refl t in rw (s .fewS, s .metS, s .sizeS))

@@ -23,15 +23,22 @@ use writer::room::back_fits;
 use writer::runs::write_back;
 
 // Whether the undo fits `room` bytes.
-fn undo_fits(holding: &[u8], file: &[u8], before: &[u64], n: usize, end: usize, room: usize) -> bool
-    requires { ⌜ Lent (now file) (now before) n end ⌝ }
-    ensures { λ r. ⌜ FitsUndo (now (holding .entry)) (now (file .entry)) (now (before .entry)) n end room r ⌝ }
+fn undo_fits(
+    holding: &[u8],
+    file: &[u8],
+    before: &[u64],
+    count: usize,
+    end: usize,
+    room: usize,
+) -> bool
+    requires { ⌜ Lent (now file) (now before) count end ⌝ }
+    ensures { λ r. ⌜ FitsUndo (now (holding .entry)) (now (file .entry)) (now (before .entry)) count end room r ⌝ }
 {
     let frame = line_end(file, 0) + 2 + (file.len() - end);
     if room < frame {
         return false;
     }
-    back_fits(holding, file, before, n, room - frame)
+    back_fits(holding, file, before, count, room - frame)
 }
 
 // The file's first line, the steps taken back, and what follows the body, each into what is still free of the output.
@@ -41,16 +48,16 @@ fn put_undo(
     file: &[u8],
     steps: &[u64],
     before: &[u64],
-    n: usize,
+    count: usize,
     end: usize,
 ) -> usize
-    requires { ⌜ (n ≤ length (now steps)) × Lent (now file) (now before) n end × (length (undoText (now holding) (now file) (now steps) (now before) n end) ≤ length (now out)) ⌝ }
-    ensures { λ r. ⌜ (r ≡ length (undoText (now (holding .entry)) (now (file .entry)) (now (steps .entry)) (now (before .entry)) n end))
-        × (now (out .exit) ≡ inFront (undoText (now (holding .entry)) (now (file .entry)) (now (steps .entry)) (now (before .entry)) n end) (now (out .entry))) ⌝ }
+    requires { ⌜ (count ≤ length (now steps)) × Lent (now file) (now before) count end × (length (undoText (now holding) (now file) (now steps) (now before) count end) ≤ length (now out)) ⌝ }
+    ensures { λ r. ⌜ (r ≡ length (undoText (now (holding .entry)) (now (file .entry)) (now (steps .entry)) (now (before .entry)) count end))
+        × (now (out .exit) ≡ inFront (undoText (now (holding .entry)) (now (file .entry)) (now (steps .entry)) (now (before .entry)) count end) (now (out .entry))) ⌝ }
 {
     let start = line_end(file, 0) + 2;
     let at = put::bytes(&mut *out, &file[0..start]);
-    let pos = at + write_back(&mut out[at..], holding, file, steps, before, n);
+    let pos = at + write_back(&mut out[at..], holding, file, steps, before, count);
     pos + put::bytes(&mut out[pos..], &file[end..])
 }
 
@@ -61,18 +68,18 @@ fn fill_undo(
     file: &[u8],
     steps: &[u64],
     before: &[u64],
-    n: usize,
+    count: usize,
     end: usize,
 ) -> bool
-    requires { ⌜ (n ≤ length (now steps)) × Lent (now file) (now before) n end ⌝ }
-    ensures { λ r. ⌜ (r ≡ leb (length (undoText (now (holding .entry)) (now (file .entry)) (now (steps .entry)) (now (before .entry)) n end)) (length (now (out .entry))))
-        × (now (out .exit) ≡ pick r (filled (length (now (out .entry))) (undoText (now (holding .entry)) (now (file .entry)) (now (steps .entry)) (now (before .entry)) n end)) (zeros (length (now (out .entry))))) ⌝ }
+    requires { ⌜ (count ≤ length (now steps)) × Lent (now file) (now before) count end ⌝ }
+    ensures { λ r. ⌜ (r ≡ leb (length (undoText (now (holding .entry)) (now (file .entry)) (now (steps .entry)) (now (before .entry)) count end)) (length (now (out .entry))))
+        × (now (out .exit) ≡ pick r (filled (length (now (out .entry))) (undoText (now (holding .entry)) (now (file .entry)) (now (steps .entry)) (now (before .entry)) count end)) (zeros (length (now (out .entry))))) ⌝ }
 {
-    if !undo_fits(holding, file, before, n, end, out.len()) {
+    if !undo_fits(holding, file, before, count, end, out.len()) {
         put::zeros(&mut *out);
         return false;
     }
-    let used = put_undo(&mut *out, holding, file, steps, before, n, end);
+    let used = put_undo(&mut *out, holding, file, steps, before, count, end);
     put::zeros(&mut out[used..]);
     true
 }
@@ -91,9 +98,9 @@ pub fn undo(holding: &[u8], file: &[u8], out: &mut [u8], work: &mut [u8]) -> Ans
     if answer.code != 0 {
         return refuse(&mut *out, answer);
     }
-    let n = loaded.steps;
+    let count = loaded.steps;
     let end = loaded.end;
-    if fill_undo(&mut *out, holding, file, &steps, &before, n, end) {
+    if fill_undo(&mut *out, holding, file, &steps, &before, count, end) {
         return answer;
     }
     refused(17, 0, 0)

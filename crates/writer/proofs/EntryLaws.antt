@@ -1,41 +1,27 @@
 -- The laws of the line of an entry's record.
 use mathlib.Core.Path.{_≡_, _∙_}
 use mathlib.Core.List.{List, []}
-use Prim.Native.Nat.{ℕ, _+_, _-_, _/_, _%_, _≤_, _<_}
+use Prim.Native.Nat.{ℕ, _+_, _-_, _/_, _%_, _≤_}
 use native.Mathlib.Omega.{arith}
 use borrow.Author.Needs.{needs}
 use lib.ListN.{length, getD, take, drop, length-drop}
 use lib.Seq.{take-all}
-use Rattle.base.proofs.Walk.{at-end}
 use Rattle.theory.specs.Step.{Op, inv}
 use Rattle.theory.specs.Decimal.{width}
 use Rattle.meaning.specs.Lines.{identifier, fieldsOf}
 use Rattle.meaning.specs.Table.{Kind, kindOf}
 use Rattle.meaning.specs.Records.{Rec, opOf}
 use Rattle.text.specs.Front.{inFront}
-use Rattle.text.specs.Places.{lineLen, lineEnd, contentStart}
+use Rattle.text.specs.Places.{contentStart}
 use Rattle.text.proofs.FieldLaws.{content-part}
-use Rattle.entries.specs.Entries.{known, recOf, lineAt, entry}
-use Rattle.entries.proofs.EntryLaws.{entry-held, entry-filed}
+use Rattle.entries.specs.Entries.{known, recOf, lineAt, recordOf}
+use Rattle.entries.proofs.EntryLaws.{entry-held, entry-filed, line-past, line-here}
 use Rattle.places.specs.Changes.{opAt}
 use Rattle.writer.specs.Lines.{lineBytes}
 use Rattle.writer.proofs.LineLaws.{length-line}
 
--- ---- the line at an offset
-
--- past the end stands an empty line
-pub line-past : (s : List ℕ) (at : ℕ) → length s < at → [] ≡ lineAt s at
-unfolding lineAt lineLen
-line-past s at l = rw (at-end s at (omega arith))
-
--- else the line runs up to its end
-pub line-here : (s : List ℕ) (at e : ℕ) → e ≡ lineEnd s at → take (e - at) (drop at s) ≡ lineAt s at
-unfolding lineAt
-line-here s at e q =
-    let n : e - at ≡ lineLen (drop at s) = omega arith in
-    rw n
-
-pub ruleset lineat = (needs, line-past, line-here)
+-- the text of the line at an offset
+pub ruleset linetext = (needs, line-past, line-here)
 
 -- ---- the same record
 
@@ -63,11 +49,11 @@ text-room t k c n m o e q h = omega (arith, same-room n m o (record { kind = k; 
 pub ruleset textline = (needs, text-room, same-count, same-done, text-is)
 
 -- an even entry's line stands in the holding
-pub held-is : (h f t : List ℕ) (v : ℕ) → t ≡ lineAt h (v / 2) → v % 2 ≡ 0 → recOf t ≡ entry h f v
+pub held-is : (h f t : List ℕ) (v : ℕ) → t ≡ lineAt h (v / 2) → v % 2 ≡ 0 → recOf t ≡ recordOf h f v
 held-is h f t v q e = rw (q, entry-held h f v e)
 
 -- an odd one's in the file
-pub filed-is : (h f t : List ℕ) (v : ℕ) → t ≡ lineAt f (v / 2) → (v % 2 ≡ 0 → ⊥) → recOf t ≡ entry h f v
+pub filed-is : (h f t : List ℕ) (v : ℕ) → t ≡ lineAt f (v / 2) → (v % 2 ≡ 0 → ⊥) → recOf t ≡ recordOf h f v
 filed-is h f t v q e = rw (q, entry-filed h f v e)
 
 pub ruleset entryline = (needs, same-room, same-count, same-done, held-is, filed-is)

@@ -13,7 +13,7 @@ use lib.Seq.{take-all}
 use Rattle.theory.specs.Step.{Op, inv, Change}
 use Rattle.theory.specs.Decimal.{width}
 use Rattle.meaning.specs.Records.{Rec, changeText, changeTexts, joined}
-use Rattle.entries.specs.Entries.{entry}
+use Rattle.entries.specs.Entries.{recordOf}
 use Rattle.places.specs.Changes.{opAt, stepsBack}
 use Rattle.writer.specs.Lines.{lineBytes}
 use Rattle.writer.specs.Runs.{backTexts, FitsBack}
@@ -34,7 +34,7 @@ back-alike : (h f s t before : List ℕ) (k n : ℕ) → length (joined (changeT
 unfolding stepsBack
 back-alike h f s t before k zero = refl
 back-alike h f s t before k (suc n) =
-    let r : Rec = entry h f (getD before n 0) in
+    let r : Rec = recordOf h f (getD before n 0) in
     let a : Change Rec = record { op = inv (opAt f (getD s n 0)); rec = r } in
     let b : Change Rec = record { op = inv (opAt f (getD t n 0)); rec = r } in
     omega (arith, texts-cons k a (stepsBack h f s before n), texts-cons k b (stepsBack h f t before n), line-alike k (a .op) (b .op) r, back-alike h f s t before (suc k) n)
@@ -57,9 +57,9 @@ module _ (h f before : List ℕ) (n room left i : ℕ) where
   fit-start = record { used = sym (add-zero room) }
 
   module _ (g : Fitting (stepsBack h f [] before n) room left i) where
-    module _ (x : ℕ) (m : i < n) (q : x ≡ 10 + width (i + 1) + length (entry h f (getD before (n - i - 1) 0) .content)) where
+    module _ (x : ℕ) (m : i < n) (q : x ≡ 10 + width (i + 1) + length (recordOf h f (getD before (n - i - 1) 0) .content)) where
       abbrev c : Change Rec
-      c = record { op = inv (opAt f (getD [] (n - i - 1) 0)); rec = entry h f (getD before (n - i - 1) 0) }
+      c = record { op = inv (opAt f (getD [] (n - i - 1) 0)); rec = recordOf h f (getD before (n - i - 1) 0) }
 
       here : drop i (stepsBack h f [] before n) ≡ c ∷ drop (suc i) (stepsBack h f [] before n)
       here = back-next h f [] before n i (n - i - 1) (inv (opAt f (getD [] (n - i - 1) 0))) m refl refl

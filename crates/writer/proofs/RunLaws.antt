@@ -15,7 +15,7 @@ use Rattle.theory.specs.Run.{inserts}
 use Rattle.meaning.specs.Records.{Rec, changeText, changeTexts, joined}
 use Rattle.text.specs.Front.{inFront}
 use Rattle.text.proofs.PutLaws.{front-none, front-then}
-use Rattle.entries.specs.Entries.{entry}
+use Rattle.entries.specs.Entries.{recordOf}
 use Rattle.places.specs.Places.{says}
 use Rattle.places.specs.Changes.{opAt, stepsBack}
 use Rattle.places.proofs.SaysLaws.{length-says, says-at}
@@ -125,7 +125,7 @@ length-inserts (r ∷ st) = ap suc (length-inserts st)
 
 module _ (h f a : List ℕ) (n i : ℕ) (l : n ≤ length a) where
   -- the next line is the record of entry i
-  pub insert-next : i < n → drop i (inserts (says h f a n)) ≡ record { op = ins; rec = entry h f (getD a i 0) } ∷ drop (suc i) (inserts (says h f a n))
+  pub insert-next : i < n → drop i (inserts (says h f a n)) ≡ record { op = ins; rec = recordOf h f (getD a i 0) } ∷ drop (suc i) (inserts (says h f a n))
   insert-next g = drop-inserts i (says h f a n) ∙ rw (says-at h f a n l i g, drop-inserts (suc i) (says h f a n))
 
   -- there are as many as entries
@@ -144,7 +144,7 @@ module _ (h f steps before : List ℕ) where
 
   -- the next line takes back the last step that is left
   pub back-next : (n i k : ℕ) (o : Op) → i < n → k ≡ n - i - 1 → o ≡ inv (opAt f (getD steps k 0))
-      → drop i (stepsBack h f steps before n) ≡ record { op = o; rec = entry h f (getD before k 0) } ∷ drop (suc i) (stepsBack h f steps before n)
+      → drop i (stepsBack h f steps before n) ≡ record { op = o; rec = recordOf h f (getD before k 0) } ∷ drop (suc i) (stepsBack h f steps before n)
   unfolding stepsBack
   back-next n i k o g q u =
       let x : n ≡ i + suc k = omega arith in

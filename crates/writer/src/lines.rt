@@ -44,12 +44,12 @@ fn put_back(out: &mut [u8], content: &[u8]) -> usize
 }
 
 // The whole line, into the front of the output.
-pub fn put_line(out: &mut [u8], kind: Kind, change: Change, n: u64, content: &[u8]) -> usize
-    requires { ⌜ 10 + width n + length (now content) ≤ length (now out) ⌝ }
-    ensures { λ r. ⌜ (r ≡ length (lineBytes n (record { op = changeMeant change; rec = record { kind = kindMeant kind; content = now (content .entry) } })))
-        × (now (out .exit) ≡ inFront (lineBytes n (record { op = changeMeant change; rec = record { kind = kindMeant kind; content = now (content .entry) } })) (now (out .entry))) ⌝ }
+pub fn put_line(out: &mut [u8], kind: Kind, change: Change, number: u64, content: &[u8]) -> usize
+    requires { ⌜ 10 + width number + length (now content) ≤ length (now out) ⌝ }
+    ensures { λ r. ⌜ (r ≡ length (lineBytes number (record { op = changeMeant change; rec = record { kind = kindMeant kind; content = now (content .entry) } })))
+        × (now (out .exit) ≡ inFront (lineBytes number (record { op = changeMeant change; rec = record { kind = kindMeant kind; content = now (content .entry) } })) (now (out .entry))) ⌝ }
 {
     let at = put_front(&mut *out, kind, change);
-    let end = at + put::number(&mut out[at..], n);
+    let end = at + put::number(&mut out[at..], number);
     end + put_back(&mut out[end..], content)
 }

@@ -10,43 +10,57 @@ use crate::entry::put_entry;
 use crate::entry::step_back;
 use volume::lines::Change;
 
-// The records of the first n entries, as inserts.
-pub fn write_holding(out: &mut [u8], h: &[u8], f: &[u8], a: &[u64], n: usize) -> usize
-    requires { ⌜ (n ≤ length (now a)) × (length (written (says (now h) (now f) (now a) n)) ≤ length (now out)) ⌝ }
-    ensures { λ r. ⌜ (r ≡ length (written (says (now (h .entry)) (now (f .entry)) (now (a .entry)) n)))
-        × (now (out .exit) ≡ inFront (written (says (now (h .entry)) (now (f .entry)) (now (a .entry)) n)) (now (out .entry))) ⌝ }
+// The records of the first `count` entries, as inserts.
+pub fn write_holding(
+    out: &mut [u8],
+    holding: &[u8],
+    file: &[u8],
+    places: &[u64],
+    count: usize,
+) -> usize
+    requires { ⌜ (count ≤ length (now places)) × (length (written (says (now holding) (now file) (now places) count)) ≤ length (now out)) ⌝ }
+    ensures { λ r. ⌜ (r ≡ length (written (says (now (holding .entry)) (now (file .entry)) (now (places .entry)) count)))
+        × (now (out .exit) ≡ inFront (written (says (now (holding .entry)) (now (file .entry)) (now (places .entry)) count)) (now (out .entry))) ⌝ }
 {
     let mut pos = 0;
     let mut i = 0;
-    while i < n {
-        pos += put_entry(&mut out[pos..], h, f, a[i], Change::Insert, (i + 1) as u64);
+    while i < count {
+        pos += put_entry(
+            &mut out[pos..],
+            holding,
+            file,
+            places[i],
+            Change::Insert,
+            (i + 1) as u64,
+        );
         i += 1;
     }
     pos
 }
 
-// The first n steps taken back, the last first: `steps` has their own entries, `before` what stood at their keys, or their own where nothing did.
+// The first `count` steps taken back, the last first: `steps` has their own entries, `before` what stood at their keys, or their own
+// where nothing did.
 pub fn write_back(
     out: &mut [u8],
-    h: &[u8],
-    f: &[u8],
+    holding: &[u8],
+    file: &[u8],
     steps: &[u64],
     before: &[u64],
-    n: usize,
+    count: usize,
 ) -> usize
-    requires { ⌜ (n ≤ length (now steps)) × (n ≤ length (now before)) × (length (backTexts (now h) (now f) (now steps) (now before) n) ≤ length (now out)) ⌝ }
-    ensures { λ r. ⌜ (r ≡ length (backTexts (now (h .entry)) (now (f .entry)) (now (steps .entry)) (now (before .entry)) n))
-        × (now (out .exit) ≡ inFront (backTexts (now (h .entry)) (now (f .entry)) (now (steps .entry)) (now (before .entry)) n) (now (out .entry))) ⌝ }
+    requires { ⌜ (count ≤ length (now steps)) × (count ≤ length (now before)) × (length (backTexts (now holding) (now file) (now steps) (now before) count) ≤ length (now out)) ⌝ }
+    ensures { λ r. ⌜ (r ≡ length (backTexts (now (holding .entry)) (now (file .entry)) (now (steps .entry)) (now (before .entry)) count))
+        × (now (out .exit) ≡ inFront (backTexts (now (holding .entry)) (now (file .entry)) (now (steps .entry)) (now (before .entry)) count) (now (out .entry))) ⌝ }
 {
     let mut pos = 0;
     let mut done = 0;
-    while done < n {
-        let last = n - done - 1;
-        let change = step_back(f, steps[last]);
+    while done < count {
+        let last = count - done - 1;
+        let change = step_back(file, steps[last]);
         pos += put_entry(
             &mut out[pos..],
-            h,
-            f,
+            holding,
+            file,
             before[last],
             change,
             (done + 1) as u64,

@@ -1,4 +1,4 @@
--- `steps::judge::find` meets its contract.
+-- `judge::find` meets its contract.
 use Rattle.judge.proofs.FindLaws.{finding}
 use Rattle.judge.proofs.find.Statement.{statement}
 use Rattle.judge.proofs.find.Tie as tie

@@ -1,4 +1,4 @@
--- `steps::judge::judge_delete` meets its contract.
+-- `judge::judge_delete` meets its contract.
 use Rattle.judge.proofs.JudgeLaws.{place-in, deleting}
 use borrow.Author.Tests.{not-false}
 use borrow.Author.Needs.{needs}

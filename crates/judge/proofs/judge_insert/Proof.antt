@@ -1,4 +1,4 @@
--- `steps::judge::judge_insert` meets its contract.
+-- `judge::judge_insert` meets its contract.
 use Rattle.judge.proofs.JudgeLaws.{inserting}
 use Rattle.judge.proofs.judge_insert.Statement.{statement}
 use Rattle.judge.proofs.judge_insert.Tie as tie

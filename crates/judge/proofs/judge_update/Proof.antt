@@ -1,4 +1,4 @@
--- `steps::judge::judge_update` meets its contract.
+-- `judge::judge_update` meets its contract.
 use Rattle.judge.proofs.JudgeLaws.{updating}
 use Rattle.judge.proofs.judge_update.Statement.{statement}
 use Rattle.judge.proofs.judge_update.Tie as tie

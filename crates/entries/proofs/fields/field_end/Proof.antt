@@ -1,4 +1,4 @@
--- `places::fields::field_end` meets its contract.
+-- `entries::fields::field_end` meets its contract.
 use Rattle.entries.proofs.FieldLaws.{within, endIn, end-ends, end-other}
 use borrow.Author.Needs.{needs}
 use mathlib.Core.Path.{_≡_}
@@ -14,8 +14,8 @@ pub field-end-spec : {M : Type 1} → statement M
 field-end-spec =
     tie.close
     (tie.spec
-    (λ s at quoted₀ i₀ quoted i. (endIn s quoted i ≡ at + fieldLen false (lineAt s at)) × (at ≤ i) × (i ≤ length s))
-    (λ s at quoted₀ i₀ quoted i. length s - i)
+    (λ bytes at quoted₀ i₀ quoted i. (endIn bytes quoted i ≡ at + fieldLen false (lineAt bytes at)) × (at ≤ i) × (i ≤ length bytes))
+    (λ bytes at quoted₀ i₀ quoted i. length bytes - i)
     (λ c. search within)  -- loop-holds
     (λ c. search within)  -- shared-slice-read-b
     (λ c. search within)  -- add-i

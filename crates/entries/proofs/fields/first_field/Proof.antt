@@ -1,4 +1,4 @@
--- `places::fields::first_field` meets its contract.
+-- `entries::fields::first_field` meets its contract.
 use Rattle.entries.proofs.FieldLaws.{fielding}
 use Rattle.entries.proofs.fields.first_field.Statement.{statement}
 use Rattle.entries.proofs.fields.first_field.Tie as tie

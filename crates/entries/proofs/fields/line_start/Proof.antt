@@ -1,4 +1,4 @@
--- `places::fields::line_start` meets its contract.
+-- `entries::fields::line_start` meets its contract.
 use Rattle.entries.proofs.FieldLaws.{starts}
 use Rattle.entries.proofs.fields.line_start.Statement.{statement}
 use Rattle.entries.proofs.fields.line_start.Tie as tie

@@ -1,4 +1,4 @@
--- `places::fields::past_fields` meets its contract.
+-- `entries::fields::past_fields` meets its contract.
 use Rattle.entries.proofs.FieldLaws.{pasts, afterIn, after-ends, after-other}
 use borrow.Author.Needs.{needs}
 use mathlib.Core.Path.{_≡_}
@@ -13,8 +13,8 @@ pub past-fields-spec : {M : Type 1} → statement M
 past-fields-spec =
     tie.close
     (tie.spec
-    (λ s at n quoted₀ left₀ i₀ quoted left i. (afterIn s quoted left i ≡ afterFields n (lineAt s at)) × (0 < left) × (i ≤ length s))
-    (λ s at n quoted₀ left₀ i₀ quoted left i. length s - i)
+    (λ bytes at count quoted₀ left₀ i₀ quoted left i. (afterIn bytes quoted left i ≡ afterFields count (lineAt bytes at)) × (0 < left) × (i ≤ length bytes))
+    (λ bytes at count quoted₀ left₀ i₀ quoted left i. length bytes - i)
     (λ c. search pasts)  -- returns
     (λ c. search pasts)  -- loop-holds
     (λ c. search pasts)  -- shared-slice-read-b

@@ -1,4 +1,4 @@
--- `places::heads::content_at` meets its contract.
+-- `entries::heads::content_at` meets its contract.
 use Rattle.entries.proofs.HeadLaws.{heading}
 use Rattle.entries.proofs.heads.content_at.Statement.{statement}
 use Rattle.entries.proofs.heads.content_at.Tie as tie

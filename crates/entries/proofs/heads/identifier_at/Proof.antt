@@ -1,4 +1,4 @@
--- `places::heads::identifier_at` meets its contract.
+-- `entries::heads::identifier_at` meets its contract.
 use Rattle.entries.proofs.HeadLaws.{pairing}
 use Rattle.entries.proofs.heads.identifier_at.Statement.{statement}
 use Rattle.entries.proofs.heads.identifier_at.Tie as tie

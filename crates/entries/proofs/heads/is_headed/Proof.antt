@@ -1,4 +1,4 @@
--- `places::heads::is_headed` meets its contract.
+-- `entries::heads::is_headed` meets its contract.
 use Rattle.entries.proofs.HeadLaws.{headings}
 use Rattle.entries.proofs.heads.is_headed.Statement.{statement}
 use Rattle.entries.proofs.heads.is_headed.Tie as tie

@@ -1,4 +1,4 @@
--- `places::heads::is_lettered` meets its contract.
+-- `entries::heads::is_lettered` meets its contract.
 use Rattle.base.proofs.Answers.{tests}
 use Rattle.entries.specs.Fields.{lettered}
 use Rattle.entries.proofs.heads.is_lettered.Statement.{statement}

@@ -1,4 +1,4 @@
--- `places::heads::is_paired` meets its contract.
+-- `entries::heads::is_paired` meets its contract.
 use Rattle.base.proofs.Answers.{tests}
 use Rattle.entries.specs.Fields.{paired}
 use Rattle.entries.proofs.heads.is_paired.Statement.{statement}

@@ -1,4 +1,4 @@
--- `places::heads::kind_at` meets its contract.
+-- `entries::heads::kind_at` meets its contract.
 use Rattle.entries.proofs.HeadLaws.{kinding}
 use Rattle.entries.proofs.heads.kind_at.Statement.{statement}
 use Rattle.entries.proofs.heads.kind_at.Tie as tie

@@ -1,4 +1,4 @@
--- `places::entries::against` meets its contract.
+-- `entries::key::against` meets its contract.
 use Rattle.entries.proofs.EntryLaws.{keyagainst}
 use Rattle.entries.proofs.key.against.Statement.{statement}
 use Rattle.entries.proofs.key.against.Tie as tie

@@ -1,4 +1,4 @@
--- `places::entries::against_at` meets its contract.
+-- `entries::key::against_at` meets its contract.
 use Rattle.entries.proofs.EntryLaws.{atorder}
 use Rattle.entries.proofs.key.against_at.Statement.{statement}
 use Rattle.entries.proofs.key.against_at.Tie as tie

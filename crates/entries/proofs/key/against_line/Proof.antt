@@ -1,4 +1,4 @@
--- `places::entries::against_line` meets its contract.
+-- `entries::key::against_line` meets its contract.
 use Rattle.entries.proofs.EntryLaws.{lineorder}
 use Rattle.entries.proofs.key.against_line.Statement.{statement}
 use Rattle.entries.proofs.key.against_line.Tie as tie

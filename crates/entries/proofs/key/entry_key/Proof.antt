@@ -1,4 +1,4 @@
--- `places::entries::entry_key` meets its contract.
+-- `entries::key::entry_key` meets its contract.
 use Rattle.entries.proofs.EntryLaws.{entrykey}
 use Rattle.entries.proofs.key.entry_key.Statement.{statement}
 use Rattle.entries.proofs.key.entry_key.Tie as tie

@@ -1,4 +1,4 @@
--- `places::entries::key_at` meets its contract.
+-- `entries::key::key_at` meets its contract.
 use Rattle.keys.proofs.RowLaws.{keyed}
 use Rattle.entries.proofs.key.key_at.Statement.{statement}
 use Rattle.entries.proofs.key.key_at.Tie as tie

@@ -1,4 +1,4 @@
--- `places::entries::line_kind` meets its contract.
+-- `entries::key::line_kind` meets its contract.
 use Rattle.entries.proofs.EntryLaws.{kinds}
 use Rattle.entries.proofs.key.line_kind.Statement.{statement}
 use Rattle.entries.proofs.key.line_kind.Tie as tie

@@ -1,4 +1,4 @@
--- `places::entries::record_key` meets its contract.
+-- `entries::key::record_key` meets its contract.
 use Rattle.entries.proofs.EntryLaws.{recordkey}
 use Rattle.entries.proofs.key.record_key.Statement.{statement}
 use Rattle.entries.proofs.key.record_key.Tie as tie

@@ -1,4 +1,4 @@
--- `places::entries::rest_against` meets its contract.
+-- `entries::key::rest_against` meets its contract.
 use Rattle.entries.proofs.EntryLaws.{restorder}
 use Rattle.entries.proofs.key.rest_against.Statement.{statement}
 use Rattle.entries.proofs.key.rest_against.Tie as tie

@@ -1,4 +1,4 @@
--- `steps::lengths::entry_length` meets its contract.
+-- `entries::lengths::entry_length` meets its contract.
 use Rattle.entries.proofs.LengthLaws.{longentry}
 use Rattle.entries.proofs.lengths.entry_length.Statement.{statement}
 use Rattle.entries.proofs.lengths.entry_length.Tie as tie

@@ -1,4 +1,4 @@
--- `steps::lengths::line_length` meets its contract.
+-- `entries::lengths::line_length` meets its contract.
 use Rattle.entries.proofs.LengthLaws.{longline}
 use Rattle.entries.proofs.lengths.line_length.Statement.{statement}
 use Rattle.entries.proofs.lengths.line_length.Tie as tie

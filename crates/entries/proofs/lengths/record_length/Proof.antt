@@ -1,4 +1,4 @@
--- `steps::lengths::record_length` meets its contract.
+-- `entries::lengths::record_length` meets its contract.
 use Rattle.entries.proofs.LengthLaws.{longrecord}
 use Rattle.entries.proofs.lengths.record_length.Statement.{statement}
 use Rattle.entries.proofs.lengths.record_length.Tie as tie

@@ -1,4 +1,4 @@
--- `places::numbers::first_number` meets its contract.
+-- `entries::numbers::first_number` meets its contract.
 use Rattle.entries.proofs.NumberLaws.{firsts}
 use Rattle.entries.proofs.numbers.first_number.Statement.{statement}
 use Rattle.entries.proofs.numbers.first_number.Tie as tie

@@ -1,4 +1,4 @@
--- `places::numbers::number_at` meets its contract.
+-- `entries::numbers::number_at` meets its contract.
 use Rattle.entries.proofs.NumberLaws.{placing}
 use Rattle.entries.proofs.numbers.number_at.Statement.{statement}
 use Rattle.entries.proofs.numbers.number_at.Tie as tie

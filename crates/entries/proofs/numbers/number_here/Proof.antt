@@ -1,4 +1,4 @@
--- `places::numbers::number_here` meets its contract.
+-- `entries::numbers::number_here` meets its contract.
 use Rattle.entries.proofs.NumberLaws.{numbering}
 use Rattle.entries.proofs.numbers.number_here.Statement.{statement}
 use Rattle.entries.proofs.numbers.number_here.Tie as tie

@@ -1,4 +1,4 @@
--- `places::numbers::room` meets its contract.
+-- `entries::numbers::room` meets its contract.
 use Rattle.entries.proofs.NumberLaws.{rooms}
 use Rattle.entries.proofs.numbers.room.Statement.{statement}
 use Rattle.entries.proofs.numbers.room.Tie as tie

@@ -1,4 +1,4 @@
--- `places::numbers::value_at` meets its contract.
+-- `entries::numbers::value_at` meets its contract.
 use Rattle.entries.proofs.NumberLaws.{valuing, leftOf}
 use mathlib.Core.Path.{_≡_}
 use Prim.Native.Nat.{_+_, _-_, _*_, _^_, _≤_}
@@ -13,8 +13,8 @@ pub value-at-spec : {M : Type 1} → statement M
 value-at-spec =
     tie.close
     (tie.spec
-    (λ s at most v₀ k₀ v k. (valueF v (leftOf s at k) ≡ value (take 16 (firstField (lineAt s at)))) × (v + 23 ≤ 23 * 10 ^ k) × (k ≤ most))
-    (λ s at most v₀ k₀ v k. most - k)
+    (λ bytes at most v₀ i₀ v i. (valueF v (leftOf bytes at i) ≡ value (take 16 (firstField (lineAt bytes at)))) × (v + 23 ≤ 23 * 10 ^ i) × (i ≤ most))
+    (λ bytes at most v₀ i₀ v i. most - i)
     (λ c κs. search valuing)  -- room-requires
     (λ c. search valuing)  -- loop-holds
     (λ c. search valuing)  -- add-b
@@ -23,10 +23,10 @@ value-at-spec =
     (λ c κs. search valuing)  -- first-field-requires
     (λ c κs. search valuing)  -- plain-number-requires
     (λ c. search valuing)  -- returns-2
-    (λ c. search valuing)  -- mul-v
+    (λ c. search valuing)  -- mul-value
     (λ c κs. search valuing)  -- digit-above-requires
-    (λ c. search valuing)  -- add-v
-    (λ c. search valuing)  -- add-k
+    (λ c. search valuing)  -- add-value
+    (λ c. search valuing)  -- add-i
     (λ c. search valuing)  -- loop-less
     (λ c. search valuing)  -- loop-again
     (λ c. search valuing))  -- returns-3

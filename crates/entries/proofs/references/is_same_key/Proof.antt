@@ -1,4 +1,4 @@
--- `places::references::is_same_key` meets its contract.
+-- `entries::references::is_same_key` meets its contract.
 use Rattle.entries.proofs.ReferenceLaws.{samekey}
 use Rattle.entries.proofs.references.is_same_key.Statement.{statement}
 use Rattle.entries.proofs.references.is_same_key.Tie as tie

@@ -1,4 +1,4 @@
--- `places::references::reference_at` meets its contract.
+-- `entries::references::reference_at` meets its contract.
 use Rattle.entries.proofs.ReferenceLaws.{rowat}
 use Rattle.entries.proofs.references.reference_at.Statement.{statement}
 use Rattle.entries.proofs.references.reference_at.Tie as tie

@@ -1,4 +1,4 @@
--- `places::references::reference_by` meets its contract.
+-- `entries::references::reference_by` meets its contract.
 use Rattle.entries.proofs.ReferenceLaws.{byfield}
 use Rattle.entries.proofs.references.reference_by.Statement.{statement}
 use Rattle.entries.proofs.references.reference_by.Tie as tie

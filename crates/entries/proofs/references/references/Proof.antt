@@ -1,4 +1,4 @@
--- `places::references::references` meets its contract.
+-- `entries::references::references` meets its contract.
 use Rattle.entries.proofs.ReferenceLaws.{entryrefers}
 use Rattle.entries.proofs.references.references.Statement.{statement}
 use Rattle.entries.proofs.references.references.Tie as tie

@@ -1,4 +1,4 @@
--- `places::references::references_at` meets its contract.
+-- `entries::references::references_at` meets its contract.
 use Rattle.entries.proofs.ReferenceLaws.{atrefers}
 use Rattle.entries.proofs.references.references_at.Statement.{statement}
 use Rattle.entries.proofs.references.references_at.Tie as tie

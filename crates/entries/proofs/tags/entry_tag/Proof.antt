@@ -1,4 +1,4 @@
--- `places::tags::entry_tag` meets its contract.
+-- `entries::tags::entry_tag` meets its contract.
 use Rattle.entries.proofs.TagLaws.{entrytag}
 use Rattle.entries.proofs.tags.entry_tag.Statement.{statement}
 use Rattle.entries.proofs.tags.entry_tag.Tie as tie

@@ -1,4 +1,4 @@
--- `places::tags::looseness` meets its contract.
+-- `entries::tags::looseness` meets its contract.
 use Rattle.entries.proofs.TagLaws.{loosely}
 use Rattle.entries.proofs.tags.looseness.Statement.{statement}
 use Rattle.entries.proofs.tags.looseness.Tie as tie

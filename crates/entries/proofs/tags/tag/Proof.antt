@@ -1,4 +1,4 @@
--- `places::tags::tag` meets its contract.
+-- `entries::tags::tag` meets its contract.
 use Rattle.entries.proofs.TagLaws.{tagging}
 use Rattle.entries.proofs.tags.tag.Statement.{statement}
 use Rattle.entries.proofs.tags.tag.Tie as tie

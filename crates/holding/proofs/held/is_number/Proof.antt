@@ -13,6 +13,6 @@ is-number-spec =
     (λ c κs. search numbers)  -- number-requires
     (λ c. search numbers)  -- sub-is-same
     (λ c. search numbers)  -- part-is-same-start
-    (λ c. let w = width-most _ (c .before .before .before .before .before .fits .n) in search needs)  -- part-is-same-end
+    (λ c. let w = width-most _ (c .before .before .before .before .before .fits .number) in search needs)  -- part-is-same-end
     (λ c κs. search numbers)  -- is-same-requires
     (λ c. search numbers))  -- returns

@@ -11,8 +11,8 @@ pub clear-spec : {M : Type 1} → statement M
 clear-spec =
     tie.close
     (tie.spec
-    (λ counts₀ n i₀ counts i. (take i counts ≡ zeros i) × (i ≤ n) × (length counts ≡ length counts₀))
-    (λ counts₀ n i₀ counts i. n - i)
+    (λ counts₀ count i₀ counts i. (take i counts ≡ zeros i) × (i ≤ count) × (length counts ≡ length counts₀))
+    (λ counts₀ count i₀ counts i. count - i)
     (λ c. search clearing)  -- loop-holds
     (λ c. search clearing)  -- mul-counts
     (λ c. search clearing)  -- slice-write-counts

@@ -10,8 +10,8 @@ pub close-spec : {M : Type 1} → statement M
 close-spec =
     tie.close
     (tie.spec
-    (λ counts₀ n i j₀ counts j. Closing counts₀ counts i j × (i + 1 ≤ j) × (j ≤ n) × (length counts ≡ length counts₀))
-    (λ counts₀ n i j₀ counts j. n - j)
+    (λ counts₀ count i j₀ counts j. Closing counts₀ counts i j × (i + 1 ≤ j) × (j ≤ count) × (length counts ≡ length counts₀))
+    (λ counts₀ count i j₀ counts j. count - j)
     (λ c. search closing)  -- add-j
     (λ c. search closing)  -- loop-holds
     (λ c. search closing)  -- mul-counts

@@ -15,8 +15,8 @@ note-one-spec =
     (λ c κs. search noteone)  -- place-requires
     (λ c κs. search noteone)  -- stands-requires
     (λ c. search noteone)  -- returns-3
-    (λ c. search noteone)  -- mul-count
-    (λ c. search noteone)  -- slice-read-count
+    (λ c. search noteone)  -- mul-old
+    (λ c. search noteone)  -- slice-read-old
     (λ c κs. search noteone)  -- moved-requires
     (λ c. search noteone)  -- mul-counts
     (λ c. search noteone)  -- slice-write-counts

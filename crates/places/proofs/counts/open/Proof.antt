@@ -10,8 +10,8 @@ pub open-spec : {M : Type 1} → statement M
 open-spec =
     tie.close
     (tie.spec
-    (λ counts₀ n i v first j₀ counts j. Opening counts₀ counts n j × (i ≤ j) × (j ≤ n) × (length counts ≡ length counts₀))
-    (λ counts₀ n i v first j₀ counts j. j)
+    (λ counts₀ count i value first j₀ counts j. Opening counts₀ counts count j × (i ≤ j) × (j ≤ count) × (length counts ≡ length counts₀))
+    (λ counts₀ count i value first j₀ counts j. j)
     (λ c. search opening)  -- add-first
     (λ c. search opening)  -- loop-holds
     (λ c. search opening)  -- sub-counts

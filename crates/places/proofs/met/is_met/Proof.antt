@@ -1,4 +1,4 @@
--- `places::references::is_met` meets its contract.
+-- `places::met::is_met` meets its contract.
 use Rattle.places.proofs.MetLaws.{onemet}
 use Rattle.places.proofs.met.is_met.Statement.{statement}
 use Rattle.places.proofs.met.is_met.Tie as tie

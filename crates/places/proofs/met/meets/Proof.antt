@@ -1,4 +1,4 @@
--- `places::references::meets` meets its contract.
+-- `places::met::meets` meets its contract.
 use Rattle.places.proofs.MetLaws.{entrymet}
 use Rattle.places.proofs.met.meets.Statement.{statement}
 use Rattle.places.proofs.met.meets.Tie as tie

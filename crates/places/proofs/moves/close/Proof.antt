@@ -10,15 +10,15 @@ pub close-spec : {M : Type 1} → statement M
 close-spec =
     tie.close
     (tie.spec
-    (λ a₀ n i j₀ a j. Closing a₀ a i j × (i + 1 ≤ j) × (j ≤ n) × (length a ≡ length a₀))
-    (λ a₀ n i j₀ a j. n - j)
+    (λ array₀ count i j₀ array j. Closing array₀ array i j × (i + 1 ≤ j) × (j ≤ count) × (length array ≡ length array₀))
+    (λ array₀ count i j₀ array j. count - j)
     (λ c. search closing)  -- add-j
     (λ c. search closing)  -- loop-holds
-    (λ c. search closing)  -- mul-a
-    (λ c. search closing)  -- slice-read-a
-    (λ c. search closing)  -- sub-a
-    (λ c. search closing)  -- mul-a-2
-    (λ c. search closing)  -- slice-write-a
+    (λ c. search closing)  -- mul-array
+    (λ c. search closing)  -- slice-read-array
+    (λ c. search closing)  -- sub-array
+    (λ c. search closing)  -- mul-array-2
+    (λ c. search closing)  -- slice-write-array
     (λ c. search closing)  -- add-j-2
     (λ c. search closing)  -- loop-less
     (λ c. search closing)  -- loop-again

@@ -9,8 +9,8 @@ pub place-spec : {M : Type 1} → statement M
 place-spec =
     tie.close
     (tie.spec
-    (λ h f a tags n k ours low₀ high₀ low high. Placing h f a n (keyList k) low high)
-    (λ h f a tags n k ours low₀ high₀ low high. high - low)
+    (λ holding file places tags count key ours low₀ high₀ low high. Placing holding file places count (keyList key) low high)
+    (λ holding file places tags count key ours low₀ high₀ low high. high - low)
     (λ c κs. search placing)  -- tag-requires
     (λ c. search placing)  -- loop-holds
     (λ c. search placing)  -- sub-mid

@@ -7,8 +7,8 @@ pub step-spec : {M : Type 1} → statement M
 step-spec =
     tie.close
     (tie.spec
-    (λ c. search stepping)  -- mul-v
-    (λ c. search stepping)  -- add-v
+    (λ c. search stepping)  -- mul-entry
+    (λ c. search stepping)  -- add-entry
     (λ c. search stepping)  -- enum-told
     (λ c κs. search stepping)  -- unchanged-requires
     (λ c. search stepping)  -- returns

@@ -14,8 +14,8 @@ update-spec =
     (λ c. search updated)  -- mul-before
     (λ c. let i = upd-in _ _ _ _ _ _ (c .before .before .before .before .before .before .before .before .before .pre .0) (c .before .before .before .before .before .before .before .before .before .pre .2) _ (c .before .before .judge-update .ensures) (c .before .if1 .left) in search (needs, i))  -- slice-read-before
     (λ c κs. upd-asked _ _ _ _ _ _ (c .before .before .before .before .before .before .before .before .before .before .before .pre .0) (c .before .before .before .before .before .before .before .before .before .before .before .pre .2) _ (c .before .before .before .before .judge-update .ensures) (c .before .before .before .if1 .left) _ (c .before .before .before .before .before .before .before .before .before .before .before .pre .1) _ (c .before .before .before .before .before .before .before .before .before .before .before .pre .3))  -- note-requires
-    (λ c. search updated)  -- mul-a
-    (λ c. let i = upd-in _ _ _ _ _ _ (c .before .before .before .before .before .before .before .before .before .before .before .before .before .before .pre .0) (c .before .before .before .before .before .before .before .before .before .before .before .before .before .before .pre .2) _ (c .before .before .before .before .before .before .before .judge-update .ensures) (c .before .before .before .before .before .before .if1 .left) in search (needs, i))  -- slice-write-a
+    (λ c. search updated)  -- mul-places
+    (λ c. let i = upd-in _ _ _ _ _ _ (c .before .before .before .before .before .before .before .before .before .before .before .before .before .before .pre .0) (c .before .before .before .before .before .before .before .before .before .before .before .before .before .before .pre .2) _ (c .before .before .before .before .before .before .before .judge-update .ensures) (c .before .before .before .before .before .before .if1 .left) in search (needs, i))  -- slice-write-places
     (λ c κs. upd-asked-new _ _ _ _ _ _ (c .before .before .before .before .before .before .before .before .before .before .before .before .before .before .before .before .pre .0) (c .before .before .before .before .before .before .before .before .before .before .before .before .before .before .before .before .pre .2) _ (c .before .before .before .before .before .before .before .before .before .judge-update .ensures) (c .before .before .before .before .before .before .before .before .if1 .left) _ (c .before .before .before .before .before .before .before .before .before .before .before .before .before .before .before .before .pre .1) _ (c .before .before .before .before .before .before .before .before .before .before .before .before .before .before .before .before .pre .3) _ _ (c .before .before .before .before .note .ensures))  -- note-requires-2
     (λ c. search updated)  -- same-length-2
     (λ c. search updated)  -- same-length-3

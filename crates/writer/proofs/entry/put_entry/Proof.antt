@@ -1,4 +1,4 @@
--- `writer::entries::put_entry` meets its contract.
+-- `writer::entry::put_entry` meets its contract.
 use Rattle.writer.proofs.EntryLaws.{entryline}
 use Rattle.writer.proofs.entry.put_entry.Statement.{statement}
 use Rattle.writer.proofs.entry.put_entry.Tie as tie
@@ -7,11 +7,11 @@ pub put-entry-spec : {M : Type 1} → statement M
 put-entry-spec =
     tie.close
     (tie.spec
-    (λ c κs. search entryline)  -- line-at-requires
+    (λ c κs. search entryline)  -- line-text-requires
     (λ c κs. search entryline)  -- put-text-requires
     (λ c. search entryline)  -- same-length
     (λ c. search entryline)  -- returns
-    (λ c κs. search entryline)  -- line-at-requires-2
+    (λ c κs. search entryline)  -- line-text-requires-2
     (λ c κs. search entryline)  -- put-text-requires-2
     (λ c. search entryline)  -- same-length-2
     (λ c. search entryline))  -- returns-2

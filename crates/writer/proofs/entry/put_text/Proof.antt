@@ -1,4 +1,4 @@
--- `writer::entries::put_text` meets its contract.
+-- `writer::entry::put_text` meets its contract.
 use Rattle.writer.proofs.EntryLaws.{textline}
 use Rattle.writer.proofs.entry.put_text.Statement.{statement}
 use Rattle.writer.proofs.entry.put_text.Tie as tie

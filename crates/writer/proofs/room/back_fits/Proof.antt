@@ -10,8 +10,8 @@ pub back-fits-spec : {M : Type 1} → statement M
 back-fits-spec =
     tie.close
     (tie.spec
-    (λ h f before n room left₀ done₀ left done. Fitting (stepsBack h f [] before n) room left done × (done ≤ n))
-    (λ h f before n room left₀ done₀ left done. n - done)
+    (λ holding file before count room left₀ done₀ left done. Fitting (stepsBack holding file [] before count) room left done × (done ≤ count))
+    (λ holding file before count room left₀ done₀ left done. count - done)
     (λ c. search fitting)  -- loop-holds
     (λ c. search fitting)  -- sub-last
     (λ c. search fitting)  -- sub-last-2

@@ -13,8 +13,8 @@ unfolding backTexts
 write-back-spec =
     tie.close
     (tie.spec
-    (λ out₀ h f steps before n pos₀ done₀ out pos done. Writing (stepsBack h f steps before n) out₀ out pos done × (done ≤ n))
-    (λ out₀ h f steps before n pos₀ done₀ out pos done. n - done)
+    (λ out₀ holding file steps before count pos₀ done₀ out pos done. Writing (stepsBack holding file steps before count) out₀ out pos done × (done ≤ count))
+    (λ out₀ holding file steps before count pos₀ done₀ out pos done. count - done)
     (λ c. search backwards)  -- loop-holds
     (λ c. search backwards)  -- sub-last
     (λ c. search backwards)  -- sub-last-2

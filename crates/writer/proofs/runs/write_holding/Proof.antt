@@ -13,8 +13,8 @@ unfolding written
 write-holding-spec =
     tie.close
     (tie.spec
-    (λ out₀ h f a n pos₀ i₀ out pos i. Writing (inserts (says h f a n)) out₀ out pos i × (i ≤ n))
-    (λ out₀ h f a n pos₀ i₀ out pos i. n - i)
+    (λ out₀ holding file places count pos₀ i₀ out pos i. Writing (inserts (says holding file places count)) out₀ out pos i × (i ≤ count))
+    (λ out₀ holding file places count pos₀ i₀ out pos i. count - i)
     (λ c. search holding)  -- loop-holds
     (λ c. search holding)  -- sub-put-entry
     (λ c. search holding)  -- part-put-entry-start
