@@ -49,7 +49,8 @@ fn print_load(holding: &[u8], change: &[u8], printed: &mut [u8]) -> usize
     at + put::bytes(&mut printed[at..], &out[0..size])
 }
 
-// What the program prints, into the front of a buffer that any of it fits: `held` and `sent` tell whether the holding and the change could be read.
+// What the program prints, into the front of a buffer that any of it fits: `held` and `sent` tell whether the holding and the change
+// could be read.
 pub fn print(
     held: bool,
     holding: &[u8],

@@ -93,17 +93,8 @@ fn update(
         };
     }
     let count = state.count;
-    let before = places[i];
-    note(
-        holding,
-        file,
-        places,
-        tags,
-        &mut *counts,
-        count,
-        before,
-        false,
-    );
+    let old = places[i];
+    note(holding, file, places, tags, &mut *counts, count, old, false);
     places[i] = entry;
     note(
         holding,
@@ -118,7 +109,7 @@ fn update(
     Stepped {
         code: 0,
         state: State { count, size },
-        before,
+        before: old,
     }
 }
 

@@ -11,8 +11,8 @@ update-spec =
     (λ c κs. search updated)  -- judge-update-requires
     (λ c. search updated)  -- same-length
     (λ c. search updated)  -- returns
-    (λ c. search updated)  -- mul-before
-    (λ c. let i = upd-in _ _ _ _ _ _ (c .before .before .before .before .before .before .before .before .before .pre .0) (c .before .before .before .before .before .before .before .before .before .pre .2) _ (c .before .before .judge-update .ensures) (c .before .if1 .left) in search (needs, i))  -- slice-read-before
+    (λ c. search updated)  -- mul-old
+    (λ c. let i = upd-in _ _ _ _ _ _ (c .before .before .before .before .before .before .before .before .before .pre .0) (c .before .before .before .before .before .before .before .before .before .pre .2) _ (c .before .before .judge-update .ensures) (c .before .if1 .left) in search (needs, i))  -- slice-read-old
     (λ c κs. upd-asked _ _ _ _ _ _ (c .before .before .before .before .before .before .before .before .before .before .before .pre .0) (c .before .before .before .before .before .before .before .before .before .before .before .pre .2) _ (c .before .before .before .before .judge-update .ensures) (c .before .before .before .if1 .left) _ (c .before .before .before .before .before .before .before .before .before .before .before .pre .1) _ (c .before .before .before .before .before .before .before .before .before .before .before .pre .3))  -- note-requires
     (λ c. search updated)  -- mul-places
     (λ c. let i = upd-in _ _ _ _ _ _ (c .before .before .before .before .before .before .before .before .before .before .before .before .before .before .pre .0) (c .before .before .before .before .before .before .before .before .before .before .before .before .before .before .pre .2) _ (c .before .before .before .before .before .before .before .judge-update .ensures) (c .before .before .before .before .before .before .if1 .left) in search (needs, i))  -- slice-write-places
