@@ -108,23 +108,17 @@ fn started(command: &[String]) -> (Child, ChildStdin, BufReader<ChildStdout>) {
     (child, to.expect("a pipe"), BufReader::new(from.expect("a pipe")))
 }
 
-fn main() {
-    let arguments: Vec<String> = std::env::args().skip(1).collect();
-    let number = |at: usize| arguments.get(at).and_then(|text| text.parse().ok());
-    let (Some(cases), Some(seed), Some(first), true) = (number(0), number(1), number(2), arguments.len() > 3) else {
-        eprintln!("differential CASES SEED FIRST COMMAND...");
-        exit(2);
-    };
-    let plan = Plan { cases, seed, first };
-    let (mut child, to, mut from) = started(&arguments[3..]);
+/// One driver's share of the cases: how often each operation answered each code.
+fn compared(plan: &Plan, command: &[String]) -> [[u64; CODES]; 7] {
+    let (mut child, to, mut from) = started(command);
     let (sent, waiting) = sync_channel(UNDER_WAY);
     let mut times = [[0; CODES]; 7];
     std::thread::scope(|scope| {
-        scope.spawn(|| feed(&plan, to, sent));
+        scope.spawn(|| feed(plan, to, sent));
         for (case, call, expected) in waiting {
             let found = read_answer(&mut from, &call).ok();
             if !found.as_ref().is_some_and(|(found, kept)| *found == expected && *kept) {
-                show_difference(seed, case, &call, &expected, found);
+                show_difference(plan.seed, case, &call, &expected, found);
                 exit(1);
             }
             times[call.operation as usize][expected.numbers[0] as usize] += 1;
@@ -135,5 +129,31 @@ fn main() {
         println!("the driver failed at its end");
         exit(1);
     }
+    times
+}
+
+/// A share of the cases for each processor.
+fn shares(plan: &Plan) -> impl Iterator<Item = Plan> + '_ {
+    let many = std::thread::available_parallelism().map_or(1, |processors| processors.get() as u64);
+    let upto = move |share: u64| plan.cases * share / many;
+    (0..many).map(move |i| Plan { cases: upto(i + 1) - upto(i), seed: plan.seed, first: plan.first + upto(i) })
+}
+
+fn main() {
+    let arguments: Vec<String> = std::env::args().skip(1).collect();
+    let number = |at: usize| arguments.get(at).and_then(|text| text.parse().ok());
+    let (Some(cases), Some(seed), Some(first), true) = (number(0), number(1), number(2), arguments.len() > 3) else {
+        eprintln!("differential CASES SEED FIRST COMMAND...");
+        exit(2);
+    };
+    let (plan, command) = (Plan { cases, seed, first }, &arguments[3..]);
+    let mut times = [[0; CODES]; 7];
+    std::thread::scope(|scope| {
+        let running: Vec<_> = shares(&plan).map(|share| scope.spawn(move || compared(&share, command))).collect();
+        for share in running {
+            let told = share.join().expect("a share is compared");
+            times.iter_mut().flatten().zip(told.iter().flatten()).for_each(|(all, of_share)| *all += of_share);
+        }
+    });
     show_counts(&plan, &times);
 }
