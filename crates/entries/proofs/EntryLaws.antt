@@ -2,23 +2,18 @@
 use mathlib.Core.List.{List, [], _∷_}
 use mathlib.Core.Path.{_≡_, refl, sym, ap, _∙_}
 use Prim.Native.Nat.{ℕ, _-_, _/_, _%_, _<_, _+_}
-use native.Mathlib.Nat.{sub-zero}
 use native.Mathlib.Omega.{arith}
 use borrow.Author.Needs.{needs}
 use borrow.Author.Tests.{eq-eqb, ne-eqb}
-use lib.ListN.{length, getD, take, drop, length-drop}
-use lib.Seq.{take-all}
+use lib.ListN.{length, getD, take, drop}
 use Rattle.base.proofs.Walk.{at-end}
 use Rattle.theory.specs.Lex.{cmpN, lex}
 use Rattle.theory.specs.Tri.{Tri}
 use Rattle.meaning.specs.Lines.{identifier}
 use Rattle.meaning.specs.Records.{contentOf}
 use Rattle.meaning.specs.Table.{Kind, kindOf}
-use Rattle.text.specs.Places.{lineLen, lineEnd, contentStart}
-use Rattle.text.proofs.FieldLaws.{identifier-part, content-part}
-use Rattle.layout.specs.Meant.{kindFound}
+use Rattle.text.specs.Places.{lineLen, lineEnd}
 use Rattle.layout.specs.Rows.{laidOut}
-use Rattle.layout.specs.declared.kinds.KindFound as found
 use Rattle.layout.specs.declared.records.Layout.{Layout}
 use Rattle.keys.specs.Numbers.{keyNumbers}
 use Rattle.keys.specs.Places.{numberAt}
@@ -26,7 +21,6 @@ use Rattle.keys.proofs.RowLaws.{lex-first, lex-after, lex-last, key-is}
 use Rattle.entries.specs.Fields.{afterFields, restNumbers}
 use Rattle.entries.specs.Entries.{known, recOf, lineAt, recordOf}
 use Rattle.entries.proofs.FieldLaws.{content-three}
-use Rattle.entries.proofs.HeadLaws.{kind-known, kind-unknown}
 
 -- ---- an entry
 
@@ -58,16 +52,6 @@ held-any h f g v e = entry-held h f v e ∙ sym (entry-held h g v e)
 
 -- ---- a line
 
--- the kind is known by the bytes up to where the identifier ends
-pub kind-by-end : (t : List ℕ) (n : ℕ) (r : found.KindFound) → n ≡ length (identifier t) → kindFound r ≡ kindOf (take (n - 0) t) → kindFound r ≡ kindOf (identifier t)
-kind-by-end t n r e g = g ∙ rw (sub-zero, e, identifier-part t)
-
-pub ruleset kinds = (needs, kind-by-end, kind-known, kind-unknown)
-
--- what stands from where the content starts is the content
-pub content-told : (t : List ℕ) (c : ℕ) → c ≡ contentStart t → take (length t - c) (drop c t) ≡ contentOf t
-content-told t c q = rw (take-all (length t - c) (drop c t) (omega (arith, length-drop c t)), q, content-part t)
-
 -- past the end stands an empty line
 pub line-past : (s : List ℕ) (at : ℕ) → length s < at → [] ≡ lineAt s at
 unfolding lineAt lineLen
@@ -95,6 +79,20 @@ module _ (s : List ℕ) (at i : ℕ) (k : Kind) (p : lineAt s i ≡ lineAt s at)
   order-line j o e = e ∙ ap (λ r. lex j (keyNumbers r)) rec-at
 
 pub ruleset recordkey = (needs, key-line)
+
+-- so is its kind
+pub record-kind : (s : List ℕ) (at i : ℕ) (k : Kind) → lineAt s i ≡ lineAt s at → k ≡ known (kindOf (identifier (lineAt s i))) → k ≡ recOf (lineAt s at) .kind
+unfolding recOf
+record-kind s at i k p q = q ∙ rw p
+
+pub ruleset recordkind = (needs, record-kind)
+
+-- and its content, which runs up to the line's end
+pub record-content : (s : List ℕ) (at i c e : ℕ) → lineAt s i ≡ lineAt s at → lineAt s c ≡ afterFields 3 (lineAt s i) → e ≡ lineEnd s c → take (e - c) (drop c s) ≡ recOf (lineAt s at) .content
+unfolding recOf
+record-content s at i c e p u q = line-here s c e q ∙ u ∙ content-three (lineAt s i) ∙ ap contentOf p
+
+pub ruleset recordcontent = (needs, record-content)
 
 pub ruleset lineorder = (needs, order-line)
 

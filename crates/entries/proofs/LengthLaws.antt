@@ -1,47 +1,43 @@
--- The laws of the lengths of records: of a line's content, and of an entry's.
-use mathlib.Core.Path.{_≡_, sym, ap, _∙_}
-use mathlib.Core.List.{List, []}
-use Prim.Native.Nat.{ℕ, _-_, _/_, _%_, _≤_, _<_}
+-- The laws of the lengths of records' contents.
+use mathlib.Core.Path.{_≡_, sym, ap}
+use mathlib.Core.Bool.{false}
+use mathlib.Core.List.{List}
+use Prim.Native.Nat.{ℕ, suc, _/_, _%_, _≤_, max}
 use native.Mathlib.Omega.{arith}
 use borrow.Author.Needs.{needs}
-use lib.ListN.{length, take, drop, length-drop}
-use lib.Seq.{length-take-le}
-use Rattle.text.specs.Places.{lineEnd, contentStart}
-use Rattle.text.proofs.FieldLaws.{content-part}
+use lib.ListN.{length, take, drop, length-drop, length-take}
+use Rattle.meaning.specs.Lines.{afterField}
+use Rattle.meaning.specs.Records.{contentOf}
+use Rattle.text.specs.Places.{lineLen, fieldLen}
+use Rattle.text.proofs.FieldLaws.{after-drop}
 use Rattle.entries.specs.Entries.{recOf, lineAt, recordOf}
-use Rattle.entries.proofs.EntryLaws.{entry-held, entry-filed, line-past, line-here}
+use Rattle.entries.proofs.EntryLaws.{entry-held, entry-filed}
 
--- the content of a line is as long as what stands from its start on
-pub long-line : (t : List ℕ) (c : ℕ) → c ≡ contentStart t → length t - c ≡ length (recOf t .content)
-unfolding recOf
-long-line t c q = sym (length-drop c t) ∙ rw q (ap length (content-part t))
+after-short : (t : List ℕ) → length (afterField false t) ≤ length t
+after-short t = rw (after-drop false t) (omega (arith, length-drop (suc (fieldLen false t)) t))
 
-pub ruleset longline = (needs, long-line)
+-- a content is no longer than the bytes that its line stands in
+content-short : (s : List ℕ) (at : ℕ) → length (recOf (lineAt s at) .content) ≤ length s
+unfolding recOf contentOf lineAt
+content-short s at =
+    let t : List ℕ = take (lineLen (drop at s)) (drop at s) in
+    omega (arith, after-short (afterField false (afterField false t)), after-short (afterField false t), after-short t, length-take (lineLen (drop at s)) (drop at s), length-drop at s)
 
--- past the end stands an empty line
-pub long-past : (s : List ℕ) (b at : ℕ) → length s < at → b ≡ length (recOf [] .content) → b ≡ length (recOf (lineAt s at) .content)
-long-past s b at l u = u ∙ ap (λ t. length (recOf t .content)) (line-past s at l)
+module _ (h f c : List ℕ) (v : ℕ) where
+  -- an even entry's record is read in the holding
+  module _ (e : v % 2 ≡ 0) (u : c ≡ recOf (lineAt h (v / 2)) .content) where
+    pub long-held : length c ≡ length (recordOf h f v .content)
+    long-held = rw u (ap (λ r. length (r .content)) (sym (entry-held h f v e)))
 
--- else the line runs up to its end
-pub long-here : (s : List ℕ) (b at e : ℕ) → e ≡ lineEnd s at → b ≡ length (recOf (take (e - at) (drop at s)) .content) → b ≡ length (recOf (lineAt s at) .content)
-long-here s b at e q u = u ∙ ap (λ t. length (recOf t .content)) (line-here s at e q)
+    pub within-held : length c ≤ max (length h) (length f)
+    within-held = rw u (omega (arith, content-short h (v / 2)))
 
--- nothing is within any bytes
-pub within-past : (s : List ℕ) (b : ℕ) → b ≤ 0 → b ≤ length s
-within-past s b l = omega arith
+  -- an odd one's in the file
+  module _ (e : v % 2 ≡ 0 → ⊥) (u : c ≡ recOf (lineAt f (v / 2)) .content) where
+    pub long-filed : length c ≡ length (recordOf h f v .content)
+    long-filed = rw u (ap (λ r. length (r .content)) (sym (entry-filed h f v e)))
 
--- what is within a line is within the bytes that were lent
-pub within-here : (s : List ℕ) (b at e : ℕ) → at ≤ e → e ≤ length s → b ≤ length (take (e - at) (drop at s)) → b ≤ length s
-within-here s b at e l m u = omega (arith, length-take-le (e - at) (drop at s) (omega (arith, length-drop at s)))
+    pub within-filed : length c ≤ max (length h) (length f)
+    within-filed = rw u (omega (arith, content-short f (v / 2)))
 
-pub ruleset longrecord = (needs, long-past, long-here, within-past, within-here)
-
--- an even entry's record is read in the holding
-pub long-held : (h f : List ℕ) (b v : ℕ) → v % 2 ≡ 0 → b ≡ length (recOf (lineAt h (v / 2)) .content) → b ≡ length (recordOf h f v .content)
-long-held h f b v e u = u ∙ ap (λ r. length (r .content)) (sym (entry-held h f v e))
-
--- an odd one's in the file
-pub long-filed : (h f : List ℕ) (b v : ℕ) → (v % 2 ≡ 0 → ⊥) → b ≡ length (recOf (lineAt f (v / 2)) .content) → b ≡ length (recordOf h f v .content)
-long-filed h f b v e u = u ∙ ap (λ r. length (r .content)) (sym (entry-filed h f v e))
-
-pub ruleset longentry = (needs, long-held, long-filed)
+pub ruleset longentry = (needs, long-held, within-held, long-filed, within-filed)

@@ -4,12 +4,10 @@ ghost use mathlib.Core.List.{[], _∷_};
 ghost use Prim.Native.Nat.{_≤_};
 ghost use lib.ListN.{length};
 ghost use Rattle.theory.specs.Lex.{lex};
-ghost use Rattle.meaning.specs.Lines.{identifier};
-ghost use Rattle.meaning.specs.Table.{kindOf};
 ghost use Rattle.text.specs.Order.{triOf};
 ghost use Rattle.layout.specs.Meant.{kindMeant};
 ghost use Rattle.keys.specs.Numbers.{keyList, keyNumbers};
-ghost use Rattle.entries.specs.Entries.{known, recOf, lineAt, recordOf};
+ghost use Rattle.entries.specs.Entries.{recOf, lineAt, recordOf};
 ghost use Rattle.entries.specs.Fields.{afterFields, restNumbers};
 use crate::fields::line_start;
 use crate::heads::content_at;
@@ -18,21 +16,9 @@ use crate::numbers::first_number;
 use crate::numbers::number_at;
 use keys::Key;
 use layout::kinds::Kind;
-use layout::kinds::KindFound;
 use layout::rules::layout;
 use text::order::Order;
 use text::order::numbers;
-
-// The kind of a line; an unknown one is taken for a header's.
-pub fn line_kind(line: &[u8]) -> Kind
-    ensures { λ r. ⌜ kindMeant r ≡ known (kindOf (identifier (now (line .entry)))) ⌝ }
-{
-    let end = text::fields::identifier_end(line);
-    match layout::check::kind_of(&line[0..end]) {
-        KindFound::Known(kind) => kind,
-        KindFound::Unknown => Kind::Header,
-    }
-}
 
 // The key of a record whose content stands in the line from `content` on.
 pub fn key_at(kind: Kind, bytes: &[u8], content: usize) -> Key

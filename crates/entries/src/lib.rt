@@ -4,8 +4,9 @@
 // further than what is asked for, so that its end is not looked for first; past the end of the bytes stands an empty line.
 pub mod fields; // the fields of the line at an offset
 pub mod heads; // how such a line begins: its kind, and where its content starts
+pub mod record; // the record that it carries
 pub mod numbers; // the number of a field there
 pub mod key; // the key of an entry's record
 pub mod tags; // a number for each key, in the order of keys
 pub mod references; // what a record refers to
-pub mod lengths; // how long a record's content is
+pub mod lengths; // how long an entry's content is

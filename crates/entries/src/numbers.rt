@@ -15,9 +15,9 @@ ghost use Rattle.entries.specs.Fields.{firstField};
 use crate::fields::first_field;
 use crate::fields::past_fields;
 use form::Form;
-use keys::places::form_at;
-use keys::places::plain_number;
-use keys::places::text_number;
+use keys::numbers::form_at;
+use keys::numbers::plain_number;
+use keys::numbers::text_number;
 use layout::kinds::Kind;
 use layout::rules::layout;
 

@@ -20,7 +20,7 @@ use crate::numbers::number_here;
 use form::Form;
 use keys::Key;
 use keys::Referred;
-use keys::places::form_at;
+use keys::numbers::form_at;
 use layout::kinds::Kind;
 use layout::rules::layout;
 use text::order::Order;

@@ -31,7 +31,7 @@ use Rattle.laws.specs.HoldingReadBack.{HeldIs, held-out}
 use Rattle.text.specs.declared.order.Order.{Order}
 use Rattle.text.specs.declared.order.Order.the-variants.{Before, Same, After}
 use Rattle.text.specs.Order.{triOf}
-use Rattle.text.specs.Places.{endsHere, lineLen, plainEnd, contentStart}
+use Rattle.text.specs.Places.{endsHere, lineLen, plainEnd}
 use Rattle.text.proofs.LineLaws.{firstLine, lines-at, lines-end, ends-well-at, ends-there}
 use Rattle.layout.specs.declared.kinds.Kind as code
 use Rattle.layout.specs.declared.kinds.KindFound.{KindFound}
@@ -40,9 +40,11 @@ use Rattle.layout.specs.Meant.{kindMeant, kindFound}
 use Rattle.keys.specs.declared.Key.{Key}
 use Rattle.keys.specs.Numbers.{keyList, keyNumbers}
 use Rattle.keys.specs.KeyLaws.{key-agrees}
-use Rattle.entries.specs.Entries.{recordOf}
+use Rattle.entries.specs.Entries.{lineAt, recordOf}
+use Rattle.entries.specs.Fields.{afterFields}
 use Rattle.entries.specs.Tags.{tagOf}
-use Rattle.entries.proofs.EntryLaws.{entry-even, content-told}
+use Rattle.entries.proofs.FieldLaws.{content-three}
+use Rattle.entries.proofs.EntryLaws.{entry-even}
 use Rattle.entries.proofs.LineLaws.{held-there}
 use Rattle.places.specs.Places.{says}
 use Rattle.places.specs.Counts.{byKey}
@@ -50,16 +52,20 @@ use Rattle.places.proofs.SaysLaws.{says-more, says-held, length-says}
 use Rattle.holding.specs.declared.scan.Next.{Next}
 use Rattle.holding.specs.declared.scan.Next.the-variants.{Taken, Faulty}
 use Rattle.holding.specs.declared.read.Held.{Held}
-use Rattle.holding.specs.Held.{heldAs, recordAs, nextAs, keyTaken}
+use Rattle.holding.specs.Held.{heldAs, recordAs, recordUpTo, nextAs, keyTaken}
 use Rattle.holding.specs.Read.{faultOf, recordsOf, ReadAs}
 use Rattle.holding.proofs.HeldLaws.{held-is}
 
 -- ---- the next key
 
-module _ (n : ℕ) (q t : List ℕ) (b : Bool) where
+module _ (h : List ℕ) (at e n : ℕ) (q : List ℕ) where
+  -- the text that is judged
+  abbrev judged : List ℕ
+  judged = take (e - at) (drop at h)
+
   -- line 8,193 is the fault
-  pub next-many : (m : ℕ) → m ≡ most → m < n → none ≡ nextAs n q (recordAs t (heldAs n b t))
-  next-many m e h = go (recordAs t (heldAs n b t))
+  pub next-many : (m : ℕ) → m ≡ most → m < n → none ≡ nextAs n q (recordUpTo h at e n)
+  next-many m l o = go (recordUpTo h at e n)
     where
       no : (c : Bool) (k : List ℕ) → none ≡ keepIf (c && leb n most) k
       no true k = unfold keepIf in (rw (lt-leb n most (omega arith)))
@@ -69,31 +75,45 @@ module _ (n : ℕ) (q t : List ℕ) (b : Bool) where
       go none = unfold nextAs in refl
       go (some r) = unfold nextAs in (no (isLt (lex q (keyNumbers r))) (keyNumbers r))
 
-  module _ (o : KindFound) (p : kindFound o ≡ heldAs n b t) where
+  module _ (b : Bool) (u : b ≡ endsHere (drop e h)) (o : KindFound) (p : kindFound o ≡ heldAs n b judged) where
     -- a line that is not held
-    pub next-unheld : o ≡ Unknown → none ≡ nextAs n q (recordAs t (heldAs n b t))
+    pub next-unheld : o ≡ Unknown → none ≡ nextAs n q (recordUpTo h at e n)
     unfolding recordAs nextAs
-    next-unheld e = rw (← p, e)
+    next-unheld l = rw (← u, ← p, l)
 
-    module _ (k : code.Kind) (e : o ≡ Known k) (c : ℕ) (u : c ≡ contentStart t) (j : List ℕ) (v : j ≡ keyNumbers (record { kind = kindMeant k; content = take (length t - c) (drop c t) })) (x : Order) (w : triOf x ≡ lex q j) where
-      next-by : nextAs n q (recordAs t (heldAs n b t)) ≡ keepIf (isLt (triOf x) && leb n most) j
+    module _ (i : e ≡ plainEnd h at) (k : code.Kind) (l : o ≡ Known k) (c : ℕ) (f : lineAt h c ≡ afterFields 3 (lineAt h at)) (j : List ℕ) (v : j ≡ keyNumbers (record { kind = kindMeant k; content = lineAt h c })) (x : Order) (w : triOf x ≡ lex q j) where
+      -- one that is held ends well
+      well : b ≡ true
+      unfolding heldAs
+      well = go b (sym p ∙ ap kindFound l)
+        where
+          go : (c : Bool) → heldAs n c judged ≡ some (kindMeant k) → c ≡ true
+          go true s = refl
+          go false s = absurd (some≢none (sym s))
+
+      -- so its content stands where it is read
+      content-here : lineAt h c ≡ contentOf judged
+      unfolding lineAt
+      content-here = f ∙ content-three (lineAt h at) ∙ rw (ends-there h at e i (sym u ∙ well))
+
+      next-by : nextAs n q (recordUpTo h at e n) ≡ keepIf (isLt (triOf x) && leb n most) j
       unfolding recordAs nextAs
       next-by =
-          let y : keyNumbers (record { kind = kindMeant k; content = contentOf t }) ≡ j = sym (v ∙ rw (content-told t c u)) in
-          rw (← p, e, y, ← w)
+          let y : keyNumbers (record { kind = kindMeant k; content = contentOf judged }) ≡ j = sym (v ∙ rw content-here) in
+          rw (← u, ← p, l, y, ← w)
 
       -- a key after the one before is taken
-      pub next-taken : (m : ℕ) → m ≡ most → n ≤ m → x ≡ Before → some j ≡ nextAs n q (recordAs t (heldAs n b t))
+      pub next-taken : (m : ℕ) → m ≡ most → n ≤ m → x ≡ Before → some j ≡ nextAs n q (recordUpTo h at e n)
       unfolding keepIf
-      next-taken m i h s = sym (next-by ∙ rw (s, le-leb n most (omega arith)))
+      next-taken m g r s = sym (next-by ∙ rw (s, le-leb n most (omega arith)))
 
       -- the same key is out of order
-      pub next-same : x ≡ Same → none ≡ nextAs n q (recordAs t (heldAs n b t))
+      pub next-same : x ≡ Same → none ≡ nextAs n q (recordUpTo h at e n)
       unfolding keepIf
       next-same s = sym (next-by ∙ rw s)
 
       -- and so is one before it
-      pub next-after : x ≡ After → none ≡ nextAs n q (recordAs t (heldAs n b t))
+      pub next-after : x ≡ After → none ≡ nextAs n q (recordUpTo h at e n)
       unfolding keepIf
       next-after s = sym (next-by ∙ rw s)
 
@@ -179,71 +199,73 @@ next-in m k lo b (some r) f go = rw (b r f) (when (above lo r && leb m most) ref
     when true q = unfold keepIf in (record { taken = r; held = refl; sounds = f; key = refl; goes = rw q; few = leb→le m most (and-r (above lo r) (leb m most) (rw q tt)) })
     when false q = unfold keepIf in (rw q)
 
-module _ (h : List ℕ) (at e : ℕ) (b : Bool) (g : at < length h) (q : e ≡ plainEnd h at) (u : b ≡ endsHere (drop e h)) where
-  -- the text that the code judges
-  abbrev judged : List ℕ
-  judged = take (e - at) (drop at h)
-
+module _ (h : List ℕ) (at e : ℕ) (g : at < length h) (q : e ≡ plainEnd h at) where
   -- the line there, as the meaning has it
-  line-held : (n : ℕ) → heldLine n (firstLine (drop at h)) ≡ recordAs judged (heldAs n b judged)
+  line-held : (n : ℕ) → heldLine n (firstLine (drop at h)) ≡ recordUpTo h at e n
   unfolding heldAs recordAs
-  line-held n = held-is n (firstLine (drop at h)) b (u ∙ sym (ends-well-at h at e q)) ∙ go b refl
+  line-held n = held-is n (firstLine (drop at h)) (endsHere (drop e h)) (sym (ends-well-at h at e q)) ∙ go (endsHere (drop e h)) refl
     where
-      go : (c : Bool) → b ≡ c → recordAs (firstLine (drop at h) .text) (heldAs n c (firstLine (drop at h) .text)) ≡ recordAs judged (heldAs n c judged)
-      go true p = rw (ends-there h at e q (sym u ∙ p))
+      text : List ℕ
+      text = take (e - at) (drop at h)
+
+      go : (c : Bool) → endsHere (drop e h) ≡ c → recordAs (firstLine (drop at h) .text) (heldAs n c (firstLine (drop at h) .text)) ≡ recordAs text (heldAs n c text)
+      go true p = rw (ends-there h at e q p)
       go false p = refl
 
   -- the lines after it
   abbrev rest : List Line
   rest = linesOf (drop (at + (lineLen (drop at h) + 2)) h)
 
-  line-next : (n : ℕ) (lo : Option (List ℕ)) → scan (suc n) lo (linesOf (drop at h)) ≡ onHeld (suc n) lo (recordAs judged (heldAs (suc n) b judged)) (λ r. scan (suc (suc n)) (some (keyOf r)) rest)
+  line-next : (n : ℕ) (lo : Option (List ℕ)) → scan (suc n) lo (linesOf (drop at h)) ≡ onHeld (suc n) lo (recordUpTo h at e (suc n)) (λ r. scan (suc (suc n)) (some (keyOf r)) rest)
   unfolding scan
   line-next n lo = rw (lines-at h at g, line-held (suc n))
 
   -- where a record was found the line ends well
-  ended : (n : ℕ) (r : Rec) → recordAs judged (heldAs n b judged) ≡ some r → b ≡ true
+  ended : (n : ℕ) (r : Rec) → recordUpTo h at e n ≡ some r → endsHere (drop e h) ≡ true
   unfolding heldAs recordAs
-  ended n r p = go b p
+  ended n r p = go (endsHere (drop e h)) p
     where
-      go : (c : Bool) → recordAs judged (heldAs n c judged) ≡ some r → c ≡ true
+      text : List ℕ
+      text = take (e - at) (drop at h)
+
+      go : (c : Bool) → recordAs text (heldAs n c text) ≡ some r → c ≡ true
       go true p = refl
       go false p = absurd (some≢none (sym p))
 
   -- so the next begins two bytes on
-  next-there : (n : ℕ) (r : Rec) → recordAs judged (heldAs n b judged) ≡ some r → at + (lineLen (drop at h) + 2) ≡ e + 2
-  next-there n r p = let z = ends-there h at e q (sym u ∙ ended n r p) in omega (arith, z)
+  next-there : (n : ℕ) (r : Rec) → recordUpTo h at e n ≡ some r → at + (lineLen (drop at h) + 2) ≡ e + 2
+  next-there n r p = let z = ends-there h at e q (ended n r p) in omega (arith, z)
 
   line-on : (n : ℕ) (lo : Option (List ℕ)) (r : Rec) (st st′ : List Rec)
-      → onHeld (suc n) lo (recordAs judged (heldAs (suc n) b judged)) (λ r. scan (suc (suc n)) (some (keyOf r)) rest) ≡ addRec r (scan (suc (suc n)) (some (keyOf r)) rest)
+      → onHeld (suc n) lo (recordUpTo h at e (suc n)) (λ r. scan (suc (suc n)) (some (keyOf r)) rest) ≡ addRec r (scan (suc (suc n)) (some (keyOf r)) rest)
       → at + (lineLen (drop at h) + 2) ≡ e + 2 → st′ ≡ st ++ (r ∷ [])
       → joinHeld st (scan (suc n) lo (linesOf (drop at h))) ≡ joinHeld st′ (scan (suc (n + 1)) (some (keyOf r)) (linesOf (drop (e + 2) h)))
   line-on n lo r st st′ f w c = rw (line-next n lo, f, join-add st r _, c, w, add-one n)
 
-  module _ (a c : List ℕ) (n : ℕ) (k : List ℕ) (s : Scanning h a c n at k) (x : Next) (v : keyTaken x ≡ nextAs (n + 1) k (recordAs judged (heldAs (n + 1) b judged))) where
-    found : Nexts (suc n) (s .lo) (recordAs judged (heldAs (suc n) b judged)) (λ r. scan (suc (suc n)) (some (keyOf r)) rest) (keyTaken x)
+  module _ (a c : List ℕ) (n : ℕ) (k : List ℕ) (s : Scanning h a c n at k) (x : Next) (v : keyTaken x ≡ nextAs (n + 1) k (recordUpTo h at e (n + 1))) where
+    found : Nexts (suc n) (s .lo) (recordUpTo h at e (suc n)) (λ r. scan (suc (suc n)) (some (keyOf r)) rest) (keyTaken x)
     found =
         rw (v, add-one n)
-        (next-in (suc n) k (s .lo) (s .beside) (recordAs judged (heldAs (suc n) b judged)) (held-fine (suc n) (firstLine (drop at h)) (recordAs judged (heldAs (suc n) b judged)) (subst (HeldIs (suc n) (firstLine (drop at h))) (line-held (suc n)) (held-out (suc n) (firstLine (drop at h))))) (λ r. scan (suc (suc n)) (some (keyOf r)) rest))
+        (next-in (suc n) k (s .lo) (s .beside) (recordUpTo h at e (suc n)) (held-fine (suc n) (firstLine (drop at h)) (recordUpTo h at e (suc n)) (subst (HeldIs (suc n) (firstLine (drop at h))) (line-held (suc n)) (held-out (suc n) (firstLine (drop at h))))) (λ r. scan (suc (suc n)) (some (keyOf r)) rest))
 
     -- a line that is faulty or out of order is the lowest
     pub scan-stop : x ≡ Faulty → ReadAs h (scan 1 none (linesOf h)) (record { line = n + 1; count = 0 }) a c
     unfolding faultOf
     scan-stop y =
-        let f : onHeld (suc n) (s .lo) (recordAs judged (heldAs (suc n) b judged)) (λ r. scan (suc (suc n)) (some (keyOf r)) rest) ≡ unsound (suc n) = rw y at found in
+        let f : onHeld (suc n) (s .lo) (recordUpTo h at e (suc n)) (λ r. scan (suc (suc n)) (some (keyOf r)) rest) ≡ unsound (suc n) = rw y at found in
         let w : scan 1 none (linesOf h) ≡ unsound (suc n) = s .left ∙ rw (line-next n (s .lo), f) in
         record { line = rw w (add-one n); listed = λ z. absurd (omega (arith, z)); tagged = λ z. absurd (omega (arith, z)) }
 
     -- there is room for the start of one that is taken, and for its tag
     pub scan-room : (j : Key) (o : List ℕ) → x ≡ Taken j → 8192 ≤ length o → n < length o
     scan-room j o y l =
-        let t : Took (suc n) (s .lo) (recordAs judged (heldAs (suc n) b judged)) (λ r. scan (suc (suc n)) (some (keyOf r)) rest) (keyList j) = rw y at found in
+        let t : Took (suc n) (s .lo) (recordUpTo h at e (suc n)) (λ r. scan (suc (suc n)) (some (keyOf r)) rest) (keyList j) = rw y at found in
         omega (arith, t .few)
 
     -- and it leaves those after it
     pub scan-turn : (j : Key) (i : ℕ) → x ≡ Taken j → 8192 ≤ length a → 8192 ≤ length c → i ≡ tagOf (keyList j) → Scanning h (set a n (2 * at)) (set c n i) (n + 1) (e + 2) (keyList j)
     scan-turn j i y l o p =
-        let t : Took (suc n) (s .lo) (recordAs judged (heldAs (suc n) b judged)) (λ r. scan (suc (suc n)) (some (keyOf r)) rest) (keyList j) = rw y at found in
+        let t : Took (suc n) (s .lo) (recordUpTo h at e (suc n)) (λ r. scan (suc (suc n)) (some (keyOf r)) rest) (keyList j) = rw y at found in
         let r : Rec = t .taken in
         let m : n < length a = omega (arith, t .few) in
         let f : recordOf h h (2 * at) ≡ r = entry-even h h at (2 * at) (omega arith) ∙ held-there h at (suc n) (firstLine (drop at h)) rest r (lines-at h at g) (line-held (suc n) ∙ t .held) in

@@ -2,8 +2,9 @@
 use mathlib.Core.Bool.{Bool, _&&_}
 use mathlib.Core.Option.{Option, none, some}
 use mathlib.Core.List.{List}
-use Prim.Native.Nat.{ℕ}
+use Prim.Native.Nat.{ℕ, _-_}
 use lib.Dec.{leb}
+use lib.ListN.{take, drop}
 use Rattle.base.specs.Lists.{pick, keepIf}
 use Rattle.theory.specs.Tri.{isLt}
 use Rattle.theory.specs.Lex.{lex}
@@ -12,6 +13,7 @@ use Rattle.meaning.specs.Lines.{identifier}
 use Rattle.meaning.specs.Table.{Kind, kindOf}
 use Rattle.meaning.specs.Records.{Rec, contentOf}
 use Rattle.meaning.specs.Holding.{heldTest}
+use Rattle.text.specs.Places.{endsHere}
 use Rattle.keys.specs.Numbers.{keyList, keyNumbers}
 use Rattle.holding.specs.declared.scan.Next.{Next}
 use Rattle.holding.specs.declared.scan.Next.the-variants.{Taken, Faulty}
@@ -29,6 +31,10 @@ heldAs n ended t = pick ended (heldKindAs n t (kindOf (identifier t))) none
 unfoldable pub recordAs : List ℕ → Option Kind → Option Rec
 recordAs t none = none
 recordAs t (some k) = some (record { kind = k; content = contentOf t })
+
+-- the record of line n, which starts at `at` and has no CR or LF before e
+abbrev pub recordUpTo : List ℕ → ℕ → ℕ → ℕ → Option Rec
+recordUpTo h at e n = recordAs (take (e - at) (drop at h)) (heldAs n (endsHere (drop e h)) (take (e - at) (drop at h)))
 
 -- the key of line n as numbers, where that is a record whose key stands after q; line 8,193 is the fault
 unfoldable pub nextAs : ℕ → List ℕ → Option Rec → Option (List ℕ)

@@ -5,18 +5,19 @@ ghost use Prim.Native.Nat.{_≤_};
 ghost use lib.ListN.{length};
 ghost use Rattle.meaning.specs.Lines.{linesOf};
 ghost use Rattle.meaning.specs.Holding.{scan};
+ghost use Rattle.text.specs.Places.{plainEnd};
 ghost use Rattle.keys.specs.Numbers.{keyList};
-ghost use Rattle.holding.specs.Held.{heldAs, recordAs, nextAs, keyTaken};
+ghost use Rattle.holding.specs.Held.{recordUpTo, nextAs, keyTaken};
 ghost use Rattle.holding.specs.Read.{ReadAs};
 use crate::held::held_line;
 use crate::read::Held;
+use entries::heads::content_at;
+use entries::key::key_at;
 use entries::tags::tag;
 use keys::Key;
-use keys::key_of;
 use keys::order;
 use layout::kinds::KindFound;
 use layout::limits::Holding;
-use text::fields::content_start;
 use text::lines::ends_at;
 use text::lines::plain_end;
 use text::order::Order;
@@ -27,18 +28,20 @@ pub enum Next {
     Faulty,
 }
 
-// The key of the line of that number, where that is sound and its key stands after the one before.
-fn next_key(text: &[u8], ended: bool, line: usize, before: Key) -> Next
-    ensures { λ r. ⌜ keyTaken r ≡ nextAs line (keyList before) (recordAs (now (text .entry)) (heldAs line ended (now (text .entry)))) ⌝ }
+// The key of the line of that number, which starts at `at` and has no CR or LF before `end`, where it is sound and its key stands
+// after the one before.
+fn next_key(holding: &[u8], at: usize, end: usize, line: usize, before: Key) -> Next
+    requires { ⌜ (end ≡ plainEnd (now holding) at) × (at ≤ end) × (end ≤ length (now holding)) ⌝ }
+    ensures { λ r. ⌜ keyTaken r ≡ nextAs line (keyList before) (recordUpTo (now (holding .entry)) at end line) ⌝ }
 {
     if Holding::most_lines() < line {
         return Next::Faulty;
     }
-    let KindFound::Known(kind) = held_line(text, ended, line) else {
+    let text = &holding[at..end];
+    let KindFound::Known(kind) = held_line(text, ends_at(holding, end), line) else {
         return Next::Faulty;
     };
-    let start = content_start(text);
-    let key = key_of(kind, &text[start..]);
+    let key = key_at(kind, holding, content_at(holding, at));
     match order(before, key) {
         Order::Before => Next::Taken(key),
         Order::Same => Next::Faulty,
@@ -62,8 +65,7 @@ pub fn scan(holding: &[u8], starts: &mut [u64], tags: &mut [u64]) -> Held
     while at < holding.len() {
         let end = plain_end(holding, at);
         let line = count + 1;
-        let next = next_key(&holding[at..end], ends_at(holding, end), line, before);
-        let Next::Taken(key) = next else {
+        let Next::Taken(key) = next_key(holding, at, end, line, before) else {
             return Held { line, count: 0 };
         };
         starts[count] = 2 * at as u64;

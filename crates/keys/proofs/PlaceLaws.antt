@@ -8,7 +8,7 @@ use native.Mathlib.Nat.{pow-suc}
 use native.Mathlib.Numerals.{add-one}
 use native.Mathlib.Omega.{arith}
 use borrow.Author.Needs.{needs}
-use borrow.Author.Tests.{not-true, not-false, lt-ltb, le-ltb}
+use borrow.Author.Tests.{lt-ltb, le-ltb}
 use lib.Dec.{ltb}
 use lib.ListN.{length, getD, take, length-map}
 use lib.Seq.{take-all, take-nil}
@@ -110,6 +110,8 @@ pub ruleset digits = (needs, text-start, text-over, text-letter, text-turn, text
 pub number-whole : (f : List ℕ) (n : ℕ) → length f ≤ 16 → n ≡ value f → n ≡ value (take 16 f)
 number-whole f n h e = rw (take-all 16 f h) e
 
+pub ruleset numbers = (needs, number-whole)
+
 module _ (m : Form) (f : List ℕ) (t : Bool) (p : t ≡ isTextual m) (n : ℕ) where
   -- a text's is that of its digits
   pub number-text : t ≡ true → n ≡ value (digitsIn f) → n ≡ numberOf m f
@@ -120,8 +122,6 @@ module _ (m : Form) (f : List ℕ) (t : Bool) (p : t ≡ isTextual m) (n : ℕ) 
   pub number-plain : t ≡ false → n ≡ value (take 16 f) → n ≡ numberOf m f
   unfolding numberOf
   number-plain q e = rw (sym p ∙ q) e
-
-pub ruleset numbers = (needs, not-true, not-false, number-whole, number-text, number-plain)
 
 -- ---- the form that the table has at a place
 
@@ -164,5 +164,3 @@ module _ (k : Kind) (c : List ℕ) (p : ℕ) where
     pub empty-there : (b : Bool) → b ≡ isEmpty m f → b ≡ emptyAt k c p
     unfolding emptyAt fieldAt
     empty-there b e = rw (le-ltb p 4 h, ← u, ← v) e
-
-pub ruleset there = (needs, number-none, number-there)

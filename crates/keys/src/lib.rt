@@ -6,15 +6,11 @@
 ghost use mathlib.Core.Path.{_≡_};
 ghost use Rattle.theory.specs.Lex.{lex};
 ghost use Rattle.text.specs.Order.{triOf};
-ghost use Rattle.layout.specs.Meant.{kindMeant};
-ghost use Rattle.keys.specs.Numbers.{keyNumbers, keyList};
-use crate::places::number_at;
-use layout::kinds::Kind;
-use layout::rules::layout;
+ghost use Rattle.keys.specs.Numbers.{keyList};
 use text::order::Order;
 use text::order::numbers;
 
-pub mod places; // the number of a field, by its place
+pub mod numbers; // the number of a field
 
 // A key: the number of its kind, and those of its fields.
 pub struct Key {
@@ -44,21 +40,4 @@ pub fn order(a: Key, b: Key) -> Order
         return numbers(a.second, b.second);
     }
     numbers(a.third, b.third)
-}
-
-// The key of a record.
-pub fn key_of(kind: Kind, content: &[u8]) -> Key
-    ensures { λ r. ⌜ keyList r ≡ keyNumbers (record { kind = kindMeant kind; content = now (content .entry) }) ⌝ }
-{
-    let l = layout(kind);
-    let places = l.key;
-    let first = number_at(kind, content, places[0]);
-    let second = number_at(kind, content, places[1]);
-    let third = number_at(kind, content, places[2]);
-    Key {
-        kind: l.number,
-        first: first,
-        second: second,
-        third: third,
-    }
 }

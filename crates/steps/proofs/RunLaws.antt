@@ -21,8 +21,8 @@ use Rattle.theory.specs.Trail.{undo}
 use Rattle.theory.specs.Answer.{Read, fault, file}
 use Rattle.theory.specs.Run as Theory
 use Rattle.theory.specs.Run.{Out, done, stop, on}
-use Rattle.meaning.specs.Lines.{Line, linesOf, fieldsOf, identifier}
-use Rattle.meaning.specs.Table.{Kind, kindOf, Role, bodyLine, metadataLine, role}
+use Rattle.meaning.specs.Lines.{Line, linesOf, fieldsOf}
+use Rattle.meaning.specs.Table.{Kind, Role, bodyLine, metadataLine, role}
 use Rattle.meaning.specs.Records.{Rec, keyed, opOf, changeOf}
 use Rattle.meaning.specs.Holding.{isHeld}
 use Rattle.meaning.specs.File.{Sheet, readFile, mostBody}
@@ -36,7 +36,7 @@ use Rattle.layout.specs.declared.kinds.Kind as code
 use Rattle.layout.specs.Meant.{kindMeant}
 use Rattle.volume.specs.declared.lines.Line as read
 use Rattle.volume.specs.Meant.{changeMeant}
-use Rattle.entries.specs.Entries.{known, recOf, lineAt}
+use Rattle.entries.specs.Entries.{recOf, lineAt}
 use Rattle.entries.proofs.EntryLaws.{line-here}
 use Rattle.entries.proofs.LineLaws.{role-known}
 use Rattle.places.specs.Counts.{Counted}
@@ -55,9 +55,8 @@ use Rattle.steps.proofs.StepLaws.{code-none}
 -- ---- leaves
 
 -- the kind of the line at an offset
-pub line-kind-at : (f : List ℕ) (at e : ℕ) (l k : code.Kind) → e ≡ lineEnd f at → l ≡ k → kindMeant k ≡ known (kindOf (identifier (take (e - at) (drop at f)))) → kindMeant l ≡ recOf (lineAt f at) .kind
-unfolding recOf
-line-kind-at f at e l k q i u = ap kindMeant i ∙ u ∙ ap (λ t. known (kindOf (identifier t))) (line-here f at e q)
+pub line-kind-at : (f : List ℕ) (at : ℕ) (l k : code.Kind) → l ≡ k → kindMeant k ≡ recOf (lineAt f at) .kind → kindMeant l ≡ recOf (lineAt f at) .kind
+line-kind-at f at l k i u = ap kindMeant i ∙ u
 
 -- and its change
 pub line-change-at : (f : List ℕ) (at e : ℕ) (o : Op) → e ≡ lineEnd f at → o ≡ opOf (getD (fieldsOf (take (e - at) (drop at f))) 1 []) → o ≡ opOf (getD (fieldsOf (lineAt f at)) 1 [])

@@ -13,7 +13,7 @@ ghost use Rattle.places.specs.Changes.{changeAt};
 ghost use Rattle.judge.specs.Ready.{Ready};
 ghost use Rattle.steps.specs.Run.{isFile, Runs};
 use crate::step::step;
-use entries::key::line_kind;
+use entries::record::record_kind;
 use judge::State;
 use layout::rules::is_held;
 use text::lines::line_end;
@@ -35,9 +35,7 @@ fn read_line(file: &[u8], at: usize, end: usize) -> Line
     requires { ⌜ (end ≡ lineEnd (now file) at) × (at ≤ end) × (end ≤ length (now file)) ⌝ }
     ensures { λ r. ⌜ (kindMeant (r .kind) ≡ changeAt (now (file .entry)) at .rec .kind) × (changeMeant (r .change) ≡ changeAt (now (file .entry)) at .op) ⌝ }
 {
-    let text = &file[at..end];
-    let kind = line_kind(text);
-    known(kind, text)
+    known(record_kind(file, at), &file[at..end])
 }
 
 // How a run ended.

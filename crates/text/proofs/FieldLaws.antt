@@ -5,7 +5,6 @@ use mathlib.Core.List.{List, [], _∷_}
 use Prim.Native.Nat.{ℕ, suc, _+_, _-_, _≤_, _<_}
 use native.Mathlib.Nat.{add-zero, zero-add}
 use native.Mathlib.Omega.{arith}
-use native.Mathlib.Decide.{decLe}
 use borrow.Author.Tests.{eq-eqb, ne-eqb, eqb-true, lt-ltb}
 use borrow.Author.Needs.{needs}
 use lib.Dec.{eqb, ltb, eqb→eq, leb·suc-suc}
@@ -15,8 +14,7 @@ use Rattle.base.specs.Lists.{pick, upTo}
 use Rattle.base.specs.Tests.{and-r}
 use Rattle.base.proofs.Walk.{at-cons, at-end}
 use Rattle.meaning.specs.Lines.{identifier, isSep, turned, addByte, fieldsFrom, fieldsOf, quoteAfter, oddQuotes, hasFields, afterField}
-use Rattle.meaning.specs.Records.{contentOf}
-use Rattle.text.specs.Places.{fieldCount, fieldLen, fieldEnd, nextStart, contentStart}
+use Rattle.text.specs.Places.{fieldCount, fieldLen}
 
 -- ---- the walk to the first byte x
 
@@ -254,55 +252,3 @@ after-drop q (x ∷ r) = go (isSep q x) (after-drop (turned q x) r)
         pick b r (afterField (turned q x) r) ≡ drop (suc (pick b 0 (suc (fieldLen (turned q x) r)))) (x ∷ r)
     go true e = refl
     go false e = e
-
--- the same at an offset
-pub after-at : (t : List ℕ) (at : ℕ) → afterField false (drop at t) ≡ drop (suc (fieldEnd t at)) t
-after-at t at = after-drop false (drop at t) ∙ drop-drop (suc (fieldLen false (drop at t))) at t ∙ rw (next)
-  where
-    next : at + suc (fieldLen false (drop at t)) ≡ suc (fieldEnd t at)
-    next = omega arith
-
--- what is left from k on is told by its length
-left-back : (t : List ℕ) (k : ℕ) → drop (length t - length (drop k t)) t ≡ drop k t
-left-back t k = go (decLe k (length t))
-  where
-    go : Dec (k ≤ length t) → drop (length t - length (drop k t)) t ≡ drop k t
-    go (yes h) = let n : length t - length (drop k t) ≡ k = omega (arith, length-drop k t) in rw n
-    go (no h) = let d : drop k t ≡ [] = at-end t k (omega arith) in rw d (at-end t (length t - 0) (omega arith))
-
--- it stands where nextStart says
-pub next-part : (t : List ℕ) (at : ℕ) → drop (nextStart t at) t ≡ afterField false (drop at t)
-unfolding nextStart
-next-part t at = rw (after-at t at) (left-back t (suc (fieldEnd t at)))
-
--- after a field that a separator ends, at the byte after that
-pub next-more : (t : List ℕ) (at e : ℕ) → e ≡ fieldEnd t at → e < length t → e + 1 ≡ nextStart t at
-unfolding nextStart
-next-more t at e q h = omega (arith, ap length (after-at t at), length-drop (suc (fieldEnd t at)) t)
-
--- after the last field, at the line's end
-pub next-end : (t : List ℕ) (at e : ℕ) → e ≡ fieldEnd t at → e ≤ length t → length t ≤ e → e ≡ nextStart t at
-unfolding nextStart
-next-end t at e q g h = omega (arith, ap length (after-at t at), length-drop (suc (fieldEnd t at)) t)
-
-pub ruleset next = (needs, next-more, next-end)
-
--- ---- the content
-
--- two fields on
-two-on : (t : List ℕ) (a b : ℕ) → a ≡ nextStart t 0 → b ≡ nextStart t a → drop b t ≡ afterField false (afterField false t)
-two-on t a b p q = rw q (next-part t a ∙ ap (afterField false) (rw p (next-part t 0)))
-
--- three fields on the content starts
-pub content-is : (t : List ℕ) (a b c : ℕ) → a ≡ nextStart t 0 → b ≡ nextStart t a → c ≡ nextStart t b → c ≡ contentStart t
-unfolding nextStart contentStart contentOf
-content-is t a b c p q r = r ∙ ap (λ l. length t - length (afterField false l)) (two-on t a b p q)
-
-pub ruleset contents = (needs, content-is)
-
--- and the meaning's content stands there
-pub content-part : (t : List ℕ) → drop (contentStart t) t ≡ contentOf t
-unfolding contentOf
-content-part t =
-    rw (← content-is t (nextStart t 0) (nextStart t (nextStart t 0)) (nextStart t (nextStart t (nextStart t 0))) refl refl refl)
-    (next-part t (nextStart t (nextStart t 0)) ∙ ap (afterField false) (two-on t (nextStart t 0) (nextStart t (nextStart t 0)) refl refl))

@@ -1,4 +1,4 @@
--- Where lines, fields and contents stand in the bytes that were lent: the offsets that a walk goes by. Laws of proofs/ tie each to the meaning.
+-- Where lines and fields stand in the bytes that were lent: the offsets that a walk goes by. Laws of proofs/ tie each to the meaning.
 use mathlib.Core.Bool.{Bool, false, _&&_}
 use mathlib.Core.List.{List, [], _∷_}
 use Prim.Native.Nat.{ℕ, suc, _+_, _-_, _≤_, _<_}
@@ -6,8 +6,7 @@ use mathlib.Core.Path.{_≡_}
 use lib.Dec.{eqb, ltb}
 use lib.ListN.{length, getD, take, drop}
 use Rattle.base.specs.Lists.{pick}
-use Rattle.meaning.specs.Lines.{plain, isSep, turned, fieldsOf, oddQuotes, afterField}
-use Rattle.meaning.specs.Records.{contentOf}
+use Rattle.meaning.specs.Lines.{plain, isSep, turned, fieldsOf, oddQuotes}
 use Rattle.meaning.specs.Enquiries.{fieldsSpanned}
 
 -- a CR LF stands at the front
@@ -69,11 +68,3 @@ pub record FieldAt (t : List ℕ) (k r : ℕ) : Type 0 where
   pub starts : r ≡ fieldStart t k
   pub within : r ≤ length t
   pub stands : take (fieldEnd t r - r) (drop r t) ≡ getD (fieldsOf t) k []
-
--- where what stands after the field at `at` starts
-unfoldable pub nextStart : List ℕ → ℕ → ℕ
-nextStart t at = length t - length (afterField false (drop at t))
-
--- where a line's content starts
-unfoldable pub contentStart : List ℕ → ℕ
-contentStart t = length t - length (contentOf t)

@@ -4,7 +4,7 @@ ghost use Prim.Native.Nat.{_≤_, _<_};
 ghost use mathlib.Core.List.{[]};
 ghost use lib.ListN.{length, getD, set};
 ghost use Rattle.meaning.specs.Lines.{identifier, isSep, turned, fieldsOf};
-ghost use Rattle.text.specs.Places.{fieldCount, Notes, fieldEnd, FieldAt, nextStart, contentStart};
+ghost use Rattle.text.specs.Places.{fieldCount, Notes, fieldEnd, FieldAt};
 
 // Where the identifier ends: at the first comma, or where the line does.
 pub fn identifier_end(line: &[u8]) -> usize
@@ -115,15 +115,6 @@ pub fn field_end(line: &[u8], at: usize) -> usize
     i
 }
 
-// Where what stands after the field at `at` starts, or the line's end where nothing does.
-pub fn next_start(line: &[u8], at: usize) -> usize
-    requires { ⌜ at ≤ length (now line) ⌝ }
-    ensures { λ r. ⌜ (r ≡ nextStart (now (line .entry)) at) × (r ≤ length (now (line .entry))) ⌝ }
-{
-    let end = field_end(line, at);
-    if end < line.len() { end + 1 } else { end }
-}
-
 // Where field k of a line starts, counted from 0, or the line's end where it has no such field.
 pub fn field_start(line: &[u8], k: usize) -> usize
     ensures { λ r. ⌜ FieldAt (now (line .entry)) k r ⌝ }
@@ -148,13 +139,4 @@ pub fn field(line: &[u8], k: usize) -> &[u8]
     let at = field_start(line, k);
     let end = field_end(line, at);
     &line[at..end]
-}
-
-// Where a line's content starts: what stands after its third field.
-pub fn content_start(line: &[u8]) -> usize
-    ensures { λ r. ⌜ (r ≡ contentStart (now (line .entry))) × (r ≤ length (now (line .entry))) ⌝ }
-{
-    let second = next_start(line, 0);
-    let third = next_start(line, second);
-    next_start(line, third)
 }

@@ -1,20 +1,17 @@
 -- The laws of the line of an entry's record.
-use mathlib.Core.Path.{_≡_, _∙_}
+use mathlib.Core.Path.{_≡_, sym, _∙_}
 use mathlib.Core.List.{List, []}
-use Prim.Native.Nat.{ℕ, _+_, _-_, _/_, _%_, _≤_}
+use Prim.Native.Nat.{ℕ, _+_, _/_, _%_, _≤_}
 use native.Mathlib.Omega.{arith}
 use borrow.Author.Needs.{needs}
-use lib.ListN.{length, getD, take, drop, length-drop}
-use lib.Seq.{take-all}
+use lib.ListN.{length, getD}
 use Rattle.theory.specs.Step.{Op, inv}
 use Rattle.theory.specs.Decimal.{width}
-use Rattle.meaning.specs.Lines.{identifier, fieldsOf}
-use Rattle.meaning.specs.Table.{Kind, kindOf}
+use Rattle.meaning.specs.Lines.{fieldsOf}
+use Rattle.meaning.specs.Table.{Kind}
 use Rattle.meaning.specs.Records.{Rec, opOf}
 use Rattle.text.specs.Front.{inFront}
-use Rattle.text.specs.Places.{contentStart}
-use Rattle.text.proofs.FieldLaws.{content-part}
-use Rattle.entries.specs.Entries.{known, recOf, lineAt, recordOf}
+use Rattle.entries.specs.Entries.{recOf, lineAt, recordOf}
 use Rattle.entries.proofs.EntryLaws.{entry-held, entry-filed, line-past, line-here}
 use Rattle.places.specs.Changes.{opAt}
 use Rattle.writer.specs.Lines.{lineBytes}
@@ -24,6 +21,14 @@ use Rattle.writer.proofs.LineLaws.{length-line}
 pub ruleset linetext = (needs, line-past, line-here)
 
 -- ---- the same record
+
+-- an even entry's line stands in the holding
+pub held-is : (h f : List ℕ) (v : ℕ) → v % 2 ≡ 0 → recOf (lineAt h (v / 2)) ≡ recordOf h f v
+held-is h f v e = sym (entry-held h f v e)
+
+-- an odd one's in the file
+pub filed-is : (h f : List ℕ) (v : ℕ) → (v % 2 ≡ 0 → ⊥) → recOf (lineAt f (v / 2)) ≡ recordOf h f v
+filed-is h f v e = sym (entry-filed h f v e)
 
 -- the line of a record has the room that the line of the same record has
 pub same-room : (n m : ℕ) (o : Op) (q r : Rec) → length (lineBytes n (record { op = o; rec = r })) ≤ m → q ≡ r → length (lineBytes n (record { op = o; rec = q })) ≤ m
@@ -38,23 +43,14 @@ pub same-done : (new old : List ℕ) (n : ℕ) (o : Op) (q r : Rec) → new ≡ 
 same-done new old n o q r h e = h ∙ rw e
 
 -- a line's record is its kind and content
-pub text-is : (t : List ℕ) (k : Kind) (c : ℕ) → k ≡ known (kindOf (identifier t)) → c ≡ contentStart t → record { kind = k; content = take (length t - c) (drop c t) } ≡ recOf t
-unfolding recOf
-text-is t k c e q = rw (e, take-all (length t - c) (drop c t) (omega (arith, length-drop c t)), q, content-part t)
+pub record-is : (t c : List ℕ) (k : Kind) → k ≡ recOf t .kind → c ≡ recOf t .content → record { kind = k; content = c } ≡ recOf t
+record-is t c k e q = rw (e, q)
 
 -- the line has the room that its parts have
-pub text-room : (t : List ℕ) (k : Kind) (c n m : ℕ) (o : Op) → k ≡ known (kindOf (identifier t)) → c ≡ contentStart t → length (lineBytes n (record { op = o; rec = recOf t })) ≤ m → 10 + width n + length (take (length t - c) (drop c t)) ≤ m
-text-room t k c n m o e q h = omega (arith, same-room n m o (record { kind = k; content = take (length t - c) (drop c t) }) (recOf t) h (text-is t k c e q), length-line n k o (take (length t - c) (drop c t)))
+pub record-room : (t c : List ℕ) (k : Kind) (n m : ℕ) (o : Op) → k ≡ recOf t .kind → c ≡ recOf t .content → length (lineBytes n (record { op = o; rec = recOf t })) ≤ m → 10 + width n + length c ≤ m
+record-room t c k n m o e q h = omega (arith, same-room n m o (record { kind = k; content = c }) (recOf t) h (record-is t c k e q), length-line n k o c)
 
-pub ruleset textline = (needs, text-room, same-count, same-done, text-is)
-
--- an even entry's line stands in the holding
-pub held-is : (h f t : List ℕ) (v : ℕ) → t ≡ lineAt h (v / 2) → v % 2 ≡ 0 → recOf t ≡ recordOf h f v
-held-is h f t v q e = rw (q, entry-held h f v e)
-
--- an odd one's in the file
-pub filed-is : (h f t : List ℕ) (v : ℕ) → t ≡ lineAt f (v / 2) → (v % 2 ≡ 0 → ⊥) → recOf t ≡ recordOf h f v
-filed-is h f t v q e = rw (q, entry-filed h f v e)
+pub ruleset recordline = (needs, record-room, same-count, same-done, record-is)
 
 pub ruleset entryline = (needs, same-room, same-count, same-done, held-is, filed-is)
 

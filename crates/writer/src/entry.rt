@@ -10,8 +10,8 @@ ghost use Rattle.places.specs.Changes.{opAt};
 ghost use Rattle.writer.specs.Lines.{lineBytes};
 use crate::changes::inverse;
 use crate::lines::put_line;
-use entries::key::line_kind;
-use text::fields::content_start;
+use entries::record::record_content;
+use entries::record::record_kind;
 use text::lines::line_end;
 use volume::lines::Change;
 use volume::lines::change_of;
@@ -27,15 +27,14 @@ fn line_text(bytes: &[u8], at: usize) -> &[u8]
     &bytes[at..end]
 }
 
-// The record that a line's text carries.
-fn put_text(out: &mut [u8], text: &[u8], change: Change, number: u64) -> usize
-    requires { ⌜ length (lineBytes number (record { op = changeMeant change; rec = recOf (now text) })) ≤ length (now out) ⌝ }
-    ensures { λ r. ⌜ (r ≡ length (lineBytes number (record { op = changeMeant change; rec = recOf (now (text .entry)) })))
-        × (now (out .exit) ≡ inFront (lineBytes number (record { op = changeMeant change; rec = recOf (now (text .entry)) })) (now (out .entry))) ⌝ }
+// The record of the line that starts at `at`.
+fn put_record(out: &mut [u8], bytes: &[u8], at: usize, change: Change, number: u64) -> usize
+    requires { ⌜ length (lineBytes number (record { op = changeMeant change; rec = recOf (lineAt (now bytes) at) })) ≤ length (now out) ⌝ }
+    ensures { λ r. ⌜ (r ≡ length (lineBytes number (record { op = changeMeant change; rec = recOf (lineAt (now (bytes .entry)) at) })))
+        × (now (out .exit) ≡ inFront (lineBytes number (record { op = changeMeant change; rec = recOf (lineAt (now (bytes .entry)) at) })) (now (out .entry))) ⌝ }
 {
-    let kind = line_kind(text);
-    let start = content_start(text);
-    put_line(&mut *out, kind, change, number, &text[start..])
+    let kind = record_kind(bytes, at);
+    put_line(&mut *out, kind, change, number, record_content(bytes, at))
 }
 
 // The record of an entry.
@@ -53,9 +52,9 @@ pub fn put_entry(
 {
     let at = (entry / 2) as usize;
     if entry % 2 == 0 {
-        return put_text(&mut *out, line_text(holding, at), change, number);
+        return put_record(&mut *out, holding, at, change, number);
     }
-    put_text(&mut *out, line_text(file, at), change, number)
+    put_record(&mut *out, file, at, change, number)
 }
 
 // The change that takes a step of the file back.

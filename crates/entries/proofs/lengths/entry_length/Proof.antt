@@ -7,7 +7,7 @@ pub entry-length-spec : {M : Type 1} → statement M
 entry-length-spec =
     tie.close
     (tie.spec
-    (λ c κs. search longentry)  -- record-length-requires
+    (λ c κs. search longentry)  -- record-content-requires
     (λ c. search longentry)  -- returns
-    (λ c κs. search longentry)  -- record-length-requires-2
+    (λ c κs. search longentry)  -- record-content-requires-2
     (λ c. search longentry))  -- returns-2

@@ -9,15 +9,16 @@ next-key-spec =
     (tie.spec
     (λ c κs. search nexts)  -- most-lines-requires
     (λ c. search nexts)  -- returns
+    (λ c. search nexts)  -- sub-text
+    (λ c. search nexts)  -- part-text-start
+    (λ c. search nexts)  -- part-text-end
+    (λ c κs. search nexts)  -- ends-at-requires
     (λ c κs. search nexts)  -- held-line-requires
     (λ c. search nexts)  -- enum-known-kind
     (λ c. search nexts)  -- enum-told
     (λ c. search nexts)  -- returns-2
-    (λ c κs. search nexts)  -- content-start-requires
-    (λ c. search nexts)  -- sub-key-of
-    (λ c. search nexts)  -- part-key-of-start
-    (λ c. search nexts)  -- part-key-of-end
-    (λ c κs. search nexts)  -- key-of-requires
+    (λ c κs. search nexts)  -- content-at-requires
+    (λ c κs. search nexts)  -- key-at-requires
     (λ c κs. search nexts)  -- order-requires
     (λ c. search nexts)  -- enum-told-2
     (λ c. search nexts)  -- enum-told-3

@@ -1,5 +1,5 @@
 -- `holding::scan::scan` meets its contract.
-use Rattle.holding.proofs.ScanLaws.{scanning, Scanning, scan-turn}
+use Rattle.holding.proofs.ScanLaws.{scanning, Scanning}
 use Rattle.keys.specs.Numbers.{keyList}
 use Prim.Native.Nat.{_-_, _≤_}
 use mathlib.Core.Path.{_≡_}
@@ -16,12 +16,8 @@ scan-spec =
     (λ c. search scanning)  -- loop-holds
     (λ c κs. search scanning)  -- plain-end-requires
     (λ c. search scanning)  -- add-line
-    (λ c. search scanning)  -- sub-next-key
-    (λ c. search scanning)  -- part-next-key-start
-    (λ c. search scanning)  -- part-next-key-end
-    (λ c κs. search scanning)  -- ends-at-requires
     (λ c κs. search scanning)  -- next-key-requires
-    (λ c. search scanning)  -- enum-known-next
+    (λ c. search scanning)  -- enum-known-key
     (λ c. search scanning)  -- enum-told
     (λ c. search scanning)  -- same-length
     (λ c. search scanning)  -- same-length-2
@@ -34,7 +30,7 @@ scan-spec =
     (λ c. search scanning)  -- slice-write-tags
     (λ c. search scanning)  -- add-at
     (λ c. search scanning)  -- loop-less
-    (λ c. (scan-turn _ _ _ _ (c .before .before .before .before .before .before .before .before .loop-test .taken) (c .before .before .before .before .before .before .before .plain-end .ensures .0) (c .before .before .before .before .before .ends-at .ensures) _ _ _ _ (c .before .before .before .before .before .before .before .before .before .loop .inv .0) _ (c .before .before .before .before .next-key .ensures) _ _ (c .before .before .next .given .1) (c .before .before .before .before .before .before .before .before .before .loop .inv .1) (c .before .before .before .before .before .before .before .before .before .loop .inv .3) (c .tag .ensures), search scanning, search scanning, search scanning, search scanning))  -- loop-again
+    (λ c. search scanning)  -- loop-again
     (λ c. search scanning)  -- same-length-3
     (λ c. search scanning)  -- same-length-4
     (λ c. search scanning))  -- returns-2

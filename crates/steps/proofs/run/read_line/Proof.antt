@@ -7,9 +7,9 @@ pub read-line-spec : {M : Type 1} → statement M
 read-line-spec =
     tie.close
     (tie.spec
-    (λ c. search readline)  -- sub-text
-    (λ c. search readline)  -- part-text-start
-    (λ c. search readline)  -- part-text-end
-    (λ c κs. search readline)  -- line-kind-requires
+    (λ c κs. search readline)  -- record-kind-requires
+    (λ c. search readline)  -- sub-known
+    (λ c. search readline)  -- part-known-start
+    (λ c. search readline)  -- part-known-end
     (λ c κs. search readline)  -- known-requires
     (λ c. search readline))  -- returns

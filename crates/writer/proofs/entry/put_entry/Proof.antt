@@ -7,11 +7,9 @@ pub put-entry-spec : {M : Type 1} → statement M
 put-entry-spec =
     tie.close
     (tie.spec
-    (λ c κs. search entryline)  -- line-text-requires
-    (λ c κs. search entryline)  -- put-text-requires
+    (λ c κs. search entryline)  -- put-record-requires
     (λ c. search entryline)  -- same-length
     (λ c. search entryline)  -- returns
-    (λ c κs. search entryline)  -- line-text-requires-2
-    (λ c κs. search entryline)  -- put-text-requires-2
+    (λ c κs. search entryline)  -- put-record-requires-2
     (λ c. search entryline)  -- same-length-2
     (λ c. search entryline))  -- returns-2

@@ -1,18 +1,16 @@
-// The number of a field, by its place in the line: places count from 1, and a content begins with field 4.
+// The numbers by which keys compare fields: that of a text, and that of a number; and which of both a field is.
 ghost use mathlib.Core.Path.{_≡_};
 ghost use lib.ListN.{take};
 ghost use Rattle.theory.specs.Decimal.{value};
 ghost use Rattle.form.specs.Meant.{meant};
 ghost use Rattle.layout.specs.Meant.{kindMeant};
 ghost use Rattle.layout.specs.Rows.{rowOf};
-ghost use Rattle.keys.specs.Numbers.{digitsIn, numberOf};
-ghost use Rattle.keys.specs.Places.{numberAt};
+ghost use Rattle.keys.specs.Numbers.{digitsIn};
 use form::Form;
 use layout::kinds::Kind;
 use layout::rules::form_of;
 use layout::rules::layout;
 use layout::rules::row;
-use text::fields::field;
 use text::numbers::digit;
 use text::numbers::value;
 
@@ -46,16 +44,6 @@ pub fn plain_number(f: &[u8]) -> u64
     value(f)
 }
 
-// The number by which keys compare a field.
-pub fn number_of(form: Form, f: &[u8]) -> u64
-    ensures { λ r. ⌜ r ≡ numberOf (meant form) (now (f .entry)) ⌝ }
-{
-    if form::is_textual(form) {
-        return text_number(f);
-    }
-    plain_number(f)
-}
-
 // The form of a kind's field, counted from 0; N 0 where there is none.
 pub fn form_at(kind: Kind, k: usize) -> Form
     ensures { λ r. ⌜ meant r ≡ rowOf (kindMeant kind) k .0 ⌝ }
@@ -66,14 +54,4 @@ pub fn form_at(kind: Kind, k: usize) -> Form
         return Form::Number(0);
     }
     form_of(row(kind, k))
-}
-
-// The number of a content's field at a place; 0 where there is none.
-pub fn number_at(kind: Kind, content: &[u8], place: usize) -> u64
-    ensures { λ r. ⌜ r ≡ numberAt (kindMeant kind) (now (content .entry)) place ⌝ }
-{
-    if place < 4 {
-        return 0;
-    }
-    number_of(form_at(kind, place - 1), field(content, place - 4))
 }

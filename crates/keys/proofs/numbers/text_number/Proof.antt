@@ -1,11 +1,11 @@
--- `keys::places::text_number` meets its contract.
+-- `keys::numbers::text_number` meets its contract.
 use Rattle.keys.proofs.PlaceLaws.{digits, digitsLeft}
 use Prim.Native.Nat.{_+_, _-_, _*_, _^_, _≤_}
 use mathlib.Core.Path.{_≡_}
 use Rattle.theory.specs.Decimal.{value, valueF}
 use Rattle.keys.specs.Numbers.{digitsIn}
-use Rattle.keys.proofs.places.text_number.Statement.{statement}
-use Rattle.keys.proofs.places.text_number.Tie as tie
+use Rattle.keys.proofs.numbers.text_number.Statement.{statement}
+use Rattle.keys.proofs.numbers.text_number.Tie as tie
 
 pub text-number-spec : {M : Type 1} → statement M
 text-number-spec =
