@@ -6,6 +6,8 @@ if ! command -v rt >/dev/null; then
   echo "$0 needs the Rattle kit: its command rt is neither on PATH nor in /opt/rattle/bin" >&2
   exit 1
 fi
+# rt starts so many checks at a time and waits for all of them: twice as many as processors, so that one that takes long holds up fewer.
+export RT_JOBS=${RT_JOBS:-$((2 * $(nproc)))}
 kit=${RATTLE_HOME:-$(cd "$(dirname "$(readlink -f "$(command -v rt)")")/.." && pwd)}
 toolchain=$kit/on/$(uname -m)/toolchain
 cc=cc cxx=c++ emulator=
