@@ -1,5 +1,6 @@
 // Example nights. Standard input names folders, each with the two files of a night and, in `printed`, what the program prints for them;
 // each is run and compared byte for byte. Cases that no file of 65,536 bytes can hold, or no output of as many, are built here.
+ghost use mathlib.Core.Path.{_≡_};
 ghost use Prim.Native.Nat.{_≤_};
 ghost use lib.ListN.{length};
 use apply::apply;
@@ -61,33 +62,40 @@ fn nights(s: &[u8]) {
 }
 
 // What apply answers with an output of so many bytes of what is lent.
-fn answer(holding: &[u8], file: &[u8], out: &mut [u8], room: usize) {
-    if out.len() < room {
+fn answer(holding: &[u8], file: &[u8], out: &mut [u8], size: usize) {
+    if out.len() < size {
         return;
     }
-    say_six(apply(holding, file, &mut out[0..room]));
+    say_six(apply(holding, file, &mut out[0..size]));
     say(b"\n");
 }
 
+// Room for a holding of 8,192 lines.
+fn room() -> [u8; 500000]
+    ensures { λ r. ⌜ 500000 ≡ length r ⌝ }
+{
+    [0; 500000]
+}
+
 // The file insert.csv, which inserts street 501, into a holding.
-fn insert(holding: &[u8], room: usize) {
+fn insert(holding: &[u8], size: usize) {
     say_number(holding.len() as u64);
     say(b" bytes and an insert, an output of ");
-    say_number(room as u64);
+    say_number(size as u64);
     say(b": ");
     let mut file = [0u8; 512];
     let n = read_file(b"insert.csv", &mut file).size;
-    let mut out = [0u8; 500000];
-    answer(holding, &file[0..n], &mut out, room);
+    let mut out = room();
+    answer(holding, &file[0..n], &mut out, size);
 }
 
 // A holding of so many lines, street 500 and its cross references, with the insert and an output of so many bytes.
-fn built(count: u64, room: usize) {
-    let mut held = [0u8; 500000];
+fn built(count: u64, size: usize) {
+    let mut held = room();
     let n = put_holding(&mut held, count);
     say_number(count);
     say(b" lines of ");
-    insert(&held[0..n], room);
+    insert(&held[0..n], size);
 }
 
 // Inputs of so many zeros, as a holding and as a change file.
