@@ -118,8 +118,8 @@ length-closed a n i l m =
 
 module _ (h f a : List ℕ) (room v : ℕ) (s : State) (y : Ready h f a room s) (g : T (fine (recordOf h f v))) (j : Judged) where
   -- a step that is refused leaves everything as it was
-  pub step-refused : (o t : List ℕ) (p : Op) → Judges h f a room (change p (recordOf h f v)) s j → (j .code ≡ 0 → ⊥) → Steps h f a a o t room (change p (recordOf h f v)) s (record { code = j .code; state = s; before = v })
-  step-refused o t p q n = record { coded = q .coded; left = λ z. absurd (n z) }
+  pub step-refused : (o t : List ℕ) (p : Op) (r : Stepped) → Judges h f a room (change p (recordOf h f v)) s j → (j .code ≡ 0 → ⊥) → r ≡ record { code = j .code; state = s; before = v } → Steps h f a a o t room (change p (recordOf h f v)) s r
+  step-refused o t p r q n e = rw e (record { coded = q .coded; left = λ z. absurd (n z) })
 
   module _ (p : Op) (q : Judges h f a room (change p (recordOf h f v)) s j) (z : j .code ≡ 0) where
     passed : T (allowed p (get keyed (keyOf (recordOf h f v)) (says h f a (s .count)))) × T (passes (stepTests room) (after keyed (says h f a (s .count)) (change p (recordOf h f v))))

@@ -29,6 +29,17 @@ pub struct Stepped {
     pub before: u64,
 }
 
+// A step that changes nothing: it is refused, or of a kind that is not held.
+fn unchanged(code: u64, state: State, entry: u64) -> Stepped
+    ensures { λ r. ⌜ r ≡ record { code = code; state = state; before = entry } ⌝ }
+{
+    Stepped {
+        code,
+        state,
+        before: entry,
+    }
+}
+
 // An insert of an entry's record.
 fn insert(
     holding: &[u8],
@@ -48,11 +59,7 @@ fn insert(
     let i = judged.place;
     let size = judged.size;
     if code != 0 {
-        return Stepped {
-            code,
-            state,
-            before: entry,
-        };
+        return unchanged(code, state, entry);
     }
     let count = state.count;
     let next = count + 1;
@@ -86,11 +93,7 @@ fn update(
     let i = judged.place;
     let size = judged.size;
     if code != 0 {
-        return Stepped {
-            code,
-            state,
-            before: entry,
-        };
+        return unchanged(code, state, entry);
     }
     let count = state.count;
     let old = places[i];
@@ -132,11 +135,7 @@ fn delete(
     let i = judged.place;
     let size = judged.size;
     if code != 0 {
-        return Stepped {
-            code,
-            state,
-            before: entry,
-        };
+        return unchanged(code, state, entry);
     }
     let count = state.count;
     let gone = places[i];
@@ -163,17 +162,6 @@ fn delete(
     }
 }
 
-// A step that changes nothing.
-fn unchanged(state: State, entry: u64) -> Stepped
-    ensures { λ r. ⌜ r ≡ record { code = 0; state = state; before = entry } ⌝ }
-{
-    Stepped {
-        code: 0,
-        state,
-        before: entry,
-    }
-}
-
 // The step of the line that starts at `at` of the file; a line of a kind that is not held changes nothing.
 pub fn step(
     holding: &[u8],
@@ -193,14 +181,14 @@ pub fn step(
     let change = line.change;
     let entry = 2 * (at as u64) + 1;
     match kind {
-        Kind::Header => return unchanged(state, entry),
+        Kind::Header => return unchanged(0, state, entry),
         Kind::Street => {}
         Kind::StreetXref => {}
         Kind::Blpu => {}
         Kind::AppXref => {}
         Kind::Lpi => {}
-        Kind::Metadata => return unchanged(state, entry),
-        Kind::Trailer => return unchanged(state, entry),
+        Kind::Metadata => return unchanged(0, state, entry),
+        Kind::Trailer => return unchanged(0, state, entry),
     }
     match change {
         Change::Insert => insert(holding, file, places, tags, counts, entry, state, room),

@@ -9,6 +9,7 @@ delete-spec =
     tie.close
     (tie.spec
     (λ c κs. search deleted)  -- judge-delete-requires
+    (λ c κs. search deleted)  -- unchanged-requires
     (λ c. search deleted)  -- same-length
     (λ c. search deleted)  -- same-length-2
     (λ c. search deleted)  -- same-length-3

@@ -8,6 +8,7 @@ insert-spec =
     tie.close
     (tie.spec
     (λ c κs. search inserted)  -- judge-insert-requires
+    (λ c κs. search inserted)  -- unchanged-requires
     (λ c. search inserted)  -- same-length
     (λ c. search inserted)  -- same-length-2
     (λ c. search inserted)  -- returns

@@ -9,6 +9,7 @@ update-spec =
     tie.close
     (tie.spec
     (λ c κs. search updated)  -- judge-update-requires
+    (λ c κs. search updated)  -- unchanged-requires
     (λ c. search updated)  -- same-length
     (λ c. search updated)  -- returns
     (λ c. search updated)  -- mul-old
