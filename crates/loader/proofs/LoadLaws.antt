@@ -211,5 +211,5 @@ module _ (h f : List ℕ) (room : ℕ) (r : Held) (a o tl : List ℕ) (w : HeldI
             })
 
 -- a refusal leaves nothing
-pub load-refused : (h f b t u : List ℕ) (room c l x : ℕ) (r : Loaded) → load room h f ≡ refused c l x → (c ≡ 0 → ⊥) → r .answer ≡ answerOf (six c l x 0 0 0) → Loads h f b t u room r
-load-refused h f b t u room c l x r e n q = record { answered = q ∙ ap (λ y. answerOf (numbers y)) (sym e); taken = λ z. absurd (n (sym (ap (λ y. y .code) q) ∙ z)) }
+pub load-refused : (h f b t u : List ℕ) (room c l x : ℕ) (r : Loaded) → load room h f ≡ refused c l x → (c ≡ 0 → ⊥) → r ≡ record { answer = answerOf (six c l x 0 0 0); count = 0; steps = 0; end = 0 } → Loads h f b t u room r
+load-refused h f b t u room c l x r e n q = rw q (record { answered = ap (λ y. answerOf (numbers y)) (sym e); taken = λ z. absurd (n z) })

@@ -25,7 +25,7 @@ pub struct Loaded {
 
 // A refusal: nothing is counted.
 fn refused(code: u64, line: usize, field: usize) -> Loaded
-    ensures { λ r. ⌜ r .answer ≡ answerOf (six code line field 0 0 0) ⌝ }
+    ensures { λ r. ⌜ r ≡ record { answer = answerOf (six code line field 0 0 0); count = 0; steps = 0; end = 0 } ⌝ }
 {
     Loaded {
         answer: volume::check::refused(code, line, field),
