@@ -29,7 +29,7 @@ pub struct Stepped {
     pub before: u64,
 }
 
-// A step that changes nothing: it is refused, or of a kind that is not held.
+// A step that changes nothing, as one that is refused does.
 fn unchanged(code: u64, state: State, entry: u64) -> Stepped
     ensures { λ r. ⌜ r ≡ record { code = code; state = state; before = entry } ⌝ }
 {
@@ -162,7 +162,8 @@ fn delete(
     }
 }
 
-// The step of the line that starts at `at` of the file; a line of a kind that is not held changes nothing.
+// The step of the line that starts at `at` of the file. Its record is sound, so that its kind is held: the other kinds' arms, which change
+// nothing, are never come to.
 pub fn step(
     holding: &[u8],
     file: &[u8],
