@@ -1,13 +1,13 @@
 -- The laws of the fields of the line at an offset: by which the walks go, and how they stand to the fields that the meaning says.
 use mathlib.Core.Path.{_≡_, refl, sym, ap, _∙_}
 use mathlib.Core.Bool.{Bool, true, false, not}
-use mathlib.Core.List.{List, [], _∷_}
+use mathlib.Core.List.{List, [], _∷_, nil≢cons}
 use Prim.Native.Nat.{ℕ, zero, suc, _+_, _-_, _≤_, _<_}
 use native.Mathlib.Decide.{decLt}
 use native.Mathlib.Nat.{add-zero}
 use native.Mathlib.Omega.{arith}
 use borrow.Author.Needs.{needs}
-use borrow.Author.Tests.{not-true, not-false, eq-eqb, ne-eqb, lt-ltb, le-ltb}
+use borrow.Author.Tests.{not-true, not-false, eq-eqb, ne-eqb, eqb-true, lt-ltb, le-ltb}
 use lib.Dec.{ltb}
 use lib.ListN.{length, getD, take, drop, length-take}
 use lib.Seq.{take-take}
@@ -141,11 +141,6 @@ pub ruleset within = (needs, not-true, not-false, end-done, end-over, end-comma,
 abbrev pub afterIn : List ℕ → Bool → ℕ → ℕ → List ℕ
 afterIn s q left i = afterFields (left - 1) (afterField q (lineAt s i))
 
--- none is to be passed
-pub after-zero : (s : List ℕ) (at n : ℕ) → n ≡ 0 → lineAt s at ≡ afterFields n (lineAt s at)
-unfolding afterFields
-after-zero s at n e = rw e
-
 -- the walk begins outside quotes
 pub after-start : (s : List ℕ) (at n : ℕ) → (n ≡ 0 → ⊥) → afterIn s false n at ≡ afterFields n (lineAt s at)
 unfolding afterFields
@@ -153,43 +148,18 @@ after-start s at zero h = absurd (h refl)
 after-start s at (suc n) h = let z : suc n - 1 ≡ n = omega arith in rw z
 
 module _ (s : List ℕ) (q : Bool) (left i : ℕ) (x : List ℕ) (e : afterIn s q left i ≡ x) where
-  after-none : lineAt s i ≡ [] → lineAt s i ≡ x
-  unfolding afterField afterFields
-  after-none n = rw n (sym (nothing (left - 1)) ∙ (rw n at e))
-    where
-      nothing : (n : ℕ) → afterFields n [] ≡ []
-      nothing zero = refl
-      nothing (suc n) = nothing n
-
   after-pass : (q′ : Bool) → Passes s q q′ i → afterIn s q′ left (i + 1) ≡ x
   unfolding afterField
   after-pass q′ p = rw (p .byte, p .joins, p .turns) at e
-
-  -- at the bytes' end nothing is left
-  pub after-done : length s ≤ i → lineAt s i ≡ x
-  after-done h = after-none (line-over s i h)
 
   module _ (h : i < length s) where
     -- a byte above commas and quotes is passed
     pub after-over : 44 < getD s i 0 → afterIn s q left (i + 1) ≡ x
     after-over l = after-pass q (pass-over s q i h l)
 
-    -- a comma within quotes is
-    pub after-quoted : getD s i 0 ≡ 44 → q ≡ true → afterIn s q left (i + 1) ≡ x
-    after-quoted c t = after-pass q (pass-quoted s q i h c t)
-
     -- a quote is
     pub after-quote : getD s i 0 ≡ 34 → afterIn s (not q) left (i + 1) ≡ x
     after-quote c = after-pass (not q) (pass-quote s q i h c)
-
-    module _ (c : Bool) (p : c ≡ endsHere (drop i s)) where
-      -- at a CR LF nothing is left
-      pub after-ends : c ≡ true → lineAt s i ≡ x
-      after-ends t = after-none (line-ends s i c p t)
-
-      -- another byte is passed
-      pub after-other : (getD s i 0 ≡ 44 → ⊥) → (getD s i 0 ≡ 34 → ⊥) → c ≡ false → afterIn s q left (i + 1) ≡ x
-      after-other m n t = after-pass q (pass-other s q i h m n c p t)
 
   module _ (h : i < length s) (c : getD s i 0 ≡ 44) (t : q ≡ false) where
     -- a comma outside quotes ends a field
@@ -211,7 +181,90 @@ module _ (s : List ℕ) (q : Bool) (left i : ℕ) (x : List ℕ) (e : afterIn s 
         go zero n e = absurd (n refl)
         go (suc m) n e = let z : suc m - 1 ≡ m = omega arith in rw z e
 
-pub ruleset pasts = (needs, after-zero, after-start, after-done, after-over, after-quoted, after-quote, after-last, after-comma)
+-- ---- past a field at once
+
+-- a line is at its end, or has a byte
+line-parts : {A : Type 0} (s : List ℕ) (i : ℕ) → (lineAt s i ≡ [] → A) → (i < length s → lineAt s i ≡ getD s i 0 ∷ lineAt s (i + 1) → A) → A
+line-parts {A = A} s i f g = elim (decLt i (length s)) [ yes h ↦ go h (endsHere (drop i s)) refl | no h ↦ f (line-over s i (omega arith)) ]
+  where
+    go : i < length s → (c : Bool) → endsHere (drop i s) ≡ c → A
+    go h true e = f (line-ends s i true (sym e) refl)
+    go h false e = g h (line-cons s i h e)
+
+-- only a comma separates
+sep-is : (q : Bool) (b : ℕ) → isSep q b ≡ true → b ≡ 44
+unfolding isSep
+sep-is true b e = let z : _≡_ {A = Bool} false true = e in cc
+sep-is false b e = eqb-true b 44 e
+
+-- where a field ends stands its comma, and what comes after it, or the line ends and nothing does
+module _ (A : Type 0) (s : List ℕ) where
+  abbrev Comma : Bool → ℕ → Type 0
+  Comma q i = endIn s q i < length s → getD s (endIn s q i) 0 ≡ 44 → lineAt s (endIn s q i + 1) ≡ afterField q (lineAt s i) → A
+
+  abbrev Nothing : Bool → ℕ → Type 0
+  Nothing q i = lineAt s (endIn s q i) ≡ [] → afterField q (lineAt s i) ≡ [] → A
+
+  past-end : (q : Bool) (i : ℕ) → Nothing q i → lineAt s i ≡ [] → A
+  unfolding fieldLen afterField
+  past-end q i g e = let z : endIn s q i ≡ i = rw e (add-zero i) in g (rw z e) (rw e)
+
+  past-comma : (q : Bool) (i : ℕ) → Comma q i → i < length s → lineAt s i ≡ getD s i 0 ∷ lineAt s (i + 1) → isSep q (getD s i 0) ≡ true → A
+  unfolding fieldLen afterField
+  past-comma q i f l e c = let z : endIn s q i ≡ i = rw (e, c) (add-zero i) in f (rw z l) (rw z (sep-is q (getD s i 0) c)) (rw (z, e, c))
+
+  past : (n : ℕ) (q : Bool) (i : ℕ) → length s ≤ i + n → Comma q i → Nothing q i → A
+  unfolding fieldLen afterField
+  past zero q i h f g = past-end q i g (line-over s i (omega arith))
+  past (suc n) q i h f g = line-parts s i (past-end q i g) (λ l e. go l e (isSep q (getD s i 0)) refl (λ q′. past n q′ (i + 1) (omega arith)))
+    where
+      go : i < length s → lineAt s i ≡ getD s i 0 ∷ lineAt s (i + 1) → (c : Bool) → isSep q (getD s i 0) ≡ c → ((q′ : Bool) → Comma q′ (i + 1) → Nothing q′ (i + 1) → A) → A
+      go l e true c on = past-comma q i f l e c
+      go l e false c on =
+          let z : endIn s q i ≡ endIn s (turned q (getD s i 0)) (i + 1) = rw (e, c) (omega arith) in
+          let y : afterField q (lineAt s i) ≡ afterField (turned q (getD s i 0)) (lineAt s (i + 1)) = rw (e, c) in
+          on (turned q (getD s i 0)) (λ a b d. f (rw z a) (rw z b) (rw (z, y) d)) (λ a b. g (rw z a) (rw y b))
+
+-- ---- the walk past some fields, of which so many are left at i
+
+nothing-after : (n : ℕ) → afterFields n [] ≡ []
+unfolding afterFields afterField
+nothing-after zero = refl
+nothing-after (suc n) = nothing-after n
+
+module _ (s : List ℕ) (i left : ℕ) (x : List ℕ) (v : afterFields left (lineAt s i) ≡ x) where
+  -- none is
+  pub past-done : left ≤ 0 → lineAt s i ≡ x
+  unfolding afterFields
+  past-done z = let y : left ≡ 0 = omega arith in rw y at v
+
+  module _ (e : ℕ) (q : e ≡ i + fieldLen false (lineAt s i)) (l : 0 < left) where
+    -- one, and those after it
+    first-off : afterFields (left - 1) (afterField false (lineAt s i)) ≡ x
+    unfolding afterFields
+    first-off = go left l v
+      where
+        go : (n : ℕ) → 0 < n → afterFields n (lineAt s i) ≡ x → afterFields (n - 1) (afterField false (lineAt s i)) ≡ x
+        go zero l v = absurd (omega arith)
+        go (suc n) l v = let z : suc n - 1 ≡ n = omega arith in rw z v
+
+    -- where the line ends nothing is left
+    ended : (e < length s → getD s e 0 ≡ 44 → ⊥) → lineAt s e ≡ x
+    ended h = past _ s (length s) false i (omega arith) (λ a b d. absurd (h (rw q a) (rw q b))) (λ a b. rw q (a ∙ sym (nothing-after (left - 1)) ∙ (rw b at first-off)))
+
+    -- at the bytes' end
+    pub past-over : length s ≤ e → lineAt s e ≡ x
+    past-over h = ended (λ a b. omega arith)
+
+    -- or at a CR LF
+    pub past-ends : (getD s e 0 ≡ 44 → ⊥) → lineAt s e ≡ x
+    past-ends h = ended (λ a b. h b)
+
+    -- else a field is passed with its comma
+    pub past-turn : e < length s → getD s e 0 ≡ 44 → afterFields (left - 1) (lineAt s (e + 1)) ≡ x
+    past-turn m c = past _ s (length s) false i (omega arith) (λ a b d. rw (q, d) first-off) (λ a b. absurd (nil≢cons (sym (rw q a) ∙ line-byte s e m (λ z. omega arith))))
+
+pub ruleset pasts = (needs, past-done, past-over, past-ends, past-turn)
 
 -- three fields on the content stands
 pub content-three : (t : List ℕ) → afterFields 3 t ≡ contentOf t

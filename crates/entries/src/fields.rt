@@ -56,39 +56,18 @@ pub fn past_fields(bytes: &[u8], at: usize, count: usize) -> usize
     requires { ⌜ at ≤ length (now bytes) ⌝ }
     ensures { λ r. ⌜ (lineAt (now (bytes .entry)) r ≡ afterFields count (lineAt (now (bytes .entry)) at)) × (r ≤ length (now (bytes .entry))) ⌝ }
 {
-    if count == 0 {
-        return at;
-    }
-    let mut quoted = false;
     let mut left = count;
     let mut i = at;
-    while i < bytes.len() {
-        let b = bytes[i];
-        if 44 < b {
-            i += 1;
-            continue;
+    while 0 < left {
+        let end = field_end(bytes, i);
+        if bytes.len() <= end {
+            return end;
         }
-        if b == 44 {
-            if quoted {
-                i += 1;
-                continue;
-            }
-            i += 1;
-            left -= 1;
-            if left == 0 {
-                return i;
-            }
-            continue;
+        if bytes[end] != 44 {
+            return end;
         }
-        if b == 34 {
-            quoted = !quoted;
-            i += 1;
-            continue;
-        }
-        if ends_at(bytes, i) {
-            return i;
-        }
-        i += 1;
+        i = end + 1;
+        left -= 1;
     }
     i
 }
