@@ -7,7 +7,7 @@ use native.Mathlib.Decide.{decLt}
 use native.Mathlib.Nat.{add-zero}
 use native.Mathlib.Omega.{arith}
 use borrow.Author.Needs.{needs}
-use borrow.Author.Tests.{not-true, not-false, eq-eqb, ne-eqb, eqb-true, lt-ltb, le-ltb}
+use borrow.Author.Tests.{not-true, not-false, eq-eqb, ne-eqb, lt-ltb, le-ltb}
 use lib.Dec.{ltb}
 use lib.ListN.{length, getD, take, drop, length-take}
 use lib.Seq.{take-take}
@@ -15,6 +15,7 @@ use Rattle.base.specs.Lists.{pick}
 use Rattle.base.proofs.Walk.{at-cons, at-end}
 use Rattle.meaning.specs.Lines.{isSep, turned, fieldsFrom, fieldsOf, afterField}
 use Rattle.meaning.specs.Records.{contentOf}
+use Rattle.laws.specs.LinesAndFields.{sep-is}
 use Rattle.text.specs.Places.{endsHere, lineLen, fieldLen}
 use Rattle.text.proofs.FieldLaws.{sep-other, turn-quote, turn-other, fields-next, after-drop}
 use Rattle.text.proofs.SplitLaws.{len-le}
@@ -135,52 +136,6 @@ module _ (s : List ℕ) (q : Bool) (i x : ℕ) (e : endIn s q i ≡ x) where
 
 pub ruleset within = (needs, not-true, not-false, end-done, end-over, end-comma, end-quoted, end-quote)
 
--- ---- the walk past some fields, where quoting is q
-
--- what stands after the field at i, and after as many as are left
-abbrev pub afterIn : List ℕ → Bool → ℕ → ℕ → List ℕ
-afterIn s q left i = afterFields (left - 1) (afterField q (lineAt s i))
-
--- the walk begins outside quotes
-pub after-start : (s : List ℕ) (at n : ℕ) → (n ≡ 0 → ⊥) → afterIn s false n at ≡ afterFields n (lineAt s at)
-unfolding afterFields
-after-start s at zero h = absurd (h refl)
-after-start s at (suc n) h = let z : suc n - 1 ≡ n = omega arith in rw z
-
-module _ (s : List ℕ) (q : Bool) (left i : ℕ) (x : List ℕ) (e : afterIn s q left i ≡ x) where
-  after-pass : (q′ : Bool) → Passes s q q′ i → afterIn s q′ left (i + 1) ≡ x
-  unfolding afterField
-  after-pass q′ p = rw (p .byte, p .joins, p .turns) at e
-
-  module _ (h : i < length s) where
-    -- a byte above commas and quotes is passed
-    pub after-over : 44 < getD s i 0 → afterIn s q left (i + 1) ≡ x
-    after-over l = after-pass q (pass-over s q i h l)
-
-    -- a quote is
-    pub after-quote : getD s i 0 ≡ 34 → afterIn s (not q) left (i + 1) ≡ x
-    after-quote c = after-pass (not q) (pass-quote s q i h c)
-
-  module _ (h : i < length s) (c : getD s i 0 ≡ 44) (t : q ≡ false) where
-    -- a comma outside quotes ends a field
-    after-byte : afterFields (left - 1) (lineAt s (i + 1)) ≡ x
-    unfolding afterField isSep
-    after-byte = rw (line-byte s i h (λ z. absurd (omega arith)), t, eq-eqb (getD s i 0) 44 c) at e
-
-    -- the last
-    pub after-last : left - 1 ≡ 0 → lineAt s (i + 1) ≡ x
-    unfolding afterFields
-    after-last z = rw z at after-byte
-
-    -- or another
-    pub after-comma : (left - 1 ≡ 0 → ⊥) → afterIn s q (left - 1) (i + 1) ≡ x
-    unfolding afterFields
-    after-comma n = rw t (go (left - 1) n after-byte)
-      where
-        go : (m : ℕ) → (m ≡ 0 → ⊥) → afterFields m (lineAt s (i + 1)) ≡ x → afterFields (m - 1) (afterField false (lineAt s (i + 1))) ≡ x
-        go zero n e = absurd (n refl)
-        go (suc m) n e = let z : suc m - 1 ≡ m = omega arith in rw z e
-
 -- ---- past a field at once
 
 -- a line is at its end, or has a byte
@@ -190,12 +145,6 @@ line-parts {A = A} s i f g = elim (decLt i (length s)) [ yes h ↦ go h (endsHer
     go : i < length s → (c : Bool) → endsHere (drop i s) ≡ c → A
     go h true e = f (line-ends s i true (sym e) refl)
     go h false e = g h (line-cons s i h e)
-
--- only a comma separates
-sep-is : (q : Bool) (b : ℕ) → isSep q b ≡ true → b ≡ 44
-unfolding isSep
-sep-is true b e = let z : _≡_ {A = Bool} false true = e in cc
-sep-is false b e = eqb-true b 44 e
 
 -- where a field ends stands its comma, and what comes after it, or the line ends and nothing does
 module _ (A : Type 0) (s : List ℕ) where
@@ -211,7 +160,7 @@ module _ (A : Type 0) (s : List ℕ) where
 
   past-comma : (q : Bool) (i : ℕ) → Comma q i → i < length s → lineAt s i ≡ getD s i 0 ∷ lineAt s (i + 1) → isSep q (getD s i 0) ≡ true → A
   unfolding fieldLen afterField
-  past-comma q i f l e c = let z : endIn s q i ≡ i = rw (e, c) (add-zero i) in f (rw z l) (rw z (sep-is q (getD s i 0) c)) (rw (z, e, c))
+  past-comma q i f l e c = let z : endIn s q i ≡ i = rw (e, c) (add-zero i) in f (rw z l) (rw z (sep-is q (getD s i 0) c .0)) (rw (z, e, c))
 
   past : (n : ℕ) (q : Bool) (i : ℕ) → length s ≤ i + n → Comma q i → Nothing q i → A
   unfolding fieldLen afterField

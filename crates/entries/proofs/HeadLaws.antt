@@ -24,7 +24,7 @@ use Rattle.layout.specs.declared.kinds.KindFound.the-variants.{Known, Unknown}
 use Rattle.layout.specs.Meant.{kindMeant, kindFound}
 use Rattle.entries.specs.Entries.{known, lineAt}
 use Rattle.entries.specs.Fields.{afterFields, firstField, paired, lettered}
-use Rattle.entries.proofs.FieldLaws.{endIn, end-over, end-comma, afterIn, after-start, after-over, after-comma, after-quote, after-last, first-here}
+use Rattle.entries.proofs.FieldLaws.{endIn, end-over, end-comma, end-quote, past-turn, first-here}
 
 -- ---- a line that begins as a held one does
 
@@ -48,14 +48,16 @@ pair-told s at t =
     }
 
 -- the third ends the first field
-pub pair-end : (s : List ℕ) (at : ℕ) (b : Bool) → b ≡ paired s at → b ≡ true → take (at + 2 - at) (drop at s) ≡ firstField (lineAt s at)
-pair-end s at b p t =
-    let h = pair-told s at (subst T (sym t ∙ p) tt) in
+pair-field : (s : List ℕ) (at : ℕ) → Pair s at → at + 2 ≡ at + fieldLen false (lineAt s at)
+pair-field s at h =
     let z2 : at + 1 + 1 ≡ at + 2 = omega arith in
     let x = at + fieldLen false (lineAt s at) in
     let e1 = end-over s false at x refl (omega (arith, h .room)) (h .one) in
     let e2 : endIn s false (at + 2) ≡ x = rw z2 at (end-over s false (at + 1) x e1 (omega (arith, h .room)) (h .two)) in
-    first-here s at (at + 2) (end-comma s false (at + 2) x e2 (h .room) (h .comma) refl)
+    end-comma s false (at + 2) x e2 (h .room) (h .comma) refl
+
+pub pair-end : (s : List ℕ) (at : ℕ) (b : Bool) → b ≡ paired s at → b ≡ true → take (at + 2 - at) (drop at s) ≡ firstField (lineAt s at)
+pair-end s at b p t = first-here s at (at + 2) (pair-field s at (pair-told s at (subst T (sym t ∙ p) tt)))
 
 -- and there are bytes enough
 pub pair-room : (s : List ℕ) (at : ℕ) (b : Bool) → b ≡ paired s at → b ≡ true → at + 2 ≤ length s
@@ -74,7 +76,7 @@ pub ruleset headings = (needs, not-true, not-false, head-not, head-both)
 
 -- seven bytes on two fields are passed
 head-passed : (s : List ℕ) (at : ℕ) → T (paired s at && lettered s at) → (lineAt s (at + 7) ≡ afterFields 2 (lineAt s at)) × (at + 7 ≤ length s)
-unfolding lettered
+unfolding lettered afterFields
 head-passed s at t =
     let h = pair-told s at (and-l (paired s at) _ t) in
     let t1 = and-r (paired s at) _ t in
@@ -82,21 +84,19 @@ head-passed s at t =
     let t2 = and-r (leb 7 (length s - at)) _ t1 in
     let t3 = and-r (eqb (getD s (at + 3) 0) 34) _ t2 in
     let t4 = and-r (ltb 44 (getD s (at + 4) 0)) _ t3 in
-    let z2 : at + 1 + 1 ≡ at + 2 = omega arith in
     let z3 : at + 2 + 1 ≡ at + 3 = omega arith in
     let z4 : at + 3 + 1 ≡ at + 4 = omega arith in
     let z5 : at + 4 + 1 ≡ at + 5 = omega arith in
     let z6 : at + 5 + 1 ≡ at + 6 = omega arith in
     let z7 : at + 6 + 1 ≡ at + 7 = omega arith in
     let x = afterFields 2 (lineAt s at) in
-    let e0 = after-start s at 2 (λ z. absurd (omega arith)) in
-    let e1 = after-over s false 2 at x e0 (omega arith) (h .one) in
-    let e2 : afterIn s false 2 (at + 2) ≡ x = rw z2 at (after-over s false 2 (at + 1) x e1 (omega arith) (h .two)) in
-    let e3 : afterIn s false 1 (at + 3) ≡ x = rw z3 at (after-comma s false 2 (at + 2) x e2 (omega arith) (h .comma) refl (λ z. absurd (omega arith))) in
-    let e4 : afterIn s true 1 (at + 4) ≡ x = rw z4 at (after-quote s false 1 (at + 3) x e3 (omega arith) (eqb→eq (getD s (at + 3) 0) 34 (and-l (eqb (getD s (at + 3) 0) 34) _ t2))) in
-    let e5 : afterIn s true 1 (at + 5) ≡ x = rw z5 at (after-over s true 1 (at + 4) x e4 (omega arith) (leb→le 45 (getD s (at + 4) 0) (and-l (ltb 44 (getD s (at + 4) 0)) _ t3))) in
-    let e6 : afterIn s false 1 (at + 6) ≡ x = rw z6 at (after-quote s true 1 (at + 5) x e5 (omega arith) (eqb→eq (getD s (at + 5) 0) 34 (and-l (eqb (getD s (at + 5) 0) 34) _ t4))) in
-    (rw z7 at (after-last s false 1 (at + 6) x e6 (omega arith) (eqb→eq (getD s (at + 6) 0) 44 (and-r (eqb (getD s (at + 5) 0) 34) _ t4)) refl refl), omega arith)
+    let one : afterFields 1 (lineAt s (at + 3)) ≡ x = rw z3 at (past-turn s at 2 x refl (at + 2) (pair-field s at h) (omega arith) (h .room) (h .comma)) in
+    let y = at + 3 + fieldLen false (lineAt s (at + 3)) in
+    let e4 : endIn s true (at + 4) ≡ y = rw z4 at (end-quote s false (at + 3) y refl (omega arith) (eqb→eq (getD s (at + 3) 0) 34 (and-l (eqb (getD s (at + 3) 0) 34) _ t2))) in
+    let e5 : endIn s true (at + 5) ≡ y = rw z5 at (end-over s true (at + 4) y e4 (omega arith) (leb→le 45 (getD s (at + 4) 0) (and-l (ltb 44 (getD s (at + 4) 0)) _ t3))) in
+    let e6 : endIn s false (at + 6) ≡ y = rw z6 at (end-quote s true (at + 5) y e5 (omega arith) (eqb→eq (getD s (at + 5) 0) 34 (and-l (eqb (getD s (at + 5) 0) 34) _ t4))) in
+    let c = eqb→eq (getD s (at + 6) 0) 44 (and-r (eqb (getD s (at + 5) 0) 34) _ t4) in
+    (rw z7 at (past-turn s (at + 3) 1 x one (at + 6) (end-comma s false (at + 6) y e6 (omega arith) c refl) (omega arith) (omega arith) c), omega arith)
 
 -- so one more is passed from there
 pub head-content : (s : List ℕ) (at r : ℕ) (b : Bool) → b ≡ (paired s at && lettered s at) → b ≡ true → lineAt s r ≡ afterFields 1 (lineAt s (at + 7)) → lineAt s r ≡ afterFields 3 (lineAt s at)

@@ -153,7 +153,8 @@ PartsAt l a e (f ∷ (g ∷ fs)) = (l ≡ f ++ (44 ∷ a)) × (fieldsFrom false 
 abbrev Parts : Bool → List ℕ → List (List ℕ) → Type 0
 Parts q l fs = PartsAt l (afterField q l) (quoteAfter q l) fs
 
-sep-is : (q : Bool) (x : ℕ) → isSep q x ≡ true → (x ≡ 44) × (turned q x ≡ false)
+-- only a comma separates, and outside quotes
+pub sep-is : (q : Bool) (x : ℕ) → isSep q x ≡ true → (x ≡ 44) × (turned q x ≡ false)
 unfolding isSep turned
 sep-is true x e = absurd (subst T (sym e) tt)
 sep-is false x e = let h : x ≡ 44 = eqb→eq x 44 (subst T (sym e) tt) in (h, rw h)
