@@ -1,0 +1,9 @@
+pub mod Loads1
+pub mod Loads2
+pub mod Loads3
+pub mod Loads4
+pub mod Loads5
+pub mod Loads6
+pub mod Loads7
+pub mod Loads8
+pub mod Loads9

@@ -1,0 +1,1 @@
+// What an independent reference answered, computed from the meaning as in `cases`: sound and unsound holdings, steps, room, and undos.
