@@ -6,8 +6,15 @@ if ! command -v rt >/dev/null; then
   echo "$0 needs the Rattle kit: its command rt is neither on PATH nor in /opt/rattle/bin" >&2
   exit 1
 fi
-# rt starts so many checks at a time and waits for all of them: twice as many as processors, so that one that takes long holds up fewer.
-export RT_JOBS=${RT_JOBS:-$((2 * $(nproc)))}
+# rt starts so many checks at a time and waits for all of them: twice as many as processors, so that one that takes long holds up fewer, as
+# far as each has 2 GiB of memory.
+export RT_JOBS=${RT_JOBS:-$(awk -v most=$((2 * $(nproc))) '/^MemAvailable:/ { n = int($2 / 2 ^ 21); print (n > most ? most : n > 1 ? n : 1) }' /proc/meminfo)}
+# A check hands the prover some 5,000 small files in the folder for temporary files: in memory, where that has room and may run programs,
+# they cost a third as much.
+if [ -z "${TMPDIR:-}" ] && [ -w /dev/shm ] && ! grep -q '^[^ ]* /dev/shm [^ ]* [^ ]*noexec' /proc/mounts &&
+  [ "$(df -Pk /dev/shm | awk 'END { print int($4 / 2 ^ 20) }')" -ge "$RT_JOBS" ]; then
+  export TMPDIR=/dev/shm
+fi
 kit=${RATTLE_HOME:-$(cd "$(dirname "$(readlink -f "$(command -v rt)")")/.." && pwd)}
 toolchain=$kit/on/$(uname -m)/toolchain
 cc=cc cxx=c++ emulator=
