@@ -3,7 +3,7 @@
 // byte with the one that stood there going forward. The undo of paper 01's worked example is printed whole.
 use apply::apply;
 use night::input::read_file;
-use program::bare::bare_length;
+use printed::bare::bare_length;
 use samples::put_text;
 use spoken::say;
 use spoken::say_six;

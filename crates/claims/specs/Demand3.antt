@@ -24,8 +24,8 @@ use Rattle.volume.specs.Answer.{answerOf}
 use Rattle.volume.specs.declared.check.Answer.{Answer}
 use Rattle.apply.specs.Outcome.{Outcome}
 use Rattle.undo.specs.Outcome.{UndoOutcome}
-use Rattle.program.specs.Printed.{bare}
-use Rattle.program.proofs.BareLaws.{bare-zeros, bare-joined}
+use Rattle.printed.specs.Printed.{bare}
+use Rattle.printed.proofs.BareLaws.{bare-zeros, bare-joined}
 use Rattle.claims.specs.Demand2.{taken-only, new-holding}
 
 -- ---- nights and their undos

@@ -15,7 +15,7 @@ use Rattle.holding.specs.declared.check.Verdict.{Verdict}
 use Rattle.enquiries.specs.Handed.{Handed, lentAs, HandedOf}
 use Rattle.apply.specs.Outcome.{Outcome}
 use Rattle.undo.specs.Outcome.{UndoOutcome}
-use Rattle.program.specs.Printed.{PrintOutcome}
+use Rattle.program.specs.Outcome.{PrintOutcome}
 
 -- check a file
 pub check-file-once : (file : List ℕ) (r s : Answer) → r ≡ answerOf (checkFile file) → s ≡ answerOf (checkFile file) → r ≡ s

@@ -13,7 +13,7 @@ use Rattle.volume.specs.Answer.{answerOf}
 use Rattle.volume.specs.declared.check.Answer.{Answer}
 use Rattle.apply.specs.Outcome.{Outcome}
 use Rattle.undo.specs.Outcome.{UndoOutcome}
-use Rattle.program.specs.Printed.{PrintOutcome}
+use Rattle.program.specs.Outcome.{PrintOutcome}
 
 -- the lines marked [p]: each is answered as the paper says
 pub p-table : T (all (λ c. eqb (c .answer) (c .wanted)) claims)

@@ -1,7 +1,7 @@
 -- The laws of an output: the result in front, then zeros to its end.
 use mathlib.Core.Path.{_≡_, sym, ap, _∙_}
 use mathlib.Core.List.{List, _++_, append-nil}
-use Prim.Native.Nat.{ℕ, _+_, _-_, _≤_}
+use Prim.Native.Nat.{ℕ, _-_, _≤_}
 use native.Mathlib.Omega.{arith}
 use borrow.Author.Needs.{needs}
 use borrow.Rule.Slice.PartMut.{putMid}
@@ -10,7 +10,7 @@ use Rattle.base.specs.Lists.{zeros}
 use Rattle.base.specs.ListLaws.{length-zeros}
 use Rattle.meaning.specs.Load.{filled}
 use Rattle.text.specs.Front.{inFront}
-use Rattle.text.proofs.PutLaws.{front-then}
+use Rattle.text.proofs.FrontLaws.{front-then}
 
 -- what is as long as the whole leaves nothing of it
 all-front : (w old : List ℕ) → length old ≤ length w → inFront w old ≡ w

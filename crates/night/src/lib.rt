@@ -5,8 +5,8 @@
 ghost use Prim.Native.Nat.{_≤_};
 ghost use lib.ListN.{length};
 use crate::input::read_file;
-use program::print::MOST;
-use program::print::print;
+use program::MOST;
+use program::print;
 
 pub mod input; // a file's bytes
 

@@ -1,3 +1,1 @@
-pub mod SixLaws
-pub mod BareLaws
 pub mod PrintLaws

@@ -2,7 +2,7 @@
 use mathlib.Core.Path.{_≡_, ap, _∙_}
 use mathlib.Core.Bool.{Bool, true, false, false≢true}
 use mathlib.Core.List.{List, [], _++_, append-nil}
-use Prim.Native.Nat.{ℕ, _+_, _-_, _≤_}
+use Prim.Native.Nat.{ℕ, _+_, _-_}
 use native.Mathlib.Omega.{arith}
 use borrow.Author.Needs.{needs}
 use borrow.Rule.Slice.PartMut.{putMid}
@@ -13,12 +13,13 @@ use Rattle.meaning.specs.Load.{six, load, applied, apply, filled}
 use Rattle.meaning.specs.Program.{printSix, printLoad, program, programRoom, unusable}
 use Rattle.laws.specs.Takes.{TookSays, took-takes}
 use Rattle.text.specs.Front.{inFront}
-use Rattle.text.proofs.PutLaws.{front-then}
+use Rattle.text.proofs.FrontLaws.{front-then}
 use Rattle.volume.specs.Answer.{answerOf}
 use Rattle.volume.specs.declared.check.Answer.{Answer as Numbers}
 use Rattle.apply.specs.Outcome.{Outcome}
-use Rattle.program.specs.Printed.{inputOf, sixOf, bare}
-use Rattle.program.proofs.BareLaws.{bare-zeros, bare-joined}
+use Rattle.printed.specs.Printed.{sixOf, bare}
+use Rattle.printed.proofs.BareLaws.{bare-zeros, bare-joined}
+use Rattle.program.specs.Outcome.{inputOf}
 
 -- a new holding stays whole
 bare-written : (room : ℕ) (old b new : List ℕ) (i u d : ℕ) → TookSays room old b (took new i u d) → bare new ≡ new

@@ -1,2 +1,2 @@
-pub mod Printed
+pub mod Outcome
 pub mod Cut

@@ -1,7 +1,74 @@
-// What the program that runs apply prints.
+// What the program that runs apply prints: 18, or what apply answers and, on 0, the new holding.
 //
 // No contract can say which bytes a call of C reads or writes, so the work is done on slices: `print` leaves in a buffer exactly what
 // the meaning's `program` says. The crate `night` reads the two files and calls it, and a program writes what it left.
-pub mod numbers; // the six numbers as text
-pub mod bare; // an output without the zeros at its end
-pub mod print; // what is printed
+ghost use mathlib.Core.Path.{_≡_};
+ghost use Prim.Native.Nat.{_≤_};
+ghost use lib.ListN.{length};
+ghost use Rattle.meaning.specs.Load.{six, load};
+ghost use Rattle.meaning.specs.Program.{unusable, printSix, printLoad, programRoom};
+ghost use Rattle.text.specs.Front.{inFront};
+ghost use Rattle.program.specs.Outcome.{inputOf, PrintOutcome};
+use apply::apply;
+use printed::bare::bare_length;
+use printed::numbers::put_six;
+use text::put;
+use volume::check::refused;
+
+// The most bytes of an input, and the bytes of the output that apply is given.
+pub const ROOM: usize = 65536;
+
+// The most bytes that are printed: six numbers of 20 digits with their commas and CR LF, and a holding.
+pub const MOST: usize = 65663;
+
+// An input that couldn't be read, or is over 65,536 bytes.
+fn is_unusable(readable: bool, s: &[u8]) -> bool
+    ensures { λ r. ⌜ r ≡ unusable (inputOf readable (now (s .entry))) ⌝ }
+{
+    if readable {
+        return ROOM < s.len();
+    }
+    true
+}
+
+// 18, which comes first of all.
+fn print_unusable(printed: &mut [u8]) -> usize
+    requires { ⌜ 65663 ≤ length (now printed) ⌝ }
+    ensures { λ r. ⌜ (r ≡ length (printSix (six 18 0 0 0 0 0))) × (r ≤ 65663) × (now (printed .exit) ≡ inFront (printSix (six 18 0 0 0 0 0)) (now (printed .entry))) ⌝ }
+{
+    put_six(&mut *printed, refused(18, 0, 0))
+}
+
+// The numbers of apply, and what stands in its output before the zeros: after a refusal that is nothing.
+fn print_load(holding: &[u8], change: &[u8], printed: &mut [u8]) -> usize
+    requires { ⌜ 65663 ≤ length (now printed) ⌝ }
+    ensures { λ r. ⌜ (r ≡ length (printLoad (load programRoom (now (holding .entry)) (now (change .entry))))) × (r ≤ 65663)
+        × (now (printed .exit) ≡ inFront (printLoad (load programRoom (now (holding .entry)) (now (change .entry)))) (now (printed .entry))) ⌝ }
+{
+    let mut out = [0u8; ROOM];
+    let answer = apply(holding, change, &mut out);
+    let at = put_six(&mut *printed, answer);
+    let size = bare_length(&out);
+    at + put::bytes(&mut printed[at..], &out[0..size])
+}
+
+// What the program prints, into the front of a buffer that any of it fits: `held` and `sent` tell whether the holding and the change
+// could be read.
+pub fn print(
+    held: bool,
+    holding: &[u8],
+    sent: bool,
+    change: &[u8],
+    printed: &mut [u8; MOST],
+) -> usize
+    ensures { λ r. ⌜ r ≤ length (now (printed .exit)) ⌝ }
+    ensures { λ r. ⌜ PrintOutcome held (now (holding .entry)) sent (now (change .entry)) (now (printed .entry)) r (now (printed .exit)) ⌝ }
+{
+    if is_unusable(held, holding) {
+        return print_unusable(printed);
+    }
+    if is_unusable(sent, change) {
+        return print_unusable(printed);
+    }
+    print_load(holding, change, printed)
+}

@@ -4,4 +4,5 @@ pub mod SplitLaws
 pub mod SeekLaws
 pub mod NumberLaws
 pub mod OrderLaws
+pub mod FrontLaws
 pub mod PutLaws

@@ -1,46 +1,19 @@
 -- The laws of writing.
 use mathlib.Core.Path.{_≡_, refl, ap, _∙_}
-use mathlib.Core.List.{List, [], _∷_, _++_, append-assoc, append-nil}
+use mathlib.Core.List.{List, [], _∷_, _++_, append-nil}
 use Prim.Native.Nat.{ℕ, zero, suc, _+_, _-_, _/_, _%_, _≤_, _<_}
 use native.Mathlib.Numerals.{add-one}
 use native.Mathlib.Omega.{arith}
 use borrow.Author.Needs.{needs}
-use borrow.Rule.Slice.PartMut.{putMid}
-use lib.ListN.{length, getD, take, drop, set, length-set, length-append, length-drop}
-use lib.Seq.{drop-set-lt, getD-set-same, drop-cons, take-suc, set-at, append-snoc, take-all, length-take-le, drop-drop, drop-at, take-at}
+use lib.ListN.{length, getD, take, drop, set, length-set}
+use lib.Seq.{drop-set-lt, getD-set-same, drop-cons, take-suc, append-snoc, take-all, length-take-le}
 use Rattle.base.specs.Lists.{zeros}
 use Rattle.base.specs.ListLaws.{length-zeros}
 use Rattle.base.proofs.Walk.{at-end}
 use Rattle.theory.specs.Decimal.{digits, dec, width}
 use Rattle.theory.specs.DecimalLaws.{length-dec}
 use Rattle.text.specs.Front.{inFront}
-
--- ---- what stands in front
-
--- nothing is written yet
-pub front-none : (old : List ℕ) → old ≡ inFront [] old
-unfolding inFront
-front-none old = refl
-
--- one element more behind what is written
-pub front-more : (w old new : List ℕ) (i v : ℕ) → length w ≡ i → i < length old → new ≡ inFront w old → set new i v ≡ inFront (w ++ v ∷ []) old
-unfolding inFront
-front-more w old new i v q h e =
-    let d : drop (length w) old ≡ getD old i 0 ∷ drop (suc i) old = rw q (drop-cons old i 0 h) in
-    let n : length (w ++ v ∷ []) ≡ suc i = omega (arith, length-append w (v ∷ [])) in
-    rw (e, d, set-at w (getD old i 0) (drop (suc i) old) v i q, n, append-snoc)
-
--- a tail that was lent from the end of a on came back with b in its front
-pub front-then :
-    (a b old new last : List ℕ) (n : ℕ) →
-    n ≡ length a → new ≡ inFront a old → last ≡ inFront b (take (length new - n) (drop n new)) → putMid n (length new - n) new last ≡ inFront (a ++ b) old
-unfolding inFront
-front-then a b old new last n p q w =
-    let tail : drop n new ≡ drop (length a) old = rw (q, p) (drop-at a (drop (length a) old) (length a) refl) in
-    let front : take n new ≡ a = rw (q, p) (take-at a (drop (length a) old) (length a) refl) in
-    let whole : take (length new - n) (drop n new) ≡ drop n new = take-all (length new - n) (drop n new) (rw (length-drop n new) (omega arith)) in
-    let after : drop (length new - n) (drop n new) ≡ [] = at-end (drop n new) (length new - n) (rw (length-drop n new) (omega arith)) in
-    rw (w, whole, front, after, tail, drop-drop (length b) (length a) old, append-nil, length-append a b, append-assoc)
+use Rattle.text.proofs.FrontLaws.{front-none, front-more}
 
 -- a store keeps the length
 pub set-same : (new : List ℕ) (i v n : ℕ) → length new ≡ n → length (set new i v) ≡ n

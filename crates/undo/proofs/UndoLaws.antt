@@ -24,8 +24,7 @@ use Rattle.places.specs.Places.{says}
 use Rattle.volume.specs.declared.check.Answer.{Answer as Six′}
 use Rattle.volume.specs.Answer.{answerOf}
 use Rattle.writer.specs.Runs.{backTexts, FitsBack}
-use Rattle.writer.proofs.LineLaws.{front-same, front-room, front-last, last-room}
-use Rattle.text.proofs.PutLaws.{front-then}
+use Rattle.text.proofs.FrontLaws.{front-same, front-then, front-room, front-last, last-room}
 use Rattle.loader.specs.declared.load.Loaded.{Loaded}
 use Rattle.loader.specs.Loaded.{numbers, undoText, Loads}
 use Rattle.undo.specs.Lent.{FitsUndo, Lent}

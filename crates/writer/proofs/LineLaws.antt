@@ -6,8 +6,7 @@ use native.Mathlib.Omega.{arith}
 use borrow.Author.Needs.{needs}
 use borrow.Rule.Slice.PartMut.{putMid}
 use lib.Dec.{eqb, eqb→eq}
-use lib.ListN.{length, take, drop, length-append, length-drop}
-use lib.Seq.{length-take-le}
+use lib.ListN.{length, take, drop, length-append}
 use Rattle.base.specs.Lists.{same, bytes}
 use Rattle.base.specs.ListLaws.{same-eq}
 use Rattle.theory.specs.Step.{Op, ins, upd, del}
@@ -17,39 +16,10 @@ use Rattle.meaning.specs.Table.{Kind, kinds, ident}
 use Rattle.meaning.specs.Records.{letter, changeText}
 use Rattle.laws.specs.Kinds.{every}
 use Rattle.text.specs.Front.{inFront}
-use Rattle.text.proofs.PutLaws.{front-then}
+use Rattle.text.proofs.FrontLaws.{front-then, front-room, front-last, last-room}
 use Rattle.layout.specs.declared.records.Layout.{Layout}
 use Rattle.layout.specs.Rows.{laidOut}
 use Rattle.writer.specs.Lines.{lineFront, lineBack, lineBytes}
-
--- ---- writers one after another
-
--- a writer keeps the length
-pub front-same : (w old new : List ℕ) → length w ≤ length old → new ≡ inFront w old → length new ≡ length old
-unfolding inFront
-front-same w old new l e = ap length e ∙ length-append w (drop (length w) old) ∙ omega (arith, length-drop (length w) old)
-
--- the tail after w has the room that is left
-pub front-room : (w old new : List ℕ) (n m : ℕ) → n ≡ length w → new ≡ inFront w old → n + m ≤ length old → m ≤ length (take (length new - n) (drop n new))
-front-room w old new n m p e l =
-    let s : length new ≡ length old = front-same w old new (omega arith) e in
-    rw (length-take-le (length new - n) (drop n new) (omega (arith, length-drop n new))) (omega arith)
-
-module _ (a b c old new last end : List ℕ) (n m : ℕ) (p : n ≡ length a) (q : new ≡ inFront a old) (r : m ≡ length b)
-    (u : last ≡ inFront b (take (length new - n) (drop n new))) where
-  -- three writers, each lent the tail that the one before it left
-  pub front-last :
-      end ≡ inFront c (take (length (putMid n (length new - n) new last) - (n + m)) (drop (n + m) (putMid n (length new - n) new last)))
-      → putMid (n + m) (length (putMid n (length new - n) new last) - (n + m)) (putMid n (length new - n) new last) end ≡ inFront (a ++ (b ++ c)) old
-  front-last w =
-      let l : n + m ≡ length (a ++ b) = omega (arith, length-append a b) in
-      front-then (a ++ b) c old (putMid n (length new - n) new last) end (n + m) l (front-then a b old new last n p q u) w ∙ rw append-assoc
-
-  -- the third has the room that the first two leave
-  pub last-room : (k : ℕ) → n + m + k ≤ length old → k ≤ length (take (length (putMid n (length new - n) new last) - (n + m)) (drop (n + m) (putMid n (length new - n) new last)))
-  last-room k h =
-      let l : n + m ≡ length (a ++ b) = omega (arith, length-append a b) in
-      front-room (a ++ b) old (putMid n (length new - n) new last) (n + m) k l (front-then a b old new last n p q u) h
 
 -- ---- the parts of a line
 

@@ -14,14 +14,13 @@ use Rattle.theory.specs.Step.{Op, ins, inv, Change}
 use Rattle.theory.specs.Run.{inserts}
 use Rattle.meaning.specs.Records.{Rec, changeText, changeTexts, joined}
 use Rattle.text.specs.Front.{inFront}
-use Rattle.text.proofs.PutLaws.{front-none, front-then}
+use Rattle.text.proofs.FrontLaws.{front-none, front-same, front-then, front-room}
 use Rattle.entries.specs.Entries.{recordOf}
 use Rattle.places.specs.Places.{says}
 use Rattle.places.specs.Changes.{opAt, stepsBack}
 use Rattle.places.proofs.SaysLaws.{length-says, says-at}
 use Rattle.places.proofs.BackLaws.{length-back}
 use Rattle.writer.specs.Lines.{lineBytes}
-use Rattle.writer.proofs.LineLaws.{front-same, front-room}
 
 -- ---- changes, the first i of them written
 

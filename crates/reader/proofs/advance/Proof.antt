@@ -1,4 +1,4 @@
--- `reader::next` meets its contract: a walk of its MIR, by hand. The struct is taken apart, and `past_line` is called on the slice and the number. All that the proof knows of `past_line` is that it meets its contract.
+-- `reader::advance` meets its contract: a walk of its MIR, by hand. The struct is taken apart, and `past_line` is called on the slice and the number. All that the proof knows of `past_line` is that it meets its contract.
 -- The struct is Copy: what it owns is had twice, one copy is kept whole for the exit, and of the other what file owns goes to the callee, beside the lifetime's token, which comes back.
 -- Assumes nothing.
 use mathlib.Core.Path.{_≡_, refl, ap}

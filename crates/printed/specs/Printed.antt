@@ -1,25 +1,9 @@
--- The words in which the code says what is printed.
-use mathlib.Core.Path.{_≡_}
-use mathlib.Core.Bool.{Bool, true, false}
-use mathlib.Core.Option.{Option, none, some}
+-- The words in which the code says what is printed of an answer and an output.
 use mathlib.Core.List.{List, [], _∷_, _++_}
 use Prim.Native.Nat.{ℕ, zero, suc}
-use lib.ListN.{length}
 use Rattle.theory.specs.Decimal.{dec}
 use Rattle.meaning.specs.Load.{Six, six}
-use Rattle.meaning.specs.Program.{program}
-use Rattle.text.specs.Front.{inFront}
 use Rattle.volume.specs.declared.check.Answer.{Answer}
-
--- an input that was read, or could not be
-abbrev pub inputOf : Bool → List ℕ → Option (List ℕ)
-inputOf true b = some b
-inputOf false b = none
-
--- what print promises: how many bytes it left in the front of its buffer, and the buffer afterwards
-abbrev pub PrintOutcome : Bool → List ℕ → Bool → List ℕ → List ℕ → ℕ → List ℕ → Type 0
-PrintOutcome held holding sent change before n printed =
-    (n ≡ length (program (inputOf held holding) (inputOf sent change))) × (printed ≡ inFront (program (inputOf held holding) (inputOf sent change)) before)
 
 -- the numbers that the code answers, number by number
 abbrev pub sixOf : Answer → Six

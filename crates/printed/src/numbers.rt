@@ -4,7 +4,7 @@ ghost use Prim.Native.Nat.{_+_, _≤_};
 ghost use lib.ListN.{length};
 ghost use Rattle.meaning.specs.Program.{printSix};
 ghost use Rattle.text.specs.Front.{inFront};
-ghost use Rattle.program.specs.Printed.{numberThen, threeThen, sixOf};
+ghost use Rattle.printed.specs.Printed.{numberThen, threeThen, sixOf};
 use text::put;
 use volume::check::Answer;
 

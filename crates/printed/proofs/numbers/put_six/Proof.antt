@@ -1,7 +1,7 @@
--- `program::numbers::put_six` meets its contract.
-use Rattle.program.proofs.SixLaws.{sixfold}
-use Rattle.program.proofs.numbers.put_six.Statement.{statement}
-use Rattle.program.proofs.numbers.put_six.Tie as tie
+-- `printed::numbers::put_six` meets its contract.
+use Rattle.printed.proofs.SixLaws.{sixfold}
+use Rattle.printed.proofs.numbers.put_six.Statement.{statement}
+use Rattle.printed.proofs.numbers.put_six.Tie as tie
 
 pub put-six-spec : {M : Type 1} → statement M
 put-six-spec =

@@ -1,14 +1,14 @@
 -- The laws of what stands before the zeros at the end.
 use mathlib.Core.Path.{_≡_, refl, sym, ap, _∙_}
 use mathlib.Core.List.{List, [], _∷_, _++_, append-assoc, append-nil}
-use Prim.Native.Nat.{ℕ, zero, suc, _+_, _-_, _≤_, _<_}
+use Prim.Native.Nat.{ℕ, zero, suc, _-_, _≤_, _<_}
 use native.Mathlib.Omega.{arith}
 use borrow.Author.Needs.{needs}
 use lib.ListN.{length, getD, take}
 use lib.Seq.{take-suc, take-all}
 use Rattle.base.specs.Lists.{zeros}
 use Rattle.meaning.specs.Records.{joined}
-use Rattle.program.specs.Printed.{onBare, bare}
+use Rattle.printed.specs.Printed.{onBare, bare}
 
 -- a zero at the end doesn't count
 bare-zero : (s : List ℕ) → bare (s ++ 0 ∷ []) ≡ bare s

@@ -1,10 +1,10 @@
--- `program::print::print` meets its contract.
+-- `program::print` meets its contract.
 use borrow.Author.Needs.{needs}
 use mathlib.Core.Path.{sym, _∙_}
 use Rattle.program.specs.Cut.{first-18, second-18}
 use Rattle.program.proofs.PrintLaws.{both-usable, print-all}
-use Rattle.program.proofs.print.print.Statement.{statement}
-use Rattle.program.proofs.print.print.Tie as tie
+use Rattle.program.proofs.print.Statement.{statement}
+use Rattle.program.proofs.print.Tie as tie
 
 pub print-spec : {M : Type 1} → statement M
 print-spec =

@@ -1,7 +1,7 @@
--- `program::print::print_load` meets its contract.
+-- `program::print_load` meets its contract.
 use Rattle.program.proofs.PrintLaws.{loading}
-use Rattle.program.proofs.print.print_load.Statement.{statement}
-use Rattle.program.proofs.print.print_load.Tie as tie
+use Rattle.program.proofs.print_load.Statement.{statement}
+use Rattle.program.proofs.print_load.Tie as tie
 
 pub print-load-spec : {M : Type 1} → statement M
 print-load-spec =

@@ -13,10 +13,9 @@ use Rattle.theory.specs.DecimalLaws.{length-dec}
 use Rattle.meaning.specs.Load.{six}
 use Rattle.meaning.specs.Program.{printSix}
 use Rattle.text.specs.Front.{inFront}
-use Rattle.text.proofs.PutLaws.{front-then}
+use Rattle.text.proofs.FrontLaws.{front-same, front-then, front-room, front-last, last-room}
 use Rattle.text.proofs.NumberLaws.{width-most}
-use Rattle.writer.proofs.LineLaws.{front-same, front-room, front-last, last-room}
-use Rattle.program.specs.Printed.{numberThen, threeThen}
+use Rattle.printed.specs.Printed.{numberThen, threeThen}
 
 -- ---- a number, and what stands after it
 

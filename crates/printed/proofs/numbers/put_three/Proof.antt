@@ -1,7 +1,7 @@
--- `program::numbers::put_three` meets its contract.
-use Rattle.program.proofs.SixLaws.{threefold}
-use Rattle.program.proofs.numbers.put_three.Statement.{statement}
-use Rattle.program.proofs.numbers.put_three.Tie as tie
+-- `printed::numbers::put_three` meets its contract.
+use Rattle.printed.proofs.SixLaws.{threefold}
+use Rattle.printed.proofs.numbers.put_three.Statement.{statement}
+use Rattle.printed.proofs.numbers.put_three.Tie as tie
 
 pub put-three-spec : {M : Type 1} → statement M
 put-three-spec =

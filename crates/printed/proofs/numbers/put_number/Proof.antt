@@ -1,7 +1,7 @@
--- `program::numbers::put_number` meets its contract.
-use Rattle.program.proofs.SixLaws.{numbered}
-use Rattle.program.proofs.numbers.put_number.Statement.{statement}
-use Rattle.program.proofs.numbers.put_number.Tie as tie
+-- `printed::numbers::put_number` meets its contract.
+use Rattle.printed.proofs.SixLaws.{numbered}
+use Rattle.printed.proofs.numbers.put_number.Statement.{statement}
+use Rattle.printed.proofs.numbers.put_number.Tie as tie
 
 pub put-number-spec : {M : Type 1} → statement M
 put-number-spec =

@@ -1,7 +1,7 @@
--- `program::print::is_unusable` meets its contract.
+-- `program::is_unusable` meets its contract.
 use Rattle.meaning.specs.Program.{unusable}
-use Rattle.program.proofs.print.is_unusable.Statement.{statement}
-use Rattle.program.proofs.print.is_unusable.Tie as tie
+use Rattle.program.proofs.is_unusable.Statement.{statement}
+use Rattle.program.proofs.is_unusable.Tie as tie
 
 pub is-unusable-spec : {M : Type 1} → statement M
 unfolding unusable

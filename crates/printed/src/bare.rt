@@ -2,7 +2,7 @@
 ghost use mathlib.Core.Path.{_≡_};
 ghost use Prim.Native.Nat.{_≤_};
 ghost use lib.ListN.{length, take};
-ghost use Rattle.program.specs.Printed.{bare};
+ghost use Rattle.printed.specs.Printed.{bare};
 
 // How many bytes stand before them.
 pub fn bare_length(s: &[u8]) -> usize

@@ -1,11 +1,11 @@
--- `program::bare::bare_length` meets its contract.
-use Rattle.program.proofs.BareLaws.{baring}
+-- `printed::bare::bare_length` meets its contract.
+use Rattle.printed.proofs.BareLaws.{baring}
 use mathlib.Core.Path.{_≡_}
 use Prim.Native.Nat.{_≤_}
 use lib.ListN.{length, take}
-use Rattle.program.specs.Printed.{bare}
-use Rattle.program.proofs.bare.bare_length.Statement.{statement}
-use Rattle.program.proofs.bare.bare_length.Tie as tie
+use Rattle.printed.specs.Printed.{bare}
+use Rattle.printed.proofs.bare.bare_length.Statement.{statement}
+use Rattle.printed.proofs.bare.bare_length.Tie as tie
 
 pub bare-length-spec : {M : Type 1} → statement M
 bare-length-spec =

@@ -1,0 +1,2 @@
+pub mod SixLaws
+pub mod BareLaws

@@ -1,0 +1,19 @@
+-- What print promises.
+use mathlib.Core.Path.{_≡_}
+use mathlib.Core.Bool.{Bool, true, false}
+use mathlib.Core.Option.{Option, none, some}
+use mathlib.Core.List.{List}
+use Prim.Native.Nat.{ℕ}
+use lib.ListN.{length}
+use Rattle.meaning.specs.Program.{program}
+use Rattle.text.specs.Front.{inFront}
+
+-- an input that was read, or could not be
+abbrev pub inputOf : Bool → List ℕ → Option (List ℕ)
+inputOf true b = some b
+inputOf false b = none
+
+-- how many bytes it left in the front of its buffer, and the buffer afterwards
+abbrev pub PrintOutcome : Bool → List ℕ → Bool → List ℕ → List ℕ → ℕ → List ℕ → Type 0
+PrintOutcome held holding sent change before n printed =
+    (n ≡ length (program (inputOf held holding) (inputOf sent change))) × (printed ≡ inFront (program (inputOf held holding) (inputOf sent change)) before)
