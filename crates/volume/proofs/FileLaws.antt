@@ -21,12 +21,14 @@ use Rattle.meaning.specs.File.{Place, atStart, next, hasRoom, countFault, Judge
 use Rattle.meaning.specs.Load.{six, checked, checkFile}
 use Rattle.text.specs.Places.{endsHere, lineLen, plainEnd}
 use Rattle.text.proofs.LineLaws.{lines-at, lines-end, ends-well-at, ends-there}
+use Rattle.layout.specs.declared.kinds.Kind.{Kind as Named}
 use Rattle.layout.specs.declared.check.Fault.{Fault as FaultTold}
 use Rattle.layout.specs.Meant.{kindMeant}
 use Rattle.layout.specs.Check.{kindDates, told}
 use Rattle.layout.proofs.CheckLaws.{fault-is}
 use Rattle.volume.specs.declared.places.Place.{Place as PlaceNamed}
 use Rattle.volume.specs.declared.lines.Opened.{Opened}
+use Rattle.volume.specs.declared.lines.Opened.the-variants.{Good, Bad}
 use Rattle.volume.specs.declared.lines.Line.{Line as Known}
 use Rattle.volume.specs.declared.walk.Walk.{Walk}
 use Rattle.volume.specs.declared.check.Answer.{Answer}
@@ -203,52 +205,50 @@ module _ (s : List ℕ) (w : Walk) (at e : ℕ) (h : at < length s) (q : e ≡ p
     line-opened = sym (v .left) ∙ line-left ∙ rw (j, i)
 
     -- 1, 2, 3, 9 or 4 is the file's fault
-    pub read-opened : (r : Answer) → (o .code ≡ 0 → ⊥) → r ≡ answerOf (six (o .code) (w .line) (o .field) 0 0 0) → r ≡ answerOf (checkFile s)
+    pub read-opened : (c f : ℕ) → o ≡ Bad c f → (r : Answer) → r ≡ answerOf (six c (w .line) f 0 0 0) → r ≡ answerOf (checkFile s)
     unfolding onLine checkedFrom
-    read-opened r z g = g ∙ ap answerOf (sym (line-opened ∙ rw (ne-eqb (o .code) 0 z)))
+    read-opened c f d r g = g ∙ ap answerOf (sym (line-opened ∙ rw d))
 
-    module _ (z : o .code ≡ 0) where
+    module _ (kind : Named) (place : PlaceNamed) (z : o ≡ Good kind place) where
       -- a line without a fault so far
       line-good : checkFile s
-          ≡ checkedFrom w
-          (onLine (w .line) (take (e - at) (drop at s))
-          (fully (w .body) (take (e - at) (drop at s)) (good (kindMeant (o .kind)) (placeMeant (o .place)))) rest)
-      line-good = line-opened ∙ rw (eq-eqb (o .code) 0 z)
+          ≡ checkedFrom w (onLine (w .line) (take (e - at) (drop at s)) (fully (w .body) (take (e - at) (drop at s)) (good (kindMeant kind) (placeMeant place))) rest)
+      line-good = line-opened ∙ rw z
 
       -- it has as many fields as its kind
-      pub read-fields : true ≡ hasFields (length (fields (kindMeant (o .kind)))) (take (e - at) (drop at s))
+      pub read-fields : true ≡ hasFields (length (fields (kindMeant kind))) (take (e - at) (drop at s))
       read-fields =
-          sym (opened-fields (placeMeant (w .place)) (w .body) b (take (e - at) (drop at s)) (kindMeant (o .kind)) (placeMeant (o .place)) (rw (eq-eqb (o .code) 0 z) at j))
+          sym (opened-fields (placeMeant (w .place)) (w .body) b (take (e - at) (drop at s)) (kindMeant kind) (placeMeant place) (rw z at j))
 
       -- 5 is the file's fault
-      pub read-malformed : (r : Answer) (k n : ℕ) → k + 1 ≡ lowest (kindMeant (o .kind)) (take (e - at) (drop at s)) → n ≡ k + 1 → r ≡ answerOf (six 5 (w .line) n 0 0 0) → r ≡ answerOf (checkFile s)
+      pub read-malformed : (r : Answer) (k n : ℕ) → k + 1 ≡ lowest (kindMeant kind) (take (e - at) (drop at s)) → n ≡ k + 1 → r ≡ answerOf (six 5 (w .line) n 0 0 0) → r ≡ answerOf (checkFile s)
       unfolding onLine checkedFrom verdict
       read-malformed r k n m d g = g ∙ ap answerOf (rw d (sym (line-good ∙ rw (← m, ne-eqb (k + 1) 0 (λ u. omega (arith, u))))))
 
-      module _ (y : 0 ≡ lowest (kindMeant (o .kind)) (take (e - at) (drop at s))) (f : FaultTold) (g : f ≡ told (closes (w .body) (kindMeant (o .kind)) (take (e - at) (drop at s)))) where
+      module _ (y : 0 ≡ lowest (kindMeant kind) (take (e - at) (drop at s))) (f : FaultTold) (g : f ≡ told (closes (w .body) (kindMeant kind) (take (e - at) (drop at s)))) where
         -- 6, 7 or 8 is the file's fault
         pub read-closed : (r : Answer) → (f .code ≡ 0 → ⊥) → r ≡ answerOf (six (f .code) (w .line) (f .field) 0 0 0) → r ≡ answerOf (checkFile s)
         unfolding onLine checkedFrom verdict
         read-closed r m u =
-            u ∙ ap answerOf (sym (line-good ∙ rw (eq-eqb (lowest (kindMeant (o .kind)) (take (e - at) (drop at s))) 0 (sym y), told-some (closes (w .body) (kindMeant (o .kind)) (take (e - at) (drop at s))) f g m)))
+            u ∙ ap answerOf (sym (line-good ∙ rw (eq-eqb (lowest (kindMeant kind) (take (e - at) (drop at s))) 0 (sym y), told-some (closes (w .body) (kindMeant kind) (take (e - at) (drop at s))) f g m)))
 
         -- a good line is passed
         passed : f .code ≡ 0
             → checkFile s
-            ≡ leftOf (walkedOn w (role (kindMeant (o .kind))) (opOf (getD (fieldsOf (take (e - at) (drop at s))) 1 [])) (o .place)) (linesOf (drop (e + 2) s))
+            ≡ leftOf (walkedOn w (role (kindMeant kind)) (opOf (getD (fieldsOf (take (e - at) (drop at s))) 1 [])) place) (linesOf (drop (e + 2) s))
         unfolding onLine verdict leftOf walkedOn
         passed m =
             line-good
-            ∙ rw (eq-eqb (lowest (kindMeant (o .kind)) (take (e - at) (drop at s))) 0 (sym y), told-none (w .body) (kindMeant (o .kind)) (take (e - at) (drop at s)) f g m)
-            (counted-on w (kindMeant (o .kind)) (take (e - at) (drop at s)) (o .place) (role (kindMeant (o .kind))) (rest (kindMeant (o .kind)) (placeMeant (o .place))))
+            ∙ rw (eq-eqb (lowest (kindMeant kind) (take (e - at) (drop at s))) 0 (sym y), told-none (w .body) (kindMeant kind) (take (e - at) (drop at s)) f g m)
+            (counted-on w (kindMeant kind) (take (e - at) (drop at s)) place (role (kindMeant kind)) (rest (kindMeant kind) (placeMeant place)))
 
         -- and the walk goes on after it
-        pub read-turn : f .code ≡ 0 → (l : Known) → l .kind ≡ o .kind → changeMeant (l .change) ≡ opOf (getD (fieldsOf (take (e - at) (drop at s))) 1 [])
-            → (u : Walk) → u ≡ walkedOn w (role (kindMeant (l .kind))) (changeMeant (l .change)) (o .place) → at ≤ e → e ≤ length s → Reading s u (e + 2)
+        pub read-turn : f .code ≡ 0 → (l : Known) → l .kind ≡ kind → changeMeant (l .change) ≡ opOf (getD (fieldsOf (take (e - at) (drop at s))) 1 [])
+            → (u : Walk) → u ≡ walkedOn w (role (kindMeant (l .kind))) (changeMeant (l .change)) place → at ≤ e → e ≤ length s → Reading s u (e + 2)
         read-turn m l k c u x a d =
-            let x′ : u ≡ walkedOn w (role (kindMeant (o .kind))) (opOf (getD (fieldsOf (take (e - at) (drop at s))) 1 [])) (o .place) = x ∙ rw (k, c) in
+            let x′ : u ≡ walkedOn w (role (kindMeant kind)) (opOf (getD (fieldsOf (take (e - at) (drop at s))) 1 [])) place = x ∙ rw (k, c) in
             rw x′ (record {
               left = sym (passed m);
-              within = within-on w (role (kindMeant (o .kind))) (opOf (getD (fieldsOf (take (e - at) (drop at s))) 1 [])) (o .place) at (e + 2) (v .within) (omega arith);
+              within = within-on w (role (kindMeant kind)) (opOf (getD (fieldsOf (take (e - at) (drop at s))) 1 [])) place at (e + 2) (v .within) (omega arith);
               stands = omega arith;
             })

@@ -3,12 +3,12 @@ use mathlib.Core.Path.{_≡_, refl, sym, _∙_}
 use mathlib.Core.Bool.{Bool, true, false, _&&_}
 use mathlib.Core.Option.{none}
 use mathlib.Core.List.{List, [], _∷_, map}
-use Prim.Native.Nat.{ℕ, zero, suc, _+_, _-_, _≤_, _<_}
+use Prim.Native.Nat.{ℕ, zero, suc, _+_, _≤_, _<_}
 use Prim.Native.String.{String}
 use native.Mathlib.Numerals.{add-one}
 use native.Mathlib.Omega.{arith}
 use borrow.Author.Needs.{needs}
-use borrow.Author.Tests.{not-true, not-false, ne-eqb}
+use borrow.Author.Tests.{not-true, not-false}
 use lib.Dec.{T, eqb, ltb, leb, eqb→eq, ltb→lt, leb→le}
 use lib.ListN.{length, getD}
 use Rattle.base.specs.Lists.{pick, ask, all, same, bytes}
@@ -19,7 +19,7 @@ use Rattle.meaning.specs.Forms.{Form, number, atLeast1, decimal, date, time, te
 use Rattle.meaning.specs.Lines.{identifier, fieldsOf}
 use Rattle.meaning.specs.Table.{Kind, kinds, kindOf, Role, headerLine, bodyLine, metadataLine, trailerLine, role, fields, named, placeFrom, proOrder, recordCount}
 use Rattle.meaning.specs.Records.{letter, opOf}
-use Rattle.meaning.specs.File.{Place, afterTrailer, next, hasRoom, countFault, Judged, bad, good, verdict}
+use Rattle.meaning.specs.File.{Place, afterTrailer, next, hasRoom, countFault, bad, good, verdict}
 use Rattle.laws.specs.Kinds.{every}
 use Rattle.text.specs.Places.{fieldCount}
 use Rattle.text.proofs.FieldLaws.{fields-wrong}
@@ -39,9 +39,8 @@ use Rattle.volume.specs.declared.places.Place.{Place as PlaceNamed}
 use Rattle.volume.specs.declared.places.Place.the-variants.{AfterTrailer}
 use Rattle.volume.specs.declared.places.PlaceFound.{PlaceFound}
 use Rattle.volume.specs.declared.places.PlaceFound.the-variants.{At, Nowhere}
-use Rattle.volume.specs.declared.lines.Opened.{Opened}
 use Rattle.volume.specs.Meant.{placeMeant, placeFound}
-use Rattle.volume.specs.Judged.{opensAt, opensAs, opens, closes, judgedAs}
+use Rattle.volume.specs.Judged.{opensAt, opensAs, opens, closes}
 
 -- ---- the place, the kind, the change and the number of a line
 
@@ -161,21 +160,17 @@ count-is : (k : Kind) (l : Layout) → l ≡ laidOut k → l .count ≡ length (
 unfolding laidOut
 count-is k l e = rw e
 
--- a code that is not 0 is a fault
-refused-is : (o : Opened) (c f : ℕ) (j : Judged) → o .code ≡ suc c → o .field ≡ f → bad (suc c, f) ≡ j → judgedAs o ≡ j
-refused-is o c f j p q e = rw (p, q, ne-eqb (suc c) 0 (λ z. omega (arith, z))) e
-
 module _ (p : Place) (n : ℕ) (t : List ℕ) (b : Bool) where
   -- 1
-  pub open-unended : (o : Opened) → o .code ≡ 1 → o .field ≡ 0 → b ≡ false → judgedAs o ≡ opens p n b t
+  pub open-unended : b ≡ false → bad (1, 0) ≡ opens p n b t
   unfolding opens
-  open-unended o c f e = refused-is o 0 0 (opens p n b t) c f (rw e)
+  open-unended e = rw e
 
   module _ (e : b ≡ true) (kf : KindFound) (g : kindFound kf ≡ kindOf (identifier t)) where
     -- 2
-    pub open-unknown : (o : Opened) → o .code ≡ 2 → o .field ≡ 1 → kf ≡ Unknown → judgedAs o ≡ opens p n b t
+    pub open-unknown : kf ≡ Unknown → bad (2, 1) ≡ opens p n b t
     unfolding opens opensAs
-    open-unknown o c f u = refused-is o 1 1 (opens p n b t) c f (rw (e, ← g, u))
+    open-unknown u = rw (e, ← g, u)
 
     module _ (kind : Named) (h : kf ≡ Known kind) (l : Layout) (d : l ≡ laidOut (kindMeant kind)) (pf : PlaceFound) (y : placeFound pf ≡ next p (roleMeant (l .role))) where
       -- a known kind is judged in its place
@@ -184,21 +179,21 @@ module _ (p : Place) (n : ℕ) (t : List ℕ) (b : Bool) where
       known = rw (e, ← g, h, y, role-is (kindMeant kind) l d)
 
       -- 3
-      pub open-nowhere : (o : Opened) → o .code ≡ 3 → o .field ≡ 0 → pf ≡ Nowhere → judgedAs o ≡ opens p n b t
+      pub open-nowhere : pf ≡ Nowhere → bad (3, 0) ≡ opens p n b t
       unfolding opensAt
-      open-nowhere o c f u = refused-is o 2 0 (opens p n b t) c f (rw (known, u))
+      open-nowhere u = rw (known, u)
 
       module _ (q : PlaceNamed) (z : pf ≡ At q) (r : Bool) (m : r ≡ hasRoom (roleMeant (l .role)) n) where
         -- 9
-        pub open-full : (o : Opened) → o .code ≡ 9 → o .field ≡ 0 → r ≡ false → judgedAs o ≡ opens p n b t
+        pub open-full : r ≡ false → bad (9, 0) ≡ opens p n b t
         unfolding opensAt ask verdict
-        open-full o c f u = refused-is o 8 0 (opens p n b t) c f (rw (known, z, ← role-is (kindMeant kind) l d, sym m ∙ u))
+        open-full u = rw (known, z, ← role-is (kindMeant kind) l d, sym m ∙ u)
 
         module _ (w : r ≡ true) (a : ℕ) (i : a ≡ fieldCount t) where
           -- 4
-          pub open-count : (o : Opened) → o .code ≡ 4 → o .field ≡ 0 → (a ≡ l .count → ⊥) → judgedAs o ≡ opens p n b t
+          pub open-count : (a ≡ l .count → ⊥) → bad (4, 0) ≡ opens p n b t
           unfolding opensAt ask verdict
-          open-count o c f u = refused-is o 3 0 (opens p n b t) c f (rw (known, z, ← role-is (kindMeant kind) l d, sym m ∙ w, ← count-is (kindMeant kind) l d, ← fields-wrong t (l .count) a i u))
+          open-count u = rw (known, z, ← role-is (kindMeant kind) l d, sym m ∙ w, ← count-is (kindMeant kind) l d, ← fields-wrong t (l .count) a i u)
 
           -- else its fields are to be judged
           pub open-good : a ≡ l .count → good (kindMeant kind) (placeMeant q) ≡ opens p n b t

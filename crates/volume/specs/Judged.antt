@@ -3,7 +3,6 @@ use mathlib.Core.Bool.{Bool}
 use mathlib.Core.Option.{Option, none, some}
 use mathlib.Core.List.{List}
 use Prim.Native.Nat.{ℕ}
-use lib.Dec.{eqb}
 use lib.ListN.{length}
 use Rattle.base.specs.Lists.{pick, ask}
 use Rattle.meaning.specs.Lines.{identifier, fieldsOf, hasFields}
@@ -13,6 +12,7 @@ use Rattle.meaning.specs.File.{Place, next, hasRoom, countFault, Judged, bad, g
 use Rattle.layout.specs.Meant.{kindMeant}
 use Rattle.layout.specs.Check.{kindDates}
 use Rattle.volume.specs.declared.lines.Opened.{Opened}
+use Rattle.volume.specs.declared.lines.Opened.the-variants.{Good, Bad}
 use Rattle.volume.specs.Meant.{placeMeant}
 
 -- then 3, then 9, then 4
@@ -35,4 +35,5 @@ closes n k t = ask (kindDates k (fieldsOf t)) (6, placeFrom 1 endDate (fields k)
 
 -- a line that was opened, as the meaning judges it: a fault, or its kind and the place after it
 abbrev pub judgedAs : Opened → Judged
-judgedAs o = pick (eqb (o .code) 0) (good (kindMeant (o .kind)) (placeMeant (o .place))) (bad (o .code, o .field))
+judgedAs (Good k q) = good (kindMeant k) (placeMeant q)
+judgedAs (Bad c f) = bad (c, f)

@@ -4,6 +4,7 @@ ghost use mathlib.Core.List.{[]};
 ghost use Rattle.meaning.specs.Load.{checkFile, six};
 ghost use Rattle.volume.specs.Walk.{leftOf};
 ghost use Rattle.volume.specs.Answer.{answerOf};
+use crate::lines::Opened;
 use crate::lines::close_line;
 use crate::lines::known;
 use crate::lines::open_line;
@@ -72,30 +73,29 @@ pub fn check_file(file: &[u8]) -> Answer
         let end = plain_end(file, at);
         let text = &file[at..end];
         let fields = split(text, &mut ends);
-        let opened = open_line(walk, text, fields, ends_at(file, end));
-        if opened.code != 0 {
-            return refused(opened.code, walk.line, opened.field);
-        }
-        let kind = opened.kind;
-        let count = layout(kind).count;
-        let mut k = 0;
-        let mut start = 0;
-        while k < count {
-            let stop = ends[k];
-            if !sound_at(kind, k, &text[start..stop]) {
-                bad = k + 1;
-                break 'lines;
+        match open_line(walk, text, fields, ends_at(file, end)) {
+            Opened::Bad(code, field) => return refused(code, walk.line, field),
+            Opened::Good(kind, after) => {
+                let count = layout(kind).count;
+                let mut k = 0;
+                let mut start = 0;
+                while k < count {
+                    let stop = ends[k];
+                    if !sound_at(kind, k, &text[start..stop]) {
+                        bad = k + 1;
+                        break 'lines;
+                    }
+                    start = stop + 1;
+                    k += 1;
+                }
+                let closed = close_line(kind, walk.body, text, &ends);
+                if closed.code != 0 {
+                    return refused(closed.code, walk.line, closed.field);
+                }
+                walk = after_line(walk, known(kind, text), after);
+                at = end + 2;
             }
-            start = stop + 1;
-            k += 1;
         }
-        let closed = close_line(kind, walk.body, text, &ends);
-        if closed.code != 0 {
-            return refused(closed.code, walk.line, closed.field);
-        }
-        let after = opened.place;
-        walk = after_line(walk, known(kind, text), after);
-        at = end + 2;
     }
     if bad != 0 {
         return refused(5, walk.line, bad);

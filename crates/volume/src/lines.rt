@@ -47,12 +47,10 @@ pub struct Line {
     pub change: Change,
 }
 
-// A line before its fields are judged: its first fault, or code 0, its kind and the place after it.
-pub struct Opened {
-    pub code: u64,
-    pub field: usize,
-    pub kind: Kind,
-    pub place: Place,
+// A line before its fields are judged: its kind and the place after it, or the code and the field of its first fault.
+pub enum Opened {
+    Good(Kind, Place),
+    Bad(u64, usize),
 }
 
 // Whether there is room for a line after so many body lines: only a body line takes room.
@@ -67,18 +65,6 @@ pub fn has_room(role: Role, body: usize) -> bool
     }
 }
 
-// A line with a fault: its kind and place say nothing.
-fn refusal(code: u64, field: usize, place: Place) -> Opened
-    ensures { λ r. ⌜ (r .code ≡ code) × (r .field ≡ field) ⌝ }
-{
-    Opened {
-        code,
-        field,
-        kind: Kind::Header,
-        place,
-    }
-}
-
 // A line before its fields, which are counted: 1, 2, 3, 9, 4, or its kind and the place after it.
 pub fn open_line(walk: Walk, text: &[u8], fields: usize, ended: bool) -> Opened
     requires { ⌜ fields ≡ fieldCount (now text) ⌝ }
@@ -86,29 +72,24 @@ pub fn open_line(walk: Walk, text: &[u8], fields: usize, ended: bool) -> Opened
 {
     let place = walk.place;
     if !ended {
-        return refusal(1, 0, place);
+        return Opened::Bad(1, 0);
     }
     let KindFound::Known(kind) = kind_at(text) else {
-        return refusal(2, 1, place);
+        return Opened::Bad(2, 1);
     };
     let l = layout(kind);
     let role = l.role;
     let count = l.count;
     let PlaceFound::At(after) = next_place(place, role) else {
-        return refusal(3, 0, place);
+        return Opened::Bad(3, 0);
     };
     if !has_room(role, walk.body) {
-        return refusal(9, 0, place);
+        return Opened::Bad(9, 0);
     }
     if fields != count {
-        return refusal(4, 0, place);
+        return Opened::Bad(4, 0);
     }
-    Opened {
-        code: 0,
-        field: 0,
-        kind,
-        place: after,
-    }
+    Opened::Good(kind, after)
 }
 
 // The running number of a body line, or the number of body lines that a trailer says.

@@ -17,8 +17,8 @@ pub check-file-spec : {M : Type 1} → statement M
 check-file-spec =
     tie.close
     (tie.spec
-    (λ file ends walk at bad₀ end text fields opened kind count k₀ start₀ bad k start. (Passing (kindMeant kind) text ends count k start) × (bad ≡ 0))
-    (λ file ends walk at bad₀ end text fields opened kind count k₀ start₀ bad k start. count - k)
+    (λ file ends walk at bad₀ end text fields kind after count k₀ start₀ bad k start. (Passing (kindMeant kind) text ends count k start) × (bad ≡ 0))
+    (λ file ends walk at bad₀ end text fields kind after count k₀ start₀ bad k start. count - k)
     (λ file ends₀ walk₀ at₀ bad₀ ends walk at bad. (Reading file walk at) × (bad ≡ 0) × (length ends ≡ 32))
     (λ file ends₀ walk₀ at₀ bad₀ ends walk at bad. length file - at)
     (λ c κs. search needs)  -- at-start-requires
@@ -31,10 +31,12 @@ check-file-spec =
     (λ c κs. search needs)  -- split-requires
     (λ c κs. search needs)  -- ends-at-requires
     (λ c κs. c .before .before .split .ensures .0)  -- open-line-requires
+    (λ c. search needs)  -- enum-known-code
     (λ c κs. search needs)  -- refused-requires
-    (λ c. let o = c .before .before .before in let e = o .before .before .before .before .before .before in let l = e .before .before in read-opened _ _ _ _ (e .before .lines-test .taken) (e .plain-end .ensures .0) (l .lines .inv .0) _ (o .before .ends-at .ensures) (o .open-line .result) (o .open-line .ensures) _ (c .before .if1 .taken) (c .refused .ensures))  -- returns
+    (λ c. let o = c .before .before .before .before in let e = o .before .before .before .before .before .before in let l = e .before .before in read-opened _ _ _ _ (e .before .lines-test .taken) (e .plain-end .ensures .0) (l .lines .inv .0) _ (o .before .ends-at .ensures) (o .open-line .result) (o .open-line .ensures) _ _ (c .before .before .code .given .1) _ (c .refused .ensures))  -- returns
+    (λ c. search needs)  -- enum-known-kind
     (λ c κs. search needs)  -- layout-requires
-    (λ c. let o = c .before .before .before in let e = o .before .before .before .before .before .before in let l = e .before .before in let s = o .before .before .before in (pass-start _ _ _ _ (c .layout .ensures) (record { many = read-fields _ _ _ _ (e .before .lines-test .taken) (e .plain-end .ensures .0) (l .lines .inv .0) _ (o .before .ends-at .ensures) (o .open-line .result) (o .open-line .ensures) (c .before .if1 .left); noted = s .split .ensures .1; room = omega (arith, s .split .ensures .2) }), l .lines .inv .1))  -- loop-holds
+    (λ c. let o = c .before .before .before .before in let e = o .before .before .before .before .before .before in let l = e .before .before in let s = o .before .before .before in (pass-start _ _ _ _ (c .layout .ensures) (record { many = read-fields _ _ _ _ (e .before .lines-test .taken) (e .plain-end .ensures .0) (l .lines .inv .0) _ (o .before .ends-at .ensures) (o .open-line .result) (o .open-line .ensures) _ _ (c .before .before .kind .given .1); noted = s .split .ensures .1; room = omega (arith, s .split .ensures .2) }), l .lines .inv .1))  -- loop-holds
     (λ c. let w = pass-few _ _ _ _ _ _ (c .before .loop .inv .0) (c .loop-test .taken) in search needs)  -- mul-stop
     (λ c. let w = pass-few _ _ _ _ _ _ (c .before .loop .inv .0) (c .loop-test .taken) in search needs)  -- array-read-stop
     (λ c. pass-forward _ _ _ _ _ _ (c .before .loop .inv .0) (c .loop-test .taken))  -- sub-sound-at
@@ -42,20 +44,20 @@ check-file-spec =
     (λ c. let w = pass-within _ _ _ _ _ _ (c .before .loop .inv .0) (c .loop-test .taken) in search needs)  -- part-sound-at-end
     (λ c κs. let t = c .before in pass-row _ _ _ _ _ _ (t .before .loop .inv .0) (t .loop-test .taken))  -- sound-at-requires
     (λ c. let t = c .before .before .before in let w = pass-few _ _ _ _ _ _ (t .before .loop .inv .0) (t .loop-test .taken) in search needs)  -- add-bad
-    (λ c. let t = c .before .before .before in let o = t .before .before .before .before .before in let e = o .before .before .before .before .before .before in omega (arith, pass-within _ _ _ _ _ _ (t .before .loop .inv .0) (t .loop-test .taken), line-short (e .before .before .before .before .before .args .file .now) (e .before .before .lines .at) (e .plain-end .result)))  -- add-start
+    (λ c. let t = c .before .before .before in let o = t .before .before .before .before .before .before in let e = o .before .before .before .before .before .before in omega (arith, pass-within _ _ _ _ _ _ (t .before .loop .inv .0) (t .loop-test .taken), line-short (e .before .before .before .before .before .args .file .now) (e .before .before .lines .at) (e .plain-end .result)))  -- add-start
     (λ c. let t = c .before .before .before in let w = pass-few _ _ _ _ _ _ (t .before .loop .inv .0) (t .loop-test .taken) in search needs)  -- add-k
     (λ c. search needs)  -- loop-less
-    (λ c. let t = c .before .before .before in (pass-turn _ _ _ _ _ _ (t .before .loop .inv .0) (t .loop-test .taken) _ (c .before .sound-at .ensures) (not-false _ (c .if2 .left)), t .before .loop .inv .1))  -- loop-again
+    (λ c. let t = c .before .before .before in (pass-turn _ _ _ _ _ _ (t .before .loop .inv .0) (t .loop-test .taken) _ (c .before .sound-at .ensures) (not-false _ (c .if1 .left)), t .before .loop .inv .1))  -- loop-again
     (λ c. search needs)  -- slice-aggregate-close-line
-    (λ c κs. let t = c .before in let o = t .before .before .before .before .before in let e = o .before .before .before .before .before .before in let l = e .before .before in (t .before .loop .inv .0 .parted, pass-done _ _ _ _ _ _ (t .before .loop .inv .0) (t .loop-test .left), (let w = l .lines .inv .0 .within .bodies in omega arith)))  -- close-line-requires
+    (λ c κs. let t = c .before in let o = t .before .before .before .before .before .before in let e = o .before .before .before .before .before .before in let l = e .before .before in (t .before .loop .inv .0 .parted, pass-done _ _ _ _ _ _ (t .before .loop .inv .0) (t .loop-test .left), (let w = l .lines .inv .0 .within .bodies in omega arith)))  -- close-line-requires
     (λ c κs. search needs)  -- refused-requires-2
-    (λ c. let t = c .before .before .before .before .before in let o = t .before .before .before .before .before in let e = o .before .before .before .before .before .before in let l = e .before .before in read-closed _ _ _ _ (e .before .lines-test .taken) (e .plain-end .ensures .0) (l .lines .inv .0) _ (o .before .ends-at .ensures) (o .open-line .result) (o .open-line .ensures) (t .before .before .before .if1 .left) (pass-done _ _ _ _ _ _ (t .before .loop .inv .0) (t .loop-test .left)) (c .before .before .before .close-line .result) (c .before .before .before .close-line .ensures) _ (c .before .if3 .taken) (c .refused2 .ensures))  -- returns-2
+    (λ c. let t = c .before .before .before .before .before in let o = t .before .before .before .before .before .before in let e = o .before .before .before .before .before .before in let l = e .before .before in read-closed _ _ _ _ (e .before .lines-test .taken) (e .plain-end .ensures .0) (l .lines .inv .0) _ (o .before .ends-at .ensures) (o .open-line .result) (o .open-line .ensures) _ _ (t .before .before .before .before .kind .given .1) (pass-done _ _ _ _ _ _ (t .before .loop .inv .0) (t .loop-test .left)) (c .before .before .before .close-line .result) (c .before .before .before .close-line .ensures) _ (c .before .if2 .taken) (c .refused2 .ensures))  -- returns-2
     (λ c κs. search needs)  -- known-requires
-    (λ c κs. let t = c .before .before .before .before .before in let o = t .before .before .before .before .before in let e = o .before .before .before .before .before .before in let l = e .before .before in within-more _ _ _ (l .lines .inv .0 .within) (omega (arith, e .before .lines-test .taken)))  -- after-line-requires
-    (λ c. let t = c .before .before .before .before .before .before in let o = t .before .before .before .before .before in let e = o .before .before .before .before .before .before in let l = e .before .before in omega (arith, e .plain-end .ensures .2, e .before .lines-test .taken))  -- add-at
-    (λ c. let t = c .before .before .before .before .before .before in let o = t .before .before .before .before .before in let e = o .before .before .before .before .before .before in let l = e .before .before in omega (arith, e .plain-end .ensures .1, e .plain-end .ensures .2, e .before .lines-test .taken))  -- lines-less
-    (λ c. let t = c .before .before .before .before .before .before in let o = t .before .before .before .before .before in let e = o .before .before .before .before .before .before in let l = e .before .before in (read-turn _ _ _ _ (e .before .lines-test .taken) (e .plain-end .ensures .0) (l .lines .inv .0) _ (o .before .ends-at .ensures) (o .open-line .result) (o .open-line .ensures) (t .before .before .before .if1 .left) (pass-done _ _ _ _ _ _ (t .before .loop .inv .0) (t .loop-test .left)) (c .before .before .before .before .close-line .result) (c .before .before .before .before .close-line .ensures) (c .before .before .if3 .left) (c .before .known .result) (c .before .known .ensures .0) (c .before .known .ensures .1) _ (c .after-line .ensures) (e .plain-end .ensures .1) (e .plain-end .ensures .2), t .before .loop .inv .1, o .before .before .before .split .ensures .2 ∙ l .lines .inv .2))  -- lines-again
+    (λ c κs. let t = c .before .before .before .before .before in let o = t .before .before .before .before .before .before in let e = o .before .before .before .before .before .before in let l = e .before .before in within-more _ _ _ (l .lines .inv .0 .within) (omega (arith, e .before .lines-test .taken)))  -- after-line-requires
+    (λ c. let t = c .before .before .before .before .before .before in let o = t .before .before .before .before .before .before in let e = o .before .before .before .before .before .before in let l = e .before .before in omega (arith, e .plain-end .ensures .2, e .before .lines-test .taken))  -- add-at
+    (λ c. let t = c .before .before .before .before .before .before in let o = t .before .before .before .before .before .before in let e = o .before .before .before .before .before .before in let l = e .before .before in omega (arith, e .plain-end .ensures .1, e .plain-end .ensures .2, e .before .lines-test .taken))  -- lines-less
+    (λ c. let t = c .before .before .before .before .before .before in let o = t .before .before .before .before .before .before in let e = o .before .before .before .before .before .before in let l = e .before .before in (read-turn _ _ _ _ (e .before .lines-test .taken) (e .plain-end .ensures .0) (l .lines .inv .0) _ (o .before .ends-at .ensures) (o .open-line .result) (o .open-line .ensures) _ _ (t .before .before .before .before .kind .given .1) (pass-done _ _ _ _ _ _ (t .before .loop .inv .0) (t .loop-test .left)) (c .before .before .before .before .close-line .result) (c .before .before .before .before .close-line .ensures) (c .before .before .if2 .left) (c .before .known .result) (c .before .known .ensures .0) (c .before .known .ensures .1) _ (c .after-line .ensures) (e .plain-end .ensures .1) (e .plain-end .ensures .2), t .before .loop .inv .1, o .before .before .before .split .ensures .2 ∙ l .lines .inv .2))  -- lines-again
     (λ c κs. search needs)  -- refused-requires-3
-    (λ c. ⊎-elim (λ w. absurd (c .before .if4 .taken (w .1 ∙ c .before .before .before .lines .inv .1))) (λ w. read-malformed _ _ _ _ (w .0 .taken) (w .1 .ensures .0) (c .before .before .before .lines .inv .0) _ (w .6 .ensures) (w .7 .result) (w .7 .ensures) (w .9 .left) _ _ _ (pass-stop _ _ _ _ _ _ (w .11 .inv .0) (w .12 .taken) _ (w .14 .ensures) (not-true _ (w .15 .taken))) (w .16) (c .refused3 .ensures)) (c .before .before .lines-test .came))  -- returns-3
+    (λ c. ⊎-elim (λ w. absurd (c .before .if3 .taken (w .1 ∙ c .before .before .before .lines .inv .1))) (λ w. read-malformed _ _ _ _ (w .0 .taken) (w .1 .ensures .0) (c .before .before .before .lines .inv .0) _ (w .6 .ensures) (w .7 .result) (w .7 .ensures) _ _ (w .9 .given .1) _ _ _ (pass-stop _ _ _ _ _ _ (w .12 .inv .0) (w .13 .taken) _ (w .15 .ensures) (not-true _ (w .16 .taken))) (w .17) (c .refused3 .ensures)) (c .before .before .lines-test .came))  -- returns-3
     (λ c κs. search needs)  -- ended-requires
-    (λ c. ⊎-elim (λ w. read-done _ _ _ _ (c .before .before .before .lines .inv .0) (w .0 .left) (c .ended .ensures)) (λ w. absurd (omega (arith, w .16, c .before .if4 .left))) (c .before .before .lines-test .came)))  -- returns-4
+    (λ c. ⊎-elim (λ w. read-done _ _ _ _ (c .before .before .before .lines .inv .0) (w .0 .left) (c .ended .ensures)) (λ w. absurd (omega (arith, w .17, c .before .if3 .left))) (c .before .before .lines-test .came)))  -- returns-4
