@@ -9,12 +9,6 @@ fi
 # rt starts so many checks at a time and waits for all of them: twice as many as processors, so that one that takes long holds up fewer, as
 # far as each has 2 GiB of memory.
 export RT_JOBS=${RT_JOBS:-$(awk -v most=$((2 * $(nproc))) '/^MemAvailable:/ { n = int($2 / 2 ^ 21); print (n > most ? most : n > 1 ? n : 1) }' /proc/meminfo)}
-# A check hands the prover some 5,000 small files in the folder for temporary files: in memory, where that has room and may run programs,
-# they cost a third as much.
-if [ -z "${TMPDIR:-}" ] && [ -w /dev/shm ] && ! grep -q '^[^ ]* /dev/shm [^ ]* [^ ]*noexec' /proc/mounts &&
-  [ "$(df -Pk /dev/shm | awk 'END { print int($4 / 2 ^ 20) }')" -ge "$RT_JOBS" ]; then
-  export TMPDIR=/dev/shm
-fi
 kit=${RATTLE_HOME:-$(cd "$(dirname "$(readlink -f "$(command -v rt)")")/.." && pwd)}
 toolchain=$kit/on/$(uname -m)/toolchain
 cc=cc cxx=c++ emulator=
@@ -56,6 +50,18 @@ tools() {
     # shellcheck disable=SC2046
     get_packages $(packages_of "$lacks") && command -v "$lacks" >/dev/null || return 1
   done
+}
+
+# The folder where temporary files cost least. A check hands the prover some 5,000 small ones: in memory, where that has a GiB for each
+# check and may run programs, they take a third of the time.
+quick_folder() {
+  local free
+  free=$(df -Pk /dev/shm 2>/dev/null | awk 'END { print int($4 / 2 ^ 20) }')
+  if [ "${free:-0}" -ge "$RT_JOBS" ] && [ -w /dev/shm ] && ! grep -q '^[^ ]* /dev/shm [^ ]* [^ ]*noexec' /proc/mounts; then
+    echo /dev/shm
+  else
+    echo "${TMPDIR:-/tmp}"
+  fi
 }
 
 # Proves the operations and writes the archive, unless it is newer than every source.
