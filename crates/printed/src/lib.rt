@@ -1,3 +1,3 @@
-// What is printed of an answer and of an output, before a program is run.
+// What is printed of an answer and of an output.
 pub mod numbers; // the six numbers as text
 pub mod bare; // an output without the zeros at its end
