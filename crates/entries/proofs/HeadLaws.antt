@@ -56,6 +56,7 @@ pair-field s at h =
     let e2 : endIn s false (at + 2) ≡ x = rw z2 at (end-over s false (at + 1) x e1 (omega (arith, h .room)) (h .two)) in
     end-comma s false (at + 2) x e2 (h .room) (h .comma) refl
 
+-- so what stands before it is that field
 pub pair-end : (s : List ℕ) (at : ℕ) (b : Bool) → b ≡ paired s at → b ≡ true → take (at + 2 - at) (drop at s) ≡ firstField (lineAt s at)
 pair-end s at b p t = first-here s at (at + 2) (pair-field s at (pair-told s at (subst T (sym t ∙ p) tt)))
 
