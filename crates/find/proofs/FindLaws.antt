@@ -30,7 +30,7 @@ use Rattle.meaning.specs.Holding.{sound, unsound, readHolding}
 use Rattle.keys.specs.Numbers.{keyNumbers, numbered}
 use Rattle.keys.specs.KeyLaws.{Agree, get-alike, rank-alike, asc-numbered, number-agrees}
 use Rattle.keys.specs.FieldLaws.{numbersIn, narrow}
-use Rattle.theory.specs.Format.{Sound}
+use Rattle.theory.specs.ReadBack.{Sound}
 use Rattle.theory.specs.Run.{inserts}
 use Rattle.laws.specs.LinesAndFields.{endsAll}
 use Rattle.laws.specs.SoundHolding.{held-is-sound}

@@ -11,7 +11,7 @@ use Rattle.base.specs.Lists.{all}
 use Rattle.base.specs.Tests.{and-in, and-l, and-r, bools}
 use Rattle.theory.specs.Step.{Change}
 use Rattle.theory.specs.Answer.{file}
-use Rattle.theory.specs.Format.{Format}
+use Rattle.theory.specs.ReadBack.{Files}
 use Rattle.theory.specs.DecimalLaws.{value-dec}
 use Rattle.meaning.specs.Lines.{plain}
 use Rattle.meaning.specs.Table.{Kind, Role, headerLine, metadataLine, trailerLine, role, named}
@@ -137,5 +137,5 @@ file-says b fr cs e =
     (and-in (leb n mostBody) _ l frame, changes-fine 1 (s .texts) cs (s .body))
 
 -- files of this format, as the theory asks for them
-abbrev pub format : Format Rec fine
-format = record { Frame = Frame; suits = suits; readFile = readFile; writeFile = writeFile; reads = file-reads; says = file-says }
+abbrev pub files : Files Rec fine
+files = record { Frame = Frame; suits = suits; readFile = readFile; writeFile = writeFile; reads = file-reads; says = file-says }

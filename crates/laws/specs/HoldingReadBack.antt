@@ -17,7 +17,7 @@ use Rattle.theory.specs.Refs.{met, meets}
 use Rattle.theory.specs.Step.{ins, Change, Test}
 use Rattle.theory.specs.Run.{inserts}
 use Rattle.theory.specs.Limits.{few, most}
-use Rattle.theory.specs.Format.{Sound, Holding}
+use Rattle.theory.specs.ReadBack.{Sound, Holding}
 use Rattle.theory.specs.TriLaws.{is-lt}
 use Rattle.meaning.specs.Lines.{plain, fieldsOf, identifier, Line, linesOf, endsWell}
 use Rattle.meaning.specs.Table.{Kind, ident, role, kindOf}

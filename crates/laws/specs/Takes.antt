@@ -13,7 +13,7 @@ use Rattle.theory.specs.Step.{ins, upd, del, Change, Test, fails, after, passes
 use Rattle.theory.specs.Trail.{final}
 use Rattle.theory.specs.Run.{Out, done, stop, run, Good}
 use Rattle.theory.specs.Answer.{Read, fault, file, Answer, took, refused, count}
-use Rattle.theory.specs.Format.{Sound, byLength}
+use Rattle.theory.specs.ReadBack.{Sound, byLength}
 use Rattle.theory.specs.RunLaws.{fine-final, good-final}
 use Rattle.theory.specs.ApplyLaws.{says-apply, apply-took, back-one}
 use Rattle.meaning.specs.Records.{Rec, keyed}
@@ -22,7 +22,7 @@ use Rattle.meaning.specs.Holding.{Held, sound, unsound, readHolding, written}
 use Rattle.meaning.specs.Load.{fits, stepTests, outcome, fromStart, onFile, onHolding, load, undoBytes, six, filled, applied, apply, undoSheet, undoHeld}
 use Rattle.laws.specs.Body.{fine}
 use Rattle.laws.specs.HoldingReadBack.{always, heldRecords, holding}
-use Rattle.laws.specs.FileReadBack.{format}
+use Rattle.laws.specs.FileReadBack.{files}
 use Rattle.theory.specs.Apply as A
 
 -- ---- the definitions of the meaning are those of the theory
@@ -41,33 +41,33 @@ late = byLength written
 
 -- apply as the theory has it
 abbrev theirs : ℕ → List ℕ → List ℕ → Answer
-theirs = A.apply keyed holding format ℕ late badLine
+theirs = A.apply keyed holding files ℕ late badLine
 
 -- the file b is taken over the holding old, with a buffer of `room` bytes, and gives the holding new
 abbrev pub Takes : ℕ → List ℕ → List ℕ → List ℕ → Type 0
-Takes = A.Applied keyed holding format ℕ late badLine
+Takes = A.Applied keyed holding files ℕ late badLine
 
-same-run : (cs : List (Change Rec)) (o : Out (List Rec)) → outcome cs o ≡ A.outcome keyed holding format ℕ late badLine cs o
+same-run : (cs : List (Change Rec)) (o : Out (List Rec)) → outcome cs o ≡ A.outcome keyed holding files ℕ late badLine cs o
 unfolding outcome A.outcome
 same-run cs (done st) = refl
 same-run cs (stop n w) = refl
 
-same-start : (room : ℕ) (st : List Rec) (s : Sheet) → fromStart room st s ≡ A.onFile keyed holding format ℕ late badLine room st (file s)
+same-start : (room : ℕ) (st : List Rec) (s : Sheet) → fromStart room st s ≡ A.onFile keyed holding files ℕ late badLine room st (file s)
 unfolding fromStart A.onFile fits stepTests fails ask A.ifRoom
 same-start room st s = go (leb (length (written st)) room)
   where
     go : (c : Bool) → pick c (outcome (s .1) (run keyed (stepTests room) 2 st (s .1))) (refused 13 0 0)
-        ≡ A.ifRoom keyed holding format ℕ late badLine (ask c 13 none)
-        (A.outcome keyed holding format ℕ late badLine (s .1) (run keyed (always ++ late room) 2 st (s .1)))
+        ≡ A.ifRoom keyed holding files ℕ late badLine (ask c 13 none)
+        (A.outcome keyed holding files ℕ late badLine (s .1) (run keyed (always ++ late room) 2 st (s .1)))
     go true = same-run (s .1) (run keyed (stepTests room) 2 st (s .1))
     go false = refl
 
-same-file : (room : ℕ) (st : List Rec) (r : Read Sheet) → onFile room st r ≡ A.onFile keyed holding format ℕ late badLine room st r
+same-file : (room : ℕ) (st : List Rec) (r : Read Sheet) → onFile room st r ≡ A.onFile keyed holding files ℕ late badLine room st r
 unfolding onFile A.onFile
 same-file room st (fault c l f) = refl
 same-file room st (file s) = same-start room st s
 
-same-held : (room : ℕ) (old b : List ℕ) (h : Held) → readHolding old ≡ h → onHolding room b h ≡ A.onHold keyed holding format ℕ late badLine room old b (heldRecords h)
+same-held : (room : ℕ) (old b : List ℕ) (h : Held) → readHolding old ≡ h → onHolding room b h ≡ A.onHold keyed holding files ℕ late badLine room old b (heldRecords h)
 unfolding onHolding A.onHold heldRecords badLine
 same-held room old b (unsound n) e = rw e
 same-held room old b (sound st) e = same-file room st (readFile b)
@@ -76,16 +76,16 @@ same-load : (room : ℕ) (old b : List ℕ) → load room old b ≡ theirs room 
 unfolding load A.apply
 same-load room old b = same-held room old b (readHolding old) refl
 
-same-sheet : (st : List Rec) (r : Read Sheet) → undoSheet st r ≡ A.undoFile keyed holding format ℕ late badLine st r
+same-sheet : (st : List Rec) (r : Read Sheet) → undoSheet st r ≡ A.undoFile keyed holding files ℕ late badLine st r
 unfolding undoSheet A.undoFile
 same-sheet st (fault c l f) = refl
 same-sheet st (file s) = refl
 
-same-undo : (old b : List ℕ) → undoBytes old b ≡ A.undoOf keyed holding format ℕ late badLine old b
+same-undo : (old b : List ℕ) → undoBytes old b ≡ A.undoOf keyed holding files ℕ late badLine old b
 unfolding undoBytes A.undoOf A.undoHold undoHeld heldRecords
 same-undo old b = go (readHolding old)
   where
-    go : (h : Held) → undoHeld b h ≡ A.undoHold keyed holding format ℕ late badLine b (heldRecords h)
+    go : (h : Held) → undoHeld b h ≡ A.undoHold keyed holding files ℕ late badLine b (heldRecords h)
     go (unsound n) = refl
     go (sound st) = same-sheet st (readFile b)
 
@@ -93,7 +93,7 @@ same-undo old b = go (readHolding old)
 
 -- a file that is taken gives the new holding and the counts of its body lines
 pub load-took : (room : ℕ) (old b new : List ℕ) (a : Takes room old b new) → load room old b ≡ took new (count ins (a .cs)) (count upd (a .cs)) (count del (a .cs))
-load-took room old b new a = same-load room old b ∙ apply-took keyed holding format ℕ late badLine room old b new a
+load-took room old b new a = same-load room old b ∙ apply-took keyed holding files ℕ late badLine room old b new a
 
 -- what apply answers and leaves
 pub taken : (room : ℕ) (old b new : List ℕ) (a : Takes room old b new)
@@ -108,15 +108,15 @@ TookSays room old b (refused c l f) = Unit {0}
 
 -- and that is so of every answer: only such a file is taken
 pub took-takes : (room : ℕ) (old b : List ℕ) → TookSays room old b (load room old b)
-took-takes room old b = rw (same-load room old b) (go (theirs room old b) (says-apply keyed holding format ℕ late badLine room old b))
+took-takes room old b = rw (same-load room old b) (go (theirs room old b) (says-apply keyed holding files ℕ late badLine room old b))
   where
-    go : (x : Answer) → A.Says keyed holding format ℕ late badLine room old b x → TookSays room old b x
+    go : (x : Answer) → A.Says keyed holding files ℕ late badLine room old b x → TookSays room old b x
     go (took new i u d) s = s .0
     go (refused c l f) s = tt
 
 -- the undo of a taken file is itself taken, and gives the old bytes back
 pub undo-takes : (room : ℕ) (old b new : List ℕ) → Takes room old b new → Takes room new (undoBytes old b) old
-undo-takes room old b new a = rw (same-undo old b) (back-one keyed holding format ℕ late badLine room old b new a)
+undo-takes room old b new a = rw (same-undo old b) (back-one keyed holding files ℕ late badLine room old b new a)
 
 module _ (room : ℕ) (old b new : List ℕ) (a : Takes room old b new) where
   -- the old holding's records are sound, and its bytes are theirs
@@ -142,7 +142,7 @@ module _ (room : ℕ) (old b new : List ℕ) (a : Takes room old b new) where
   new-held =
       let st2 = final (after keyed) (a .st) (a .cs) in
       let p = append-all (λ t. t .1 st2) always (late room) (good-new .pass) in
-      let f = format .says b (a .fr) (a .cs) (a .read) in
+      let f = files .says b (a .fr) (a .cs) (a .read) in
       let fines : T (all fine st2) = fine-final keyed fine (a .st) (a .cs) (met-old .1 .fines) (f .1) in
       rw (a .made) (holding .writes st2 (record { asc = good-new .asc; fines = fines; pass = p .0 }))
 

@@ -10,7 +10,7 @@ use Rattle.base.specs.Lists.{pick}
 use Rattle.theory.specs.Step.{ins, upd, del, after, back}
 use Rattle.theory.specs.Trail.{undo}
 use Rattle.theory.specs.TrailLaws.{length-undo}
-use Rattle.theory.specs.Format.{Sound}
+use Rattle.theory.specs.ReadBack.{Sound}
 use Rattle.theory.specs.Run.{done, run}
 use Rattle.theory.specs.Answer.{Read, fault, file, took, refused, count}
 use Rattle.meaning.specs.Records.{Rec, keyed, changeTexts, joined}

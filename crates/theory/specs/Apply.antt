@@ -9,13 +9,13 @@ use Rattle.theory.specs.Step.{ins, upd, del, Change, Test, passes, fails
 use Rattle.theory.specs.Trail.{final, undo}
 use Rattle.theory.specs.Run.{Out, done, stop, run, Taken}
 use Rattle.theory.specs.Answer.{Read, fault, file, Answer, took, refused, count}
-use Rattle.theory.specs.Format.{Holding, Format}
+use Rattle.theory.specs.ReadBack.{Holding, Files}
 
 -- `Room` is what a caller lends, such as the length of a buffer; `late room` are the tests that depend on it; `badLine` is the line of a faulty holding's fault
-module _ (K : Keyed) (H : Holding K) (F : Format (K .Rec) (H .fine)) (Room : Type 0) (late : Room → List (Test (K .Rec))) (badLine : List ℕ → ℕ) where
+module _ (K : Keyed) (H : Holding K) (F : Files (K .Rec) (H .fine)) (Room : Type 0) (late : Room → List (Test (K .Rec))) (badLine : List ℕ → ℕ) where
   open Keyed K using (Rec)
   open Holding H using (always, write, hold)
-  open Format F using (Frame, readFile, writeFile)
+  open Files F using (Frame, readFile, writeFile)
 
   -- ---- apply
 

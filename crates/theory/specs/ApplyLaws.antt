@@ -13,13 +13,13 @@ use Rattle.theory.specs.TrailLaws.{length-undo}
 use Rattle.theory.specs.Run.{Out, done, stop, run, Good}
 use Rattle.theory.specs.RunLaws.{run-taken, taken-run, fine-final, fine-undo, good-final, undo-taken, undo-same}
 use Rattle.theory.specs.Answer.{Read, fault, file, Answer, took, count}
-use Rattle.theory.specs.Format.{Sound, Holding, Format}
+use Rattle.theory.specs.ReadBack.{Sound, Holding, Files}
 use Rattle.theory.specs.Apply as A
 
-module _ (K : Keyed) (H : Holding K) (F : Format (K .Rec) (H .fine)) (Room : Type 0) (late : Room → List (Test (K .Rec))) (badLine : List ℕ → ℕ) where
+module _ (K : Keyed) (H : Holding K) (F : Files (K .Rec) (H .fine)) (Room : Type 0) (late : Room → List (Test (K .Rec))) (badLine : List ℕ → ℕ) where
   open Keyed K using (Rec)
   open Holding H using (fine, always, write, hold, writes, holds)
-  open Format F using (Frame, readFile, reads, says)
+  open Files F using (Frame, readFile, reads, says)
 
   -- ---- the words of Apply for this format
 

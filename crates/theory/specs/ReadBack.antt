@@ -1,4 +1,4 @@
--- What the theory asks of a format: holdings and change files as bytes, written and read back.
+-- What the theory asks of the bytes of a format: holdings and change files as bytes, written and read back.
 use mathlib.Core.Path.{_≡_}
 use mathlib.Core.Bool.{Bool}
 use mathlib.Core.Option.{Option, some}
@@ -28,7 +28,7 @@ pub record Holding (K : Keyed) : Type 0 where
   pub holds : (b : List ℕ) (st : List (K .Rec)) → hold b ≡ some st → (b ≡ write st) × Sound K fine always st
 
 -- files as bytes: a frame (header, metadata, trailer) that suits a body of so many lines around changes of fine records; what is written is read back
-pub record Format (R : Type 0) (fine : R → Bool) : Type 1 where
+pub record Files (R : Type 0) (fine : R → Bool) : Type 1 where
   pub Frame : Type 0
   pub suits : Frame → ℕ → Bool
   pub readFile : List ℕ → Read (Frame × List (Change R))
