@@ -1,5 +1,5 @@
-# The table of kinds and fields, crates/meaning/specs/Table.antt, as the C table that explain.c goes by.
-# It fails on a row that it can't read, and where a kind lacks its identifier, role or fields.
+# The kinds and their fields, from Kinds.antt, Format.antt and Table.antt of crates/meaning/specs, as the C table that explain.c goes by.
+# It fails on a row that it can't read, where there is no kind or no name of START_DATE, and where a kind lacks its role or fields.
 
 # The rows in a line: man or may, a name, and a form alone or with one or two numbers in parentheses.
 function rows(line,    made, row, words, n) {
@@ -53,6 +53,7 @@ kind != "" && !/^ +∷ \[\]\)?$/ {
 }
 END {
   if (failed) exit 1
+  if (count == 0 || start == "") fail("no kind, or no name of START_DATE")
   for (i = 1; i <= count; i++) {
     k = kinds[i]
     if (role[k] == "" || fields[k] == "") fail("no role or no fields: " k)

@@ -4,6 +4,7 @@ use mathlib.Core.List.{List}
 use Prim.Native.Nat.{ℕ}
 use Rattle.base.specs.Lists.{zeros}
 use Rattle.theory.specs.Answer.{Answer, took, refused}
+use Rattle.meaning.specs.Table.{scottish}
 use Rattle.meaning.specs.Holding.{written}
 use Rattle.meaning.specs.Load.{load, filled, applied, apply}
 use Rattle.places.specs.Places.{says}
@@ -19,14 +20,14 @@ numbers-applied room (took new i u d) = refl
 numbers-applied room (refused c l f) = refl
 
 module _ (h f b t u : List ℕ) (room : ℕ) (r : Loaded) (w : Loads h f b t u room r) where
-  answers : r .answer ≡ answerOf (apply h f room .answer)
+  answers : r .answer ≡ answerOf (apply scottish h f room .answer)
   unfolding apply
-  answers = w .answered ∙ ap answerOf (numbers-applied room (load room h f))
+  answers = w .answered ∙ ap answerOf (numbers-applied room (load scottish room h f))
 
   -- a refusal
   pub apply-refused : (a : Answer′) (out : List ℕ) → (r .answer .code ≡ 0 → ⊥) → a ≡ r .answer → out ≡ zeros room → Outcome h f room a out
   unfolding apply
-  apply-refused a out n p e = (p ∙ answers, e ∙ go (load room h f) (w .answered))
+  apply-refused a out n p e = (p ∙ answers, e ∙ go (load scottish room h f) (w .answered))
     where
       go : (x : Answer) → r .answer ≡ answerOf (numbers x) → zeros room ≡ applied room x .output
       go (took new i u d) q = absurd (n (ap (λ y. y .code) q))

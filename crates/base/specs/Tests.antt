@@ -1,6 +1,6 @@
 -- Laws of tests: what follows from a test that holds, and which tests are equal.
 use mathlib.Core.Path.{_≡_, refl, subst}
-use mathlib.Core.Bool.{Bool, true, false, not, _&&_}
+use mathlib.Core.Bool.{Bool, true, false, not, _&&_, _||_}
 use mathlib.Core.Option.{Option, none, some}
 use lib.Dec.{T}
 use Rattle.base.specs.Lists.{ask, some?}
@@ -21,6 +21,21 @@ and-r true b t = t
 and-r false b t = absurd t
 
 pub ruleset bools = (and-in, and-l, and-r)
+
+-- one of two holds where the first does
+pub or-l : (a b : Bool) → T a → T (a || b)
+or-l true b t = tt
+or-l false b t = absurd t
+
+-- or where the second does
+pub or-r : (a b : Bool) → T b → T (a || b)
+or-r true b t = tt
+or-r false b t = t
+
+-- the second holds wherever the first does
+pub or-not : (a b : Bool) → T (not a || b) → T a → T b
+or-not true b h t = h
+or-not false b h t = absurd t
 
 -- two tests that imply one another are equal
 pub same-test : (a b : Bool) → (T a → T b) → (T b → T a) → a ≡ b

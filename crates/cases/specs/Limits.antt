@@ -7,7 +7,8 @@ use Rattle.theory.specs.Decimal.{dec}
 use Rattle.theory.specs.Run.{Out, done, stop, run}
 use Rattle.base.specs.Lists.{pick, same, bytes}
 use Rattle.meaning.specs.Lines.{linesOf}
-use Rattle.meaning.specs.Table.{street}
+use Rattle.meaning.specs.Kinds.{street}
+use Rattle.meaning.specs.Table.{scottish}
 use Rattle.meaning.specs.Records.{Rec, keyed}
 use Rattle.meaning.specs.File.{inBody, readFrom}
 use Rattle.meaning.specs.Load.{checked, stepTests}
@@ -40,7 +41,7 @@ tails =
 -- the numbers of the tails that do not agree
 unfoldable pub tailMisses : ℕ → List (List ℕ × List ℕ) → List ℕ
 tailMisses i [] = []
-tailMisses i (c ∷ cs) = pick (same (sixList (checked (readFrom 4098 inBody 4096 (linesOf (c .0))))) (c .1)) (tailMisses (suc i) cs) (i ∷ tailMisses (suc i) cs)
+tailMisses i (c ∷ cs) = pick (same (sixList (checked (readFrom scottish 4098 inBody 4096 (linesOf (c .0))))) (c .1)) (tailMisses (suc i) cs) (i ∷ tailMisses (suc i) cs)
 
 -- each tail is answered as the reference answered the whole file
 pub agreed-tails : tailMisses 0 tails ≡ []
@@ -67,7 +68,7 @@ stopped (stop l w) = w ∷ l ∷ []
 
 -- one step on line 2, over 8,192 streets with even numbers
 unfoldable pub stops : Change Rec → List ℕ
-stops c = stopped (run keyed (stepTests 9999999) 2 (evens 8192 1) (c ∷ []))
+stops c = stopped (run (keyed scottish) (stepTests scottish 9999999) 2 (evens 8192 1) (c ∷ []))
 
 -- a step over the full holding, and the answer: 16 for an absent key, 10 for a held one, 11 for an update or delete of an absent one
 unfoldable pub full : List (Change Rec × List ℕ)

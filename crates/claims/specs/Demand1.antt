@@ -7,6 +7,7 @@ use denote.Ref.{RefT}
 use lib.Dec.{T}
 use lib.ListN.{length, take, drop}
 use Rattle.base.specs.Lists.{zeros}
+use Rattle.meaning.specs.Table.{scottish}
 use Rattle.meaning.specs.Load.{Three, filled, checkFile, checkHolding, undoBytes}
 use Rattle.meaning.specs.Enquiries.{Found, find, inForce, fieldOf}
 use Rattle.laws.specs.Rows.{Row, given, checkRows, holdingRows, applyRows, undoRows, findRows, forceRows, fieldRows, FoundIn, check-given, holding-given, apply-given, undo-given, find-given, force-given, field-given}
@@ -14,6 +15,7 @@ use Rattle.laws.specs.Checks.{refused-counts}
 use Rattle.laws.specs.Demand2.{refused-zeros}
 use Rattle.laws.specs.Demand3.{undo-done}
 use Rattle.laws.specs.Buffers.{work-zeros, undo-output, undo-refused-zeros}
+use Rattle.laws.specs.Scottish.{scottish-regular}
 use Rattle.volume.specs.Answer.{answerOf}
 use Rattle.volume.specs.declared.check.Answer.{Answer}
 use Rattle.holding.specs.Verdict.{verdictOf}
@@ -31,30 +33,30 @@ Nothing room r out = (out ≡ zeros room) × (r .inserts ≡ 0) × (r .updates �
 -- of apply
 pub apply-refused : (old file : List ℕ) (room : ℕ) (r : Answer) (out : List ℕ) → Outcome old file room r out → (r .code ≡ 0 → ⊥) → Nothing room r out
 apply-refused old file room r out o n =
-    let z = refused-zeros old file room (λ e. n (ap (λ x. x .code) (o .0) ∙ e)) in
+    let z = refused-zeros scottish old file room (λ e. n (ap (λ x. x .code) (o .0) ∙ e)) in
     (o .1 ∙ z .0, ap (λ x. x .inserts) (o .0) ∙ z .1, ap (λ x. x .updates) (o .0) ∙ z .2, ap (λ x. x .deletes) (o .0) ∙ z .3)
 
 -- of undo
 pub undo-refused : (old file : List ℕ) (room space : ℕ) (r : Answer) (out work : List ℕ) → UndoOutcome old file room space r out work → (r .code ≡ 0 → ⊥) → Nothing room r out
 undo-refused old file room space r out work o n =
-    let z = undo-refused-zeros old file room space (λ e. n (ap (λ x. x .code) (o .0) ∙ e)) in
+    let z = undo-refused-zeros scottish old file room space (λ e. n (ap (λ x. x .code) (o .0) ∙ e)) in
     (o .1 ∙ z .0, ap (λ x. x .inserts) (o .0) ∙ z .1, ap (λ x. x .updates) (o .0) ∙ z .2, ap (λ x. x .deletes) (o .0) ∙ z .3)
 
 -- on success the output holds the undo, then zeros to its end; apply's is demand 2's `new-holding`
 pub undo-filled : (old file : List ℕ) (room space : ℕ) (r : Answer) (out work : List ℕ) → UndoOutcome old file room space r out work → r .code ≡ 0
-    → (out ≡ filled room (undoBytes old file)) × (length (undoBytes old file) ≤ room)
+    → (out ≡ filled room (undoBytes scottish old file)) × (length (undoBytes scottish old file) ≤ room)
 undo-filled old file room space r out work o e =
     let z = sym (ap (λ x. x .code) (o .0)) ∙ e in
-    (o .1 ∙ undo-output old file room space z, undo-done old file room space z .3)
+    (o .1 ∙ undo-output scottish scottish-regular old file room space z, undo-done scottish scottish-regular old file room space z .3)
 
 -- the work buffer is all zeros afterwards, on success as on refusal
 pub work-is-zeros : (old file : List ℕ) (room space : ℕ) (r : Answer) (out work : List ℕ) → UndoOutcome old file room space r out work → work ≡ zeros space
-work-is-zeros old file room space r out work o = o .2 ∙ work-zeros old file room space
+work-is-zeros old file room space r out work o = o .2 ∙ work-zeros scottish old file room space
 
 -- the check of a file counts nothing where it refuses
-pub check-refused : (file : List ℕ) (r : Answer) → r ≡ answerOf (checkFile file) → (r .code ≡ 0 → ⊥) → (r .inserts ≡ 0) × (r .updates ≡ 0) × (r .deletes ≡ 0)
+pub check-refused : (file : List ℕ) (r : Answer) → r ≡ answerOf (checkFile scottish file) → (r .code ≡ 0 → ⊥) → (r .inserts ≡ 0) × (r .updates ≡ 0) × (r .deletes ≡ 0)
 check-refused file r e n =
-    let z = refused-counts file (λ c. n (ap (λ x. x .code) e ∙ c)) in
+    let z = refused-counts scottish file (λ c. n (ap (λ x. x .code) e ∙ c)) in
     (ap (λ x. x .inserts) e ∙ z .0, ap (λ x. x .updates) e ∙ z .1, ap (λ x. x .deletes) e ∙ z .2)
 
 -- ---- each refusal has a number, a line and a field
@@ -64,20 +66,20 @@ abbrev pub InTable : List Row → Answer → Type 0
 InTable rows r = T (given rows (r .code) (r .line) (r .field))
 
 -- check a file
-pub check-file-numbers : (file : List ℕ) (r : Answer) → r ≡ answerOf (checkFile file) → InTable (checkRows file) r
-check-file-numbers file r e = rw e (check-given file)
+pub check-file-numbers : (file : List ℕ) (r : Answer) → r ≡ answerOf (checkFile scottish file) → InTable (checkRows scottish file) r
+check-file-numbers file r e = rw e (check-given scottish scottish-regular file)
 
 -- check a holding
-pub check-holding-numbers : (old : List ℕ) (v : Verdict) → v ≡ verdictOf (checkHolding old) → T (given (holdingRows old) (v .code) (v .line) (v .field))
-check-holding-numbers old v e = rw e (holding-given old)
+pub check-holding-numbers : (old : List ℕ) (v : Verdict) → v ≡ verdictOf (checkHolding scottish old) → T (given (holdingRows old) (v .code) (v .line) (v .field))
+check-holding-numbers old v e = rw e (holding-given scottish old)
 
 -- apply
-pub apply-numbers : (old file : List ℕ) (room : ℕ) (r : Answer) (out : List ℕ) → Outcome old file room r out → InTable (applyRows old file) r
-apply-numbers old file room r out o = rw (o .0) (apply-given old file room)
+pub apply-numbers : (old file : List ℕ) (room : ℕ) (r : Answer) (out : List ℕ) → Outcome old file room r out → InTable (applyRows scottish old file) r
+apply-numbers old file room r out o = rw (o .0) (apply-given scottish scottish-regular old file room)
 
 -- undo
-pub undo-numbers : (old file : List ℕ) (room space : ℕ) (r : Answer) (out work : List ℕ) → UndoOutcome old file room space r out work → InTable (undoRows old file) r
-undo-numbers old file room space r out work o = rw (o .0) (undo-given old file room space)
+pub undo-numbers : (old file : List ℕ) (room space : ℕ) (r : Answer) (out work : List ℕ) → UndoOutcome old file room space r out work → InTable (undoRows scottish old file) r
+undo-numbers old file room space r out work o = rw (o .0) (undo-given scottish scottish-regular old file room space)
 
 -- an enquiry's three numbers stand in these rows, and a refusal hands back an empty part
 pub record Told (rows : List Row) (answer part : List ℕ) : Type 0 where
@@ -95,15 +97,15 @@ told rows f s r answer i h = record {
 }
 
 -- find a street or BLPU
-pub find-numbers : (s r : RefT (List ℕ)) (kind n : ℕ) (answer : List ℕ) → Handed (find (s .now) kind n) s r answer → Told (findRows (s .now)) answer (r .now)
-find-numbers s r kind n answer h = told _ _ s r answer (find-given (s .now) kind n) h
+pub find-numbers : (s r : RefT (List ℕ)) (kind n : ℕ) (answer : List ℕ) → Handed (find scottish (s .now) kind n) s r answer → Told (findRows (s .now)) answer (r .now)
+find-numbers s r kind n answer h = told _ _ s r answer (find-given scottish (s .now) kind n) h
 
 -- show the record in force
-pub in-force-numbers : (s t r : RefT (List ℕ)) (kind n : ℕ) (answer : List ℕ) → HandedOf (inForce (s .now) (t .now) kind n) s t r answer
-    → Told (forceRows (s .now) (t .now)) answer (r .now)
+pub in-force-numbers : (s t r : RefT (List ℕ)) (kind n : ℕ) (answer : List ℕ) → HandedOf (inForce scottish (s .now) (t .now) kind n) s t r answer
+    → Told (forceRows scottish (s .now) (t .now)) answer (r .now)
 in-force-numbers s t r kind n answer h =
-    let f = inForce (s .now) (t .now) kind n in
-    told _ f (lentAs (f .slice) s t) r answer (force-given (s .now) (t .now) kind n) h
+    let f = inForce scottish (s .now) (t .now) kind n in
+    told _ f (lentAs (f .slice) s t) r answer (force-given scottish scottish-regular (s .now) (t .now) kind n) h
 
 -- give one field of a line
 pub field-numbers : (s r : RefT (List ℕ)) (line n : ℕ) (answer : List ℕ) → Handed (fieldOf (s .now) line n) s r answer → Told fieldRows answer (r .now)

@@ -12,6 +12,7 @@ use Rattle.theory.specs.Step.{ins, upd, del, after}
 use Rattle.theory.specs.Trail.{Through}
 use Rattle.theory.specs.Run.{last, free}
 use Rattle.meaning.specs.Lines.{linesOf}
+use Rattle.meaning.specs.Table.{scottish}
 use Rattle.meaning.specs.Records.{Rec, keyed, changeText}
 use Rattle.meaning.specs.Holding.{written}
 use Rattle.meaning.specs.Load.{three, filled, checkHolding}
@@ -23,6 +24,7 @@ use Rattle.laws.specs.Checks.{holding-checked}
 use Rattle.laws.specs.Takes.{new-fits}
 use Rattle.laws.specs.Find.{record-line}
 use Rattle.laws.specs.Demand2.{Allowed, afterAll, Lawful, Roomy, Whole, lawful-exactly, taken-exactly, allowed-takes, allowed-done, at-every-state, last-line, unnamed, new-sound}
+use Rattle.laws.specs.Scottish.{scottish-regular}
 use Rattle.volume.specs.Answer.{answerOf}
 use Rattle.volume.specs.declared.check.Answer.{Answer}
 use Rattle.holding.specs.Verdict.{verdictOf}
@@ -31,49 +33,49 @@ use Rattle.apply.specs.Outcome.{Outcome}
 
 module _ (old file : List ℕ) (room : ℕ) (r : Answer) (out : List ℕ) (o : Outcome old file room r out) where
   -- given a sound holding and buffers with room at every step, a file is taken exactly if every line and every step is allowed
-  pub taken-if : (st : List Rec) → SoundHolding old st → Roomy room st file → (r .code ≡ 0) ↔ Lawful st file
+  pub taken-if : (st : List Rec) → SoundHolding scottish old st → Roomy scottish room st file → (r .code ≡ 0) ↔ Lawful scottish st file
   taken-if st h w =
-      let t = lawful-exactly old file room st h w in
+      let t = lawful-exactly scottish scottish-regular old file room st h w in
       (λ e. t .0 (sym (ap (λ x. x .code) (o .0)) ∙ e), λ l. ap (λ x. x .code) (o .0) ∙ t .1 l)
 
   -- the same with nothing given: taken exactly if the holding is sound, every line is allowed at its place, and every step is allowed and has room
-  pub taken-only : (r .code ≡ 0) ↔ Allowed old file room
+  pub taken-only : (r .code ≡ 0) ↔ Allowed scottish old file room
   taken-only =
-      let t = taken-exactly old file room in
+      let t = taken-exactly scottish scottish-regular old file room in
       (λ e. t .0 (sym (ap (λ x. x .code) (o .0)) ∙ e), λ a. ap (λ x. x .code) (o .0) ∙ t .1 a)
 
-  module _ (a : Allowed old file room) where
+  module _ (a : Allowed scottish old file room) where
     -- the new holding is the old one with the file's inserts, updates and deletes made in their order, and zeros follow it
-    pub new-holding : (out ≡ filled room (written (afterAll a))) × (length (written (afterAll a)) ≤ room)
-    new-holding = (o .1 ∙ ap (λ x. x .output) (allowed-done old file room a), new-fits room old file _ (allowed-takes old file room a))
+    pub new-holding : (out ≡ filled room (written (afterAll scottish a))) × (length (written (afterAll scottish a)) ≤ room)
+    new-holding = (o .1 ∙ ap (λ x. x .output) (allowed-done scottish scottish-regular old file room a), new-fits scottish scottish-regular room old file _ (allowed-takes scottish scottish-regular old file room a))
 
     -- each counted in the answer
     pub counted : (r .inserts ≡ count ins (a .cs)) × (r .updates ≡ count upd (a .cs)) × (r .deletes ≡ count del (a .cs))
     counted =
-        let e = o .0 ∙ ap (λ x. answerOf (x .answer)) (allowed-done old file room a) in
+        let e = o .0 ∙ ap (λ x. answerOf (x .answer)) (allowed-done scottish scottish-regular old file room a) in
         (ap (λ x. x .inserts) e, ap (λ x. x .updates) e, ap (λ x. x .deletes) e)
 
     -- each key once, each reference met after each step
-    pub after-each-step : Through (after keyed) (Whole room) (a .st) (a .cs)
-    after-each-step = at-every-state old file room a
+    pub after-each-step : Through (after (keyed scottish)) (Whole scottish room) (a .st) (a .cs)
+    after-each-step = at-every-state scottish scottish-regular old file room a
 
     -- the record at a key is what the last line naming it says
-    pub last-says : (k : List ℕ) → get keyed k (afterAll a) ≡ last keyed k (a .cs) (get keyed k (a .st))
-    last-says k = last-line old file room a k
+    pub last-says : (k : List ℕ) → get (keyed scottish) k (afterAll scottish a) ≡ last (keyed scottish) k (a .cs) (get (keyed scottish) k (a .st))
+    last-says k = last-line scottish scottish-regular old file room a k
 
     -- a key that no line names keeps its content byte for byte
-    pub unnamed-kept : (k : List ℕ) → T (free keyed k (a .cs)) → get keyed k (afterAll a) ≡ get keyed k (a .st)
-    unnamed-kept k f = unnamed old file room a k f
+    pub unnamed-kept : (k : List ℕ) → T (free (keyed scottish) k (a .cs)) → get (keyed scottish) k (afterAll scottish a) ≡ get (keyed scottish) k (a .st)
+    unnamed-kept k f = unnamed scottish scottish-regular old file room a k f
 
     -- each record that no line named is unchanged but for its running number: its line in the old holding and its line in the new one
-    pub unnamed-line : (k : List ℕ) (x : Rec) → T (free keyed k (a .cs)) → get keyed k (a .st) ≡ some x
+    pub unnamed-line : (k : List ℕ) (x : Rec) → T (free (keyed scottish) k (a .cs)) → get (keyed scottish) k (a .st) ≡ some x
         → ((m : ℕ) × (getD (linesOf old) m noLine ≡ ends (changeText (suc m) (insertOf x))))
-        × ((n : ℕ) × (getD (linesOf (written (afterAll a))) n noLine ≡ ends (changeText (suc n) (insertOf x))))
+        × ((n : ℕ) × (getD (linesOf (written (afterAll scottish a))) n noLine ≡ ends (changeText (suc n) (insertOf x))))
     unnamed-line k x f g = (
-      record-line old (a .st) k x (a .held) g,
-      record-line (written (afterAll a)) (afterAll a) k x (new-sound old file room a) (unnamed-kept k f ∙ g),
+      record-line scottish old (a .st) k x (a .held) g,
+      record-line scottish (written (afterAll scottish a)) (afterAll scottish a) k x (new-sound scottish scottish-regular old file room a) (unnamed-kept k f ∙ g),
     )
 
     -- the new holding is sound: check_holding answers 0
-    pub new-checks : (v : Verdict) → v ≡ verdictOf (checkHolding (written (afterAll a))) → v ≡ verdictOf (three 0 0 0)
-    new-checks v e = e ∙ ap verdictOf (holding-checked _ (afterAll a) (new-sound old file room a))
+    pub new-checks : (v : Verdict) → v ≡ verdictOf (checkHolding scottish (written (afterAll scottish a))) → v ≡ verdictOf (three 0 0 0)
+    new-checks v e = e ∙ ap verdictOf (holding-checked scottish scottish-regular _ (afterAll scottish a) (new-sound scottish scottish-regular old file room a))

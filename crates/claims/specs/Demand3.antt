@@ -9,6 +9,7 @@ use lib.ListN.{length}
 use Rattle.base.specs.Lists.{pick}
 use Rattle.theory.specs.Step.{ins, upd, del, Change}
 use Rattle.theory.specs.Answer.{Read, fault, file, count}
+use Rattle.meaning.specs.Table.{scottish}
 use Rattle.meaning.specs.Records.{Rec, joined}
 use Rattle.meaning.specs.File.{Frame, Sheet, writeFile}
 use Rattle.meaning.specs.Holding.{written}
@@ -20,6 +21,7 @@ use Rattle.laws.specs.Demand2.{Allowed, afterAll, allowed-takes, takes-more}
 use Rattle.laws.specs.Demand3.{stepsBack, undo-is, undo-sound, undo-checks, undo-done, undo-only-17, empty-body}
 use Rattle.laws.specs.UndoRefusals.{undo-refusals}
 use Rattle.laws.specs.Buffers.{undo-output}
+use Rattle.laws.specs.Scottish.{scottish-regular}
 use Rattle.volume.specs.Answer.{answerOf}
 use Rattle.volume.specs.declared.check.Answer.{Answer}
 use Rattle.apply.specs.Outcome.{Outcome}
@@ -69,23 +71,23 @@ changes (file s) = s .1
 
 module _ (old : List ℕ) (n : Night old) where
   -- all was allowed
-  allowed : Allowed old (n .file) (n .room)
+  allowed : Allowed scottish old (n .file) (n .room)
   allowed = taken-only old (n .file) (n .room) (n .answer) (n .out) (n .outcome) .0 (n .taken)
 
   -- the holding that is left is demand 2's: the old one with the file's changes made in their order
-  pub left-is : (a : Allowed old (n .file) (n .room)) → left n ≡ written (afterAll a)
+  pub left-is : (a : Allowed scottish old (n .file) (n .room)) → left n ≡ written (afterAll scottish a)
   unfolding written
   left-is a = ap bare (new-holding old (n .file) (n .room) (n .answer) (n .out) (n .outcome) a .0) ∙ bare-filled (n .room) _
 
-  takes : Takes (n .room) old (n .file) (left n)
-  takes = subst (Takes (n .room) old (n .file)) (sym (left-is allowed)) (allowed-takes old (n .file) (n .room) allowed)
+  takes : Takes scottish scottish-regular (n .room) old (n .file) (left n)
+  takes = subst (Takes scottish scottish-regular (n .room) old (n .file)) (sym (left-is allowed)) (allowed-takes scottish scottish-regular old (n .file) (n .room) allowed)
 
   -- an undo is refused only for want of room: 17, or 13 for its work buffer
   pub refused-for-room : (room space : ℕ) (r : Answer) (out work : List ℕ) → UndoOutcome old (n .file) room space r out work → T (among (r .code) (0 ∷ 13 ∷ 17 ∷ []))
   unfolding among
   refused-for-room room space r out work o =
-      let c = undoFile old (n .file) room space .answer .code in
-      rw (o .0) (listed (eqb c 0) (eqb c 13) (eqb c 17) (undo-refusals (n .room) room space old (n .file) (left n) takes .codes))
+      let c = undoFile scottish old (n .file) room space .answer .code in
+      rw (o .0) (listed (eqb c 0) (eqb c 13) (eqb c 17) (undo-refusals scottish scottish-regular (n .room) room space old (n .file) (left n) takes .codes))
     where
       listed : (a b c : Bool) → T (a || (b || c)) → T (a || (b || (c || false)))
       listed true b c t = tt
@@ -95,39 +97,39 @@ module _ (old : List ℕ) (n : Night old) where
 
   -- with a work buffer as long as the output going forward it is refused exactly if the undo is longer than its output, and then with 17
   pub refused-with-17 : (room space : ℕ) (r : Answer) (out work : List ℕ) → n .room ≤ space → UndoOutcome old (n .file) room space r out work
-      → r .code ≡ pick (leb (length (undoBytes old (n .file))) room) 0 17
-  refused-with-17 room space r out work h o = ap (λ x. x .code) (o .0) ∙ undo-only-17 (n .room) room space old (n .file) (left n) takes h
+      → r .code ≡ pick (leb (length (undoBytes scottish old (n .file))) room) 0 17
+  refused-with-17 room space r out work h o = ap (λ x. x .code) (o .0) ∙ undo-only-17 scottish scottish-regular (n .room) room space old (n .file) (left n) takes h
 
   module _ (u : Undo old n) where
     -- undo counts the file's body lines, as apply did
     pub undo-counted : u .answer ≡ n .answer
     undo-counted =
         let t = takes in
-        let w = undo-done old (n .file) (u .room) (u .space) (sym (ap (λ x. x .code) (u .outcome .0)) ∙ u .made) in
+        let w = undo-done scottish scottish-regular old (n .file) (u .room) (u .space) (sym (ap (λ x. x .code) (u .outcome .0)) ∙ u .made) in
         let e : w .1 .cs ≡ t .cs = ap changes (sym (w .1 .read) ∙ t .read) in
-        let a = n .outcome .0 ∙ ap (λ x. answerOf (x .answer)) (taken (n .room) old (n .file) (left n) t) in
+        let a = n .outcome .0 ∙ ap (λ x. answerOf (x .answer)) (taken scottish scottish-regular (n .room) old (n .file) (left n) t) in
         u .outcome .0 ∙ ap answerOf (w .2) ∙ ap (λ cs. answerOf (six 0 0 0 (count ins cs) (count upd cs) (count del cs))) e ∙ sym a
 
-    undo-bytes : undoOf u ≡ undoBytes old (n .file)
+    undo-bytes : undoOf u ≡ undoBytes scottish old (n .file)
     unfolding writeFile
     undo-bytes =
-        let e = undo-is (n .room) old (n .file) (left n) takes in
-        ap bare (u .outcome .1 ∙ undo-output old (n .file) (u .room) (u .space) (sym (ap (λ x. x .code) (u .outcome .0)) ∙ u .made) ∙ ap (filled (u .room)) e)
+        let e = undo-is scottish scottish-regular (n .room) old (n .file) (left n) takes in
+        ap bare (u .outcome .1 ∙ undo-output scottish scottish-regular old (n .file) (u .room) (u .space) (sym (ap (λ x. x .code) (u .outcome .0)) ∙ u .made) ∙ ap (filled (u .room)) e)
         ∙ bare-filled (u .room) _
         ∙ sym e
 
     -- each undo is itself a sound change file in the published layout, with the file's own header, metadata and trailer
-    pub undo-file : (fr : Frame) × (cs : List (Change Rec)) × SoundFile (n .file) fr cs × ((back : List (Change Rec)) × SoundFile (undoOf u) fr back)
+    pub undo-file : (fr : Frame) × (cs : List (Change Rec)) × SoundFile scottish (n .file) fr cs × ((back : List (Change Rec)) × SoundFile scottish (undoOf u) fr back)
     undo-file =
         let t = takes in
-        (t .fr, t .cs, read-sound (n .file) (t .fr) (t .cs) (t .read), (stepsBack (n .room) old (n .file) (left n) t, rw undo-bytes (undo-sound (n .room) old (n .file) (left n) t)))
+        (t .fr, t .cs, read-sound scottish (n .file) (t .fr) (t .cs) (t .read), (stepsBack scottish scottish-regular (n .room) old (n .file) (left n) t, rw undo-bytes (undo-sound scottish scottish-regular (n .room) old (n .file) (left n) t)))
 
     -- check_file takes it, and counts the file's deletes as inserts and its inserts as deletes
-    pub undo-checked : (c : Answer) → c ≡ answerOf (checkFile (undoOf u)) → c ≡ answerOf (six 0 0 0 (n .answer .deletes) (n .answer .updates) (n .answer .inserts))
+    pub undo-checked : (c : Answer) → c ≡ answerOf (checkFile scottish (undoOf u)) → c ≡ answerOf (six 0 0 0 (n .answer .deletes) (n .answer .updates) (n .answer .inserts))
     undo-checked c e =
         let t = takes in
-        let a = n .outcome .0 ∙ ap (λ x. answerOf (x .answer)) (taken (n .room) old (n .file) (left n) t) in
-        e ∙ ap (λ b. answerOf (checkFile b)) undo-bytes ∙ rw a (ap answerOf (undo-checks (n .room) old (n .file) (left n) t))
+        let a = n .outcome .0 ∙ ap (λ x. answerOf (x .answer)) (taken scottish scottish-regular (n .room) old (n .file) (left n) t) in
+        e ∙ ap (λ b. answerOf (checkFile scottish b)) undo-bytes ∙ rw a (ap answerOf (undo-checks scottish scottish-regular (n .room) old (n .file) (left n) t))
 
     -- handed in over the holding that the file left, with a buffer as long as the one used going forward or longer, it is taken and gives back, byte for byte,
     -- the holding that stood before its file
@@ -135,18 +137,18 @@ module _ (old : List ℕ) (n : Night old) where
     unfolding written
     gives-back room r out h o =
         let t = takes in
-        let m = met-old (n .room) old (n .file) (left n) t .0 in
-        let b = takes-more (left n) (undoBytes old (n .file)) old (n .room) room h (undo-takes (n .room) old (n .file) (left n) t) in
-        let e = ap (λ f. apply (left n) f room) undo-bytes ∙ taken room (left n) (undoBytes old (n .file)) old b in
+        let m = met-old scottish scottish-regular (n .room) old (n .file) (left n) t .0 in
+        let b = takes-more scottish scottish-regular (left n) (undoBytes scottish old (n .file)) old (n .room) room h (undo-takes scottish scottish-regular (n .room) old (n .file) (left n) t) in
+        let e = ap (λ f. apply scottish (left n) f room) undo-bytes ∙ taken scottish scottish-regular room (left n) (undoBytes scottish old (n .file)) old b in
         let w = o .1 ∙ ap (λ x. x .output) e in
         (ap (λ x. x .code) (o .0) ∙ ap (λ x. x .answer .code) e, w, ap bare w ∙ ap (λ x. bare (filled room x)) m ∙ bare-filled room _ ∙ sym m)
 
     -- an empty body: the holding is unchanged and the undo is the file itself
-    pub empty : (fr : Frame) → SoundFile (n .file) fr [] → (left n ≡ old) × (undoOf u ≡ n .file)
+    pub empty : (fr : Frame) → SoundFile scottish (n .file) fr [] → (left n ≡ old) × (undoOf u ≡ n .file)
     empty fr s =
         let t = takes in
-        let e : t .cs ≡ [] = ap changes (sym (t .read) ∙ sound-read (n .file) fr [] s) in
-        let b = empty-body (n .room) old (n .file) (left n) t e in
+        let e : t .cs ≡ [] = ap changes (sym (t .read) ∙ sound-read scottish (n .file) fr [] s) in
+        let b = empty-body scottish scottish-regular (n .room) old (n .file) (left n) t e in
         (b .0, undo-bytes ∙ b .1)
 
 -- ---- any run of files taken one after another

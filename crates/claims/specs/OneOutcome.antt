@@ -5,6 +5,7 @@ use mathlib.Core.Bool.{Bool}
 use mathlib.Core.List.{List}
 use Prim.Native.Nat.{ℕ}
 use denote.Ref.{RefT}
+use Rattle.meaning.specs.Table.{scottish}
 use Rattle.meaning.specs.Load.{checkFile, checkHolding}
 use Rattle.meaning.specs.Enquiries.{Found, find, inForce, fieldOf}
 use Rattle.laws.specs.Buffers.{one-outcome}
@@ -18,11 +19,11 @@ use Rattle.undo.specs.Outcome.{UndoOutcome}
 use Rattle.program.specs.Outcome.{PrintOutcome}
 
 -- check a file
-pub check-file-once : (file : List ℕ) (r s : Answer) → r ≡ answerOf (checkFile file) → s ≡ answerOf (checkFile file) → r ≡ s
+pub check-file-once : (file : List ℕ) (r s : Answer) → r ≡ answerOf (checkFile scottish file) → s ≡ answerOf (checkFile scottish file) → r ≡ s
 check-file-once file r s o p = one-outcome _ r s o p
 
 -- check a holding
-pub check-holding-once : (old : List ℕ) (v w : Verdict) → v ≡ verdictOf (checkHolding old) → w ≡ verdictOf (checkHolding old) → v ≡ w
+pub check-holding-once : (old : List ℕ) (v w : Verdict) → v ≡ verdictOf (checkHolding scottish old) → w ≡ verdictOf (checkHolding scottish old) → v ≡ w
 check-holding-once old v w o p = one-outcome _ v w o p
 
 -- apply
@@ -47,13 +48,13 @@ handed-once f s r p a b h k = (
 )
 
 -- find a street or BLPU
-pub find-once : (s r p : RefT (List ℕ)) (kind n : ℕ) (a b : List ℕ) → Handed (find (s .now) kind n) s r a → Handed (find (s .now) kind n) s p b → SameHanded a b r p
-find-once s r p kind n a b h k = handed-once (find (s .now) kind n) s r p a b h k
+pub find-once : (s r p : RefT (List ℕ)) (kind n : ℕ) (a b : List ℕ) → Handed (find scottish (s .now) kind n) s r a → Handed (find scottish (s .now) kind n) s p b → SameHanded a b r p
+find-once s r p kind n a b h k = handed-once (find scottish (s .now) kind n) s r p a b h k
 
 -- show the record in force
 pub in-force-once : (s t r p : RefT (List ℕ)) (kind n : ℕ) (a b : List ℕ)
-    → HandedOf (inForce (s .now) (t .now) kind n) s t r a → HandedOf (inForce (s .now) (t .now) kind n) s t p b → SameHanded a b r p
-in-force-once s t r p kind n a b h k = let f = inForce (s .now) (t .now) kind n in handed-once f (lentAs (f .slice) s t) r p a b h k
+    → HandedOf (inForce scottish (s .now) (t .now) kind n) s t r a → HandedOf (inForce scottish (s .now) (t .now) kind n) s t p b → SameHanded a b r p
+in-force-once s t r p kind n a b h k = let f = inForce scottish (s .now) (t .now) kind n in handed-once f (lentAs (f .slice) s t) r p a b h k
 
 -- give one field of a line
 pub field-once : (s r p : RefT (List ℕ)) (line n : ℕ) (a b : List ℕ) → Handed (fieldOf (s .now) line n) s r a → Handed (fieldOf (s .now) line n) s p b → SameHanded a b r p

@@ -11,7 +11,9 @@ use Rattle.theory.specs.Lex.{cmpN, lex}
 use Rattle.theory.specs.Tri.{Tri}
 use Rattle.meaning.specs.Lines.{identifier}
 use Rattle.meaning.specs.Records.{contentOf}
-use Rattle.meaning.specs.Table.{Kind, kindOf}
+use Rattle.meaning.specs.Kinds.{Kind}
+use Rattle.meaning.specs.Format.{kindOf}
+use Rattle.meaning.specs.Table.{scottish}
 use Rattle.text.specs.Places.{lineLen, lineEnd}
 use Rattle.layout.specs.Rows.{laidOut}
 use Rattle.layout.specs.declared.records.Layout.{Layout}
@@ -64,7 +66,7 @@ line-here s at e q =
     let n : e - at ≡ lineLen (drop at s) = omega arith in
     rw n
 
-module _ (s : List ℕ) (at i : ℕ) (k : Kind) (p : lineAt s i ≡ lineAt s at) (q : k ≡ known (kindOf (identifier (lineAt s i)))) where
+module _ (s : List ℕ) (at i : ℕ) (k : Kind) (p : lineAt s i ≡ lineAt s at) (q : k ≡ known (kindOf scottish (identifier (lineAt s i)))) where
   -- the record of the line at an offset is of its kind, and of what stands after three fields
   pub rec-at : record { kind = k; content = afterFields 3 (lineAt s i) } ≡ recOf (lineAt s at)
   unfolding recOf
@@ -81,7 +83,7 @@ module _ (s : List ℕ) (at i : ℕ) (k : Kind) (p : lineAt s i ≡ lineAt s at)
 pub ruleset recordkey = (needs, key-line)
 
 -- so is its kind
-pub record-kind : (s : List ℕ) (at i : ℕ) (k : Kind) → lineAt s i ≡ lineAt s at → k ≡ known (kindOf (identifier (lineAt s i))) → k ≡ recOf (lineAt s at) .kind
+pub record-kind : (s : List ℕ) (at i : ℕ) (k : Kind) → lineAt s i ≡ lineAt s at → k ≡ known (kindOf scottish (identifier (lineAt s i))) → k ≡ recOf (lineAt s at) .kind
 unfolding recOf
 record-kind s at i k p q = q ∙ rw p
 

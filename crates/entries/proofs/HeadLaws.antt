@@ -13,7 +13,9 @@ use Rattle.base.specs.Lists.{pick, all, upTo}
 use Rattle.base.specs.Tests.{and-l, and-r}
 use Rattle.base.specs.ListLaws.{all-map}
 use Rattle.meaning.specs.Lines.{identifier, isSep, turned, fieldsOf, afterField}
-use Rattle.meaning.specs.Table.{Kind, header, ident, kindOf}
+use Rattle.meaning.specs.Kinds.{Kind, header, ident}
+use Rattle.meaning.specs.Format.{kindOf}
+use Rattle.meaning.specs.Table.{scottish}
 use Rattle.laws.specs.Body.{ident-quiet, kind-out, first-field}
 use Rattle.laws.specs.LinesAndFields.{quiet, noQuote}
 use Rattle.text.specs.Places.{fieldLen}
@@ -127,25 +129,25 @@ quiet-first (x ∷ r) h = go (eqb x 44) (eqb x 34) refl h (quiet-first r)
     go false false e h ih = ap (λ l. x ∷ l) (ih (and-r (noQuote x) _ h))
 
 -- the kind is known by the first field as by the identifier
-kind-first : (t : List ℕ) → kindOf (firstField t) ≡ kindOf (identifier t)
+kind-first : (t : List ℕ) → kindOf scottish (firstField t) ≡ kindOf scottish (identifier t)
 unfolding identifier fieldsOf firstField quiet noQuote
-kind-first t = go (kindOf (identifier t)) (kindOf (firstField t)) refl refl
+kind-first t = go (kindOf scottish (identifier t)) (kindOf scottish (firstField t)) refl refl
   where
-    go : (o p : Option Kind) → kindOf (identifier t) ≡ o → kindOf (firstField t) ≡ p → kindOf (firstField t) ≡ kindOf (identifier t)
-    go (some k) p e f = ap kindOf (first-field t k (firstField t) _ (kind-out (identifier t) k e) (fields-next false t) ∙ sym (kind-out (identifier t) k e))
-    go none (some k) e f = ap kindOf (quiet-first t (rw (kind-out (firstField t) k f) (all-map quiet noQuote (λ x. and-r (not (eqb x 44)) (not (eqb x 34))) (ident k) (ident-quiet k))))
+    go : (o p : Option Kind) → kindOf scottish (identifier t) ≡ o → kindOf scottish (firstField t) ≡ p → kindOf scottish (firstField t) ≡ kindOf scottish (identifier t)
+    go (some k) p e f = ap (kindOf scottish) (first-field t k (firstField t) _ (kind-out scottish (identifier t) k e) (fields-next false t) ∙ sym (kind-out scottish (identifier t) k e))
+    go none (some k) e f = ap (kindOf scottish) (quiet-first t (rw (kind-out scottish (firstField t) k f) (all-map quiet noQuote (λ x. and-r (not (eqb x 44)) (not (eqb x 34))) (ident k) (ident-quiet k))))
     go none none e f = f ∙ sym e
 
-pub kind-by-first : (t f : List ℕ) (r : found.KindFound) → f ≡ firstField t → kindFound r ≡ kindOf f → kindFound r ≡ kindOf (identifier t)
+pub kind-by-first : (t f : List ℕ) (r : found.KindFound) → f ≡ firstField t → kindFound r ≡ kindOf scottish f → kindFound r ≡ kindOf scottish (identifier t)
 kind-by-first t f r q g = g ∙ rw q (kind-first t)
 
-module _ (t : List ℕ) (r : found.KindFound) (g : kindFound r ≡ kindOf (identifier t)) where
+module _ (t : List ℕ) (r : found.KindFound) (g : kindFound r ≡ kindOf scottish (identifier t)) where
   -- the kind of a line is its identifier's
-  pub kind-known : (k : code.Kind) → r ≡ Known k → kindMeant k ≡ known (kindOf (identifier t))
+  pub kind-known : (k : code.Kind) → r ≡ Known k → kindMeant k ≡ known (kindOf scottish (identifier t))
   kind-known k u = rw (← g, u)
 
   -- an unknown one is taken for a header's
-  pub kind-unknown : r ≡ Unknown → header ≡ known (kindOf (identifier t))
+  pub kind-unknown : r ≡ Unknown → header ≡ known (kindOf scottish (identifier t))
   kind-unknown u = rw (← g, u)
 
 pub ruleset kinding = (needs, kind-by-first, kind-known, kind-unknown)

@@ -15,7 +15,9 @@ use Rattle.base.specs.Lists.{pick, zeros}
 use Rattle.theory.specs.Decimal.{value, valueF}
 use Rattle.meaning.specs.Lines.{isSep, fieldsOf}
 use Rattle.meaning.specs.Forms.{Form, isTextual, isEmpty}
-use Rattle.meaning.specs.Table.{Kind, kinds, fields, keyNames, placeFrom}
+use Rattle.meaning.specs.Kinds.{Kind, kinds}
+use Rattle.meaning.specs.Format.{placeFrom}
+use Rattle.meaning.specs.Table.{fields, keyNames}
 use Rattle.laws.specs.Kinds.{every}
 use Rattle.text.specs.Places.{fieldLen}
 use Rattle.text.proofs.NumberLaws.{worth-turn, worth-fits, ten-fits}

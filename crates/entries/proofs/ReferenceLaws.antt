@@ -12,7 +12,9 @@ use Rattle.theory.specs.Tri.{isEq}
 use Rattle.theory.specs.Lex.{lex}
 use Rattle.meaning.specs.Lines.{identifier}
 use Rattle.meaning.specs.Forms.{Form, isEmpty}
-use Rattle.meaning.specs.Table.{Kind, kindOf}
+use Rattle.meaning.specs.Kinds.{Kind}
+use Rattle.meaning.specs.Format.{kindOf}
+use Rattle.meaning.specs.Table.{scottish}
 use Rattle.text.specs.declared.order.Order.{Order}
 use Rattle.text.specs.Order.{triOf}
 use Rattle.layout.specs.declared.records.Layout.{Layout}
@@ -69,7 +71,7 @@ pub ruleset samekey = (needs, same-told)
 -- ---- what a record refers to
 
 -- the record of the line at an offset by its two rows
-pub refers-at : (s : List ℕ) (at i c : ℕ) (k : Kind) (own : Key) (first second : Referred) → lineAt s i ≡ lineAt s at → k ≡ known (kindOf (identifier (lineAt s i))) → lineAt s c ≡ afterFields 3 (lineAt s i)
+pub refers-at : (s : List ℕ) (at i c : ℕ) (k : Kind) (own : Key) (first second : Referred) → lineAt s i ≡ lineAt s at → k ≡ known (kindOf scottish (identifier (lineAt s i))) → lineAt s c ≡ afterFields 3 (lineAt s i)
     → keyList own ≡ keyNumbers (record { kind = k; content = lineAt s c }) → referredAs first ≡ refAt k (lineAt s c) 0 → referredAs second ≡ refAt k (lineAt s c) 1
     → RefersAs (recOf (lineAt s at)) (record { own = own; first = first; second = second })
 refers-at s at i c k own first second p q u v w x =

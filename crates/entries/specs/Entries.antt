@@ -6,7 +6,9 @@ use lib.Dec.{eqb}
 use lib.ListN.{take, drop}
 use Rattle.base.specs.Lists.{pick}
 use Rattle.meaning.specs.Lines.{identifier}
-use Rattle.meaning.specs.Table.{Kind, header, kindOf}
+use Rattle.meaning.specs.Kinds.{Kind, header}
+use Rattle.meaning.specs.Format.{kindOf}
+use Rattle.meaning.specs.Table.{scottish}
 use Rattle.meaning.specs.Records.{Rec, contentOf}
 use Rattle.text.specs.Places.{lineLen}
 
@@ -17,7 +19,7 @@ known (some k) = k
 
 -- the record that a line's text carries
 unfoldable pub recOf : List ℕ → Rec
-recOf t = record { kind = known (kindOf (identifier t)); content = contentOf t }
+recOf t = record { kind = known (kindOf scottish (identifier t)); content = contentOf t }
 
 -- the text of the line that starts at `at`
 unfoldable pub lineAt : List ℕ → ℕ → List ℕ

@@ -8,7 +8,7 @@ use lib.ListN.{length, getD, take}
 use Rattle.base.specs.Lists.{pick}
 use Rattle.meaning.specs.Lines.{afterField}
 use Rattle.meaning.specs.Forms.{Form, isEmpty}
-use Rattle.meaning.specs.Table.{Kind}
+use Rattle.meaning.specs.Kinds.{Kind}
 use Rattle.text.specs.Places.{fieldLen}
 use Rattle.layout.specs.Rows.{laidOut}
 use Rattle.keys.specs.Numbers.{numberOf}

@@ -4,7 +4,8 @@ ghost use mathlib.Core.Bool.{_&&_};
 ghost use Prim.Native.Nat.{_≤_};
 ghost use lib.ListN.{length};
 ghost use Rattle.meaning.specs.Lines.{identifier};
-ghost use Rattle.meaning.specs.Table.{kindOf};
+ghost use Rattle.meaning.specs.Format.{kindOf};
+ghost use Rattle.meaning.specs.Table.{scottish};
 ghost use Rattle.layout.specs.Meant.{kindMeant};
 ghost use Rattle.entries.specs.Entries.{known, lineAt};
 ghost use Rattle.entries.specs.Fields.{afterFields, firstField, paired, lettered};
@@ -86,7 +87,7 @@ fn identifier_at(bytes: &[u8], at: usize) -> &[u8]
 // The kind of the line at `at`; an unknown one is taken for a header's.
 pub fn kind_at(bytes: &[u8], at: usize) -> Kind
     requires { ⌜ at ≤ length (now bytes) ⌝ }
-    ensures { λ r. ⌜ kindMeant r ≡ known (kindOf (identifier (lineAt (now (bytes .entry)) at))) ⌝ }
+    ensures { λ r. ⌜ kindMeant r ≡ known (kindOf scottish (identifier (lineAt (now (bytes .entry)) at))) ⌝ }
 {
     match layout::check::kind_of(identifier_at(bytes, at)) {
         KindFound::Known(kind) => kind,

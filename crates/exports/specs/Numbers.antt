@@ -3,6 +3,7 @@ use mathlib.Core.Path.{_≡_}
 use mathlib.Core.List.{List, [], _∷_}
 use Prim.Native.Nat.{ℕ}
 use Rattle.base.specs.Lists.{pick}
+use Rattle.meaning.specs.Table.{scottish}
 use Rattle.meaning.specs.Load.{Six, apply, undoFile}
 use Rattle.meaning.specs.Enquiries.{Slice, first, second, Found}
 use Rattle.laws.specs.Buffers.{one-outcome}
@@ -45,12 +46,12 @@ sidedFindingList g = g .code ∷ g .line ∷ g .field ∷ pick (g .infile) 1 0 �
 
 -- what apply leaves in its output of `room` bytes and in its answer
 abbrev pub Applies : List ℕ → List ℕ → ℕ → List ℕ → List ℕ → Type 0
-Applies old file room out answer = (answer ≡ sixList (apply old file room .answer)) × (out ≡ apply old file room .output)
+Applies old file room out answer = (answer ≡ sixList (apply scottish old file room .answer)) × (out ≡ apply scottish old file room .output)
 
 -- what undo leaves in its output, in its work buffer of `space` bytes and in its answer
 abbrev pub Undoes : List ℕ → List ℕ → ℕ → ℕ → List ℕ → List ℕ → List ℕ → Type 0
 Undoes old file room space out work answer =
-    (answer ≡ sixList (undoFile old file room space .answer)) × (out ≡ undoFile old file room space .output) × (work ≡ undoFile old file room space .work)
+    (answer ≡ sixList (undoFile scottish old file room space .answer)) × (out ≡ undoFile scottish old file room space .output) × (work ≡ undoFile scottish old file room space .work)
 
 -- ---- any two outcomes are equal
 

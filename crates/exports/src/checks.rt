@@ -1,5 +1,6 @@
 // A whole file, and a whole holding.
 ghost use mathlib.Core.Path.{_≡_};
+ghost use Rattle.meaning.specs.Table.{scottish};
 ghost use Rattle.meaning.specs.Load.{checkFile, checkHolding};
 ghost use Rattle.enquiries.specs.Handed.{threeList};
 ghost use Rattle.exports.specs.Numbers.{sixList};
@@ -11,7 +12,7 @@ use volume::check::check_file;
 // The check of a file.
 #[no_mangle]
 pub extern "C" fn muiwash_check_file(file: &[u8], answer: &mut [u64; 6])
-    ensures { λ _. ⌜ now (answer .exit) ≡ sixList (checkFile (now (file .entry))) ⌝ }
+    ensures { λ _. ⌜ now (answer .exit) ≡ sixList (checkFile scottish (now (file .entry))) ⌝ }
 {
     *answer = six(check_file(file));
 }
@@ -19,7 +20,7 @@ pub extern "C" fn muiwash_check_file(file: &[u8], answer: &mut [u64; 6])
 // The check of a holding.
 #[no_mangle]
 pub extern "C" fn muiwash_check_holding(holding: &[u8], answer: &mut [u64; 3])
-    ensures { λ _. ⌜ now (answer .exit) ≡ threeList (checkHolding (now (holding .entry))) ⌝ }
+    ensures { λ _. ⌜ now (answer .exit) ≡ threeList (checkHolding scottish (now (holding .entry))) ⌝ }
 {
     *answer = three(check_holding(holding));
 }

@@ -1,5 +1,6 @@
 // Find, the record in force, and one field of a line: where the part stands, in numbers, since C takes no part of a slice.
 ghost use mathlib.Core.Path.{_≡_};
+ghost use Rattle.meaning.specs.Table.{scottish};
 ghost use Rattle.meaning.specs.Enquiries.{find, inForce, fieldOf};
 ghost use Rattle.exports.specs.Numbers.{partList, sidedList};
 use crate::numbers::five;
@@ -11,7 +12,7 @@ use in_force::line_in_force;
 // The line of a street or BLPU in the holding.
 #[no_mangle]
 pub extern "C" fn muiwash_find(holding: &[u8], kind: u64, number: u64, answer: &mut [u64; 5])
-    ensures { λ _. ⌜ now (answer .exit) ≡ partList (find (now (holding .entry)) kind number) ⌝ }
+    ensures { λ _. ⌜ now (answer .exit) ≡ partList (find scottish (now (holding .entry)) kind number) ⌝ }
 {
     *answer = five(find_line(holding, kind, number));
 }
@@ -25,7 +26,7 @@ pub extern "C" fn muiwash_in_force(
     number: u64,
     answer: &mut [u64; 6],
 )
-    ensures { λ _. ⌜ now (answer .exit) ≡ sidedList (inForce (now (holding .entry)) (now (file .entry)) kind number) ⌝ }
+    ensures { λ _. ⌜ now (answer .exit) ≡ sidedList (inForce scottish (now (holding .entry)) (now (file .entry)) kind number) ⌝ }
 {
     *answer = sided(line_in_force(holding, file, kind, number));
 }

@@ -22,7 +22,9 @@ use Rattle.theory.specs.Store.{get, gets, Low, Asc}
 use Rattle.theory.specs.StoreLaws.{low-down}
 use Rattle.theory.specs.Place.{rank, ranks}
 use Rattle.meaning.specs.Lines.{linesOf}
-use Rattle.meaning.specs.Table.{Kind, bodyLine, role, street, blpu, ident, fields, keyNames, formNamed, enquiries, numberedAmong}
+use Rattle.meaning.specs.Kinds.{Kind, bodyLine, role, street, blpu, ident, numberedAmong}
+use Rattle.meaning.specs.Format.{formNamed}
+use Rattle.meaning.specs.Table.{fields, keyNames, enquiries, scottish}
 use Rattle.meaning.specs.Records.{Rec, ownFields, keyOf, keyed, changeTexts}
 use Rattle.meaning.specs.Enquiries.{first, refusal, partOf, heldAt, heldPart, findIn, findKind, find}
 use Rattle.meaning.specs.Holding as meaning
@@ -36,6 +38,7 @@ use Rattle.laws.specs.LinesAndFields.{endsAll}
 use Rattle.laws.specs.SoundHolding.{held-is-sound}
 use Rattle.laws.specs.Body.{fine}
 use Rattle.laws.specs.HoldingReadBack.{always, holding, heldRecords}
+use Rattle.laws.specs.Scottish.{scottish-regular}
 use Rattle.holding.specs.declared.read.Held.{Held}
 use Rattle.holding.specs.Read.{faultOf, recordsOf, HeldIs}
 use Rattle.holding.proofs.ReadLaws.{held-sound}
@@ -92,32 +95,32 @@ same-lex a b = go (lex a b) refl
     go gt e = sym (apart-same a b gt e no-gt)
 
 -- a key before all records is that of none
-held-low : (q : List ℕ) (i : ℕ) (st : List Rec) → Low keyed q st → Asc keyed st → heldAt q i st ≡ none
+held-low : (q : List ℕ) (i : ℕ) (st : List Rec) → Low (keyed scottish) q st → Asc (keyed scottish) st → heldAt scottish q i st ≡ none
 unfolding heldAt
 held-low q i [] l a = refl
-held-low q i (r ∷ rs) l a = rw (apart-same q (keyOf r) lt l no-lt) (held-low q (suc i) rs (low-down keyed q (keyOf r) rs l (a .0)) (a .1))
+held-low q i (r ∷ rs) l a = rw (apart-same q (keyOf scottish r) lt l no-lt) (held-low q (suc i) rs (low-down (keyed scottish) q (keyOf scottish r) rs l (a .0)) (a .1))
 
 -- the place of a key is how many records stand before it
-held-rank : (q : List ℕ) (i : ℕ) (st : List Rec) → Asc keyed st → heldAt q i st ≡ pick (some? (get keyed q st)) (some (i + rank keyed q st)) none
+held-rank : (q : List ℕ) (i : ℕ) (st : List Rec) → Asc (keyed scottish) st → heldAt scottish q i st ≡ pick (some? (get (keyed scottish) q st)) (some (i + rank (keyed scottish) q st)) none
 unfolding heldAt get rank
 held-rank q i [] a = refl
-held-rank q i (r ∷ rs) a = go (lex q (keyOf r)) refl (held-rank q (suc i) rs (a .1))
+held-rank q i (r ∷ rs) a = go (lex q (keyOf scottish r)) refl (held-rank q (suc i) rs (a .1))
   where
-    go : (c : Tri) → lex q (keyOf r) ≡ c → heldAt q (suc i) rs ≡ pick (some? (get keyed q rs)) (some (suc i + rank keyed q rs)) none
-        → pick (same q (keyOf r)) (some i) (heldAt q (suc i) rs) ≡ pick (some? (gets keyed c r (get keyed q rs))) (some (i + ranks keyed c (rank keyed q rs))) none
-    go lt e ih = unfold gets ranks in rw (apart-same q (keyOf r) lt e no-lt) (held-low q (suc i) rs (low-down keyed q (keyOf r) rs e (a .0)) (a .1))
+    go : (c : Tri) → lex q (keyOf scottish r) ≡ c → heldAt scottish q (suc i) rs ≡ pick (some? (get (keyed scottish) q rs)) (some (suc i + rank (keyed scottish) q rs)) none
+        → pick (same q (keyOf scottish r)) (some i) (heldAt scottish q (suc i) rs) ≡ pick (some? (gets (keyed scottish) c r (get (keyed scottish) q rs))) (some (i + ranks (keyed scottish) c (rank (keyed scottish) q rs))) none
+    go lt e ih = unfold gets ranks in rw (apart-same q (keyOf scottish r) lt e no-lt) (held-low q (suc i) rs (low-down (keyed scottish) q (keyOf scottish r) rs e (a .0)) (a .1))
     go eq e ih =
-        let s : T (same q (keyOf r)) = subst (λ x. T (same q x)) (lex-order .equal q (keyOf r) e) (same-refl q) in
-        unfold gets ranks in rw (T-true (same q (keyOf r)) s) (ap some (sym (add-zero i)))
+        let s : T (same q (keyOf scottish r)) = subst (λ x. T (same q x)) (lex-order .equal q (keyOf scottish r) e) (same-refl q) in
+        unfold gets ranks in rw (T-true (same q (keyOf scottish r)) s) (ap some (sym (add-zero i)))
     go gt e ih =
-        let m : suc i + rank keyed q rs ≡ i + suc (rank keyed q rs) = omega arith in
-        unfold gets ranks in rw (apart-same q (keyOf r) gt e no-gt) (ih ∙ ap (λ (x : ℕ). pick (some? (get keyed q rs)) (some x) none) m)
+        let m : suc i + rank (keyed scottish) q rs ≡ i + suc (rank (keyed scottish) q rs) = omega arith in
+        unfold gets ranks in rw (apart-same q (keyOf scottish r) gt e no-gt) (ih ∙ ap (λ (x : ℕ). pick (some? (get (keyed scottish) q rs)) (some x) none) m)
 
 -- so its line is one more
-held-line : (a q : List ℕ) (st : List Rec) → T (all fine st) → Asc keyed st → Agree a q → heldAt q 0 st ≡ pick (eqb (lineFound a st) 0) none (some (lineFound a st - 1))
+held-line : (a q : List ℕ) (st : List Rec) → T (all (fine scottish) st) → Asc (keyed scottish) st → Agree a q → heldAt scottish q 0 st ≡ pick (eqb (lineFound a st) 0) none (some (lineFound a st - 1))
 unfolding lineFound
 held-line a q st f asc e =
-    held-rank q 0 st asc ∙ rw (get-alike st f a q e, rank-alike st f a q e) (go (some? (get keyed q st)) (rank keyed q st))
+    held-rank q 0 st asc ∙ rw (get-alike st f a q e, rank-alike st f a q e) (go (some? (get (keyed scottish) q st)) (rank (keyed scottish) q st))
   where
     go : (b : Bool) (n : ℕ) → pick b (some (0 + n)) none ≡ pick (eqb (pick b (suc n) 0) 0) none (some (pick b (suc n) 0 - 1))
     go true n = let m : 0 + n ≡ suc n - 1 = omega arith in rw (ne-eqb (suc n) 0 (λ u. omega arith)) (ap some m)
@@ -156,8 +159,8 @@ no-kind kind b e f = go (numberedAmong enquiries kind) (sym e ∙ f)
     go (some k) z = let y : _≡_ {A = Bool} true false = z in absurd (let x : _≡_ {A = ℕ} 0 1 = cc in omega arith)
 
 -- a fault that was read is that of an unsound holding
-pub unsounds : (h : List ℕ) (r : Held) (a o t : List ℕ) → HeldIs h r a o t → (r .line ≡ 0 → ⊥) → readHolding h ≡ unsound (r .line)
-unsounds h r a o t w z = go (readHolding h) (w .line)
+pub unsounds : (h : List ℕ) (r : Held) (a o t : List ℕ) → HeldIs h r a o t → (r .line ≡ 0 → ⊥) → readHolding scottish h ≡ unsound (r .line)
+unsounds h r a o t w z = go (readHolding scottish h) (w .line)
   where
     go : (u : meaning.Held) → r .line ≡ faultOf u → u ≡ unsound (r .line)
     go (sound st) q = absurd (unfold faultOf in z q)
@@ -194,14 +197,14 @@ count-lines n (r ∷ rs) = ap suc (count-lines (suc n) rs)
 module _ (s a o : List ℕ) (r : Held) (kind n : ℕ) (w : Enquired s a o r kind) where
   -- the holding's records
   abbrev st : List Rec
-  st = recordsOf (readHolding s)
+  st = recordsOf (readHolding scottish s)
 
-  sounds : readHolding s ≡ sound st
+  sounds : readHolding scottish s ≡ sound st
   sounds = held-sound s (sym (w .read .line) ∙ w .sound)
 
-  state : Sound keyed fine always st
+  state : Sound (keyed scottish) (fine scottish) (always scottish) st
   unfolding heldRecords
-  state = holding .holds s st (ap heldRecords sounds) .1
+  state = holding scottish scottish-regular .holds s st (ap heldRecords sounds) .1
 
   -- they are few
   pub held-few : r .count ≤ 8192
@@ -224,21 +227,21 @@ module _ (s a o : List ℕ) (r : Held) (kind n : ℕ) (w : Enquired s a o r kind
     here = g ∙ ap (lineFound k) (w .read .listed (w .sound) .says s) ∙ ap (λ j. lineFound j st) y
 
     -- the key's place among them
-    place : heldAt (kind ∷ n ∷ []) 0 st ≡ pick (eqb l 0) none (some (l - 1))
+    place : heldAt scottish (kind ∷ n ∷ []) 0 st ≡ pick (eqb l 0) none (some (l - 1))
     place = held-line (kind ∷ n ∷ 0 ∷ 0 ∷ []) (kind ∷ n ∷ []) st (state .fines) (state .asc) (asked-agrees kind n (asked-is kind (w .asked))) ∙ ap (λ (x : ℕ). pick (eqb x 0) none (some (x - 1))) (sym here)
 
     -- its line is one of the holding's
     pub held-in : (l ≡ 0 → ⊥) → l ≤ length (linesOf s)
-    held-in u = omega (arith, here, line-in (kind ∷ n ∷ 0 ∷ 0 ∷ []) st (λ v. u (here ∙ v)), ap length (held-is-sound s st sounds .lines), count-lines 1 st)
+    held-in u = omega (arith, here, line-in (kind ∷ n ∷ 0 ∷ 0 ∷ []) st (λ v. u (here ∙ v)), ap length (held-is-sound scottish scottish-regular s st sounds .lines), count-lines 1 st)
 
     module _ (x : Finding) where
       -- 11 for an absent key
-      pub held-absent : l ≡ 0 → x ≡ findingOf (refusal 11 0 0) → x ≡ findingOf (heldPart s (heldAt (kind ∷ n ∷ []) 0 st))
+      pub held-absent : l ≡ 0 → x ≡ findingOf (refusal 11 0 0) → x ≡ findingOf (heldPart s (heldAt scottish (kind ∷ n ∷ []) 0 st))
       unfolding heldPart
       held-absent u v = rw (place, eq-eqb l 0 u) v
 
       -- else its line
-      pub held-there : (l ≡ 0 → ⊥) → x ≡ findingOf (partOf first (linesOf s) (l - 1)) → x ≡ findingOf (heldPart s (heldAt (kind ∷ n ∷ []) 0 st))
+      pub held-there : (l ≡ 0 → ⊥) → x ≡ findingOf (partOf first (linesOf s) (l - 1)) → x ≡ findingOf (heldPart s (heldAt scottish (kind ∷ n ∷ []) 0 st))
       unfolding heldPart
       held-there u v = rw (place, ne-eqb l 0 u) v
 
@@ -252,18 +255,18 @@ enquired h a o c r kind b e t w z l m = record { asked = sym e ∙ t; counts = c
 
 module _ (s : List ℕ) (kind n : ℕ) (x : Finding) (b : Bool) (e : b ≡ some? (numberedAmong enquiries kind)) where
   -- 15 for a kind that can't be asked for
-  pub find-other : b ≡ false → x ≡ findingOf (refusal 15 0 0) → x ≡ findingOf (find s kind n)
+  pub find-other : b ≡ false → x ≡ findingOf (refusal 15 0 0) → x ≡ findingOf (find scottish s kind n)
   unfolding find findKind
   find-other f w = rw (no-kind kind b e f) w
 
   -- 14 for an unsound holding
-  pub find-unsound : (r : Held) (a o t : List ℕ) → b ≡ true → HeldIs s r a o t → (r .line ≡ 0 → ⊥) → x ≡ findingOf (refusal 14 (r .line) 0) → x ≡ findingOf (find s kind n)
+  pub find-unsound : (r : Held) (a o t : List ℕ) → b ≡ true → HeldIs s r a o t → (r .line ≡ 0 → ⊥) → x ≡ findingOf (refusal 14 (r .line) 0) → x ≡ findingOf (find scottish s kind n)
   unfolding find findKind findIn
   find-unsound r a o t f h z w = rw (asked-is kind (sym e ∙ f) .known, unsounds s r a o t h z) w
 
   -- else the held line
-  pub find-held : (r : Held) (a o t : List ℕ) → b ≡ true → HeldIs s r a o t → r .line ≡ 0 → x ≡ findingOf (heldPart s (heldAt (kind ∷ n ∷ []) 0 (recordsOf (readHolding s))))
-      → x ≡ findingOf (find s kind n)
+  pub find-held : (r : Held) (a o t : List ℕ) → b ≡ true → HeldIs s r a o t → r .line ≡ 0 → x ≡ findingOf (heldPart s (heldAt scottish (kind ∷ n ∷ []) 0 (recordsOf (readHolding scottish s))))
+      → x ≡ findingOf (find scottish s kind n)
   unfolding find findKind findIn
   find-held r a o t f h z w = let k = asked-is kind (sym e ∙ f) in rw (k .known, held-sound s (sym (h .line) ∙ z), ← (k .number)) w
 

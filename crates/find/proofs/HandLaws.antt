@@ -6,7 +6,8 @@ use Prim.Native.Nat.{ℕ, _+_, _≤_}
 use borrow.Author.Needs.{needs}
 use lib.ListN.{length}
 use Rattle.meaning.specs.Lines.{linesOf}
-use Rattle.meaning.specs.Table.{Kind, enquiries, numberedAmong}
+use Rattle.meaning.specs.Kinds.{Kind, numberedAmong}
+use Rattle.meaning.specs.Table.{enquiries, scottish}
 use Rattle.meaning.specs.Holding.{Held, sound, unsound, readHolding}
 use Rattle.meaning.specs.Enquiries.{first, partOf, heldAt, heldPart, findIn, findKind, find}
 use Rattle.enquiries.specs.declared.finding.Finding.{Finding}
@@ -24,20 +25,20 @@ unfolding heldPart
 held-within a b none = nothing 11 0 0 a b
 held-within a b (some i) = first-within a b i
 
-find-within : (a b : List ℕ) (kind n : ℕ) → Within (find a kind n) a b
+find-within : (a b : List ℕ) (kind n : ℕ) → Within (find scottish a kind n) a b
 unfolding find findKind findIn
 find-within a b kind n = asked (numberedAmong enquiries kind)
   where
-    holds : (q : List ℕ) (h : Held) → Within (findIn a q h) a b
+    holds : (q : List ℕ) (h : Held) → Within (findIn scottish a q h) a b
     holds q (unsound m) = nothing 14 m 0 a b
-    holds q (sound st) = held-within a b (heldAt q 0 st)
+    holds q (sound st) = held-within a b (heldAt scottish q 0 st)
 
-    asked : (k : Option Kind) → Within (findKind a n k) a b
+    asked : (k : Option Kind) → Within (findKind scottish a n k) a b
     asked none = nothing 15 0 0 a b
-    asked (some k) = holds _ (readHolding a)
+    asked (some k) = holds _ (readHolding scottish a)
 
 -- the line that find finds
-pub find-fits : (a : List ℕ) (kind n : ℕ) (g : Finding) → g ≡ findingOf (find a kind n) → g .start + g .size ≤ length a
-find-fits a kind n g e = either a (find a kind n) g e (find-within a a kind n)
+pub find-fits : (a : List ℕ) (kind n : ℕ) (g : Finding) → g ≡ findingOf (find scottish a kind n) → g .start + g .size ≤ length a
+find-fits a kind n g e = either a (find scottish a kind n) g e (find-within a a kind n)
 
 pub ruleset handing = (needs, hand-found, find-fits)

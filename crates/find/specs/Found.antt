@@ -7,7 +7,8 @@ use lib.ListN.{length}
 use Rattle.base.specs.Lists.{pick, some?}
 use Rattle.theory.specs.Store.{get}
 use Rattle.theory.specs.Place.{rank}
-use Rattle.meaning.specs.Table.{enquiries, numberedAmong}
+use Rattle.meaning.specs.Kinds.{numberedAmong}
+use Rattle.meaning.specs.Table.{enquiries}
 use Rattle.meaning.specs.Records.{Rec}
 use Rattle.keys.specs.Numbers.{numbered}
 use Rattle.holding.specs.declared.read.Held.{Held}

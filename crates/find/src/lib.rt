@@ -2,7 +2,8 @@
 ghost use mathlib.Core.Path.{_≡_};
 ghost use mathlib.Core.List.{[], _∷_};
 ghost use Rattle.base.specs.Lists.{some?};
-ghost use Rattle.meaning.specs.Table.{enquiries, numberedAmong};
+ghost use Rattle.meaning.specs.Kinds.{numberedAmong};
+ghost use Rattle.meaning.specs.Table.{enquiries, scottish};
 ghost use Rattle.meaning.specs.Holding.{readHolding};
 ghost use Rattle.meaning.specs.Enquiries.{heldAt, heldPart, find};
 ghost use Prim.Native.Nat.{_≤_};
@@ -72,7 +73,7 @@ pub fn held_line(
     number: u64,
 ) -> Finding
     requires { ⌜ Enquired (now holding) (now starts) (now tags) held kind ⌝ }
-    ensures { λ r. ⌜ r ≡ findingOf (heldPart (now (holding .entry)) (heldAt (kind ∷ number ∷ []) 0 (recordsOf (readHolding (now (holding .entry)))))) ⌝ }
+    ensures { λ r. ⌜ r ≡ findingOf (heldPart (now (holding .entry)) (heldAt scottish (kind ∷ number ∷ []) 0 (recordsOf (readHolding scottish (now (holding .entry)))))) ⌝ }
 {
     let n = line_of(holding, starts, tags, held.count, asked_key(kind, number));
     if n == 0 {
@@ -83,7 +84,7 @@ pub fn held_line(
 
 // Where the line of the record of that kind and number stands: 15, then 14, then 11.
 pub fn find_line(holding: &[u8], kind: u64, number: u64) -> Finding
-    ensures { λ r. ⌜ r ≡ findingOf (find (now (holding .entry)) kind number) ⌝ }
+    ensures { λ r. ⌜ r ≡ findingOf (find scottish (now (holding .entry)) kind number) ⌝ }
 {
     if !is_enquired(kind) {
         return refusal(15, 0, 0);
@@ -100,7 +101,7 @@ pub fn find_line(holding: &[u8], kind: u64, number: u64) -> Finding
 
 // The line of the record of that kind and number.
 pub fn find<'a>(holding: &'a [u8], kind: u64, number: u64, answer: &mut [u64; 3]) -> &'a [u8]
-    ensures { λ r. ⌜ Handed (find (now (holding .entry)) kind number) (holding .entry) r (now (answer .exit)) ⌝ }
+    ensures { λ r. ⌜ Handed (find scottish (now (holding .entry)) kind number) (holding .entry) r (now (answer .exit)) ⌝ }
 {
     let found = find_line(holding, kind, number);
     hand(holding, found, &mut *answer)

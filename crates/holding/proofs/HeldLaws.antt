@@ -15,7 +15,9 @@ use Rattle.theory.specs.Decimal.{dec, width}
 use Rattle.theory.specs.DecimalLaws.{length-dec}
 use Rattle.theory.specs.Step.{ins}
 use Rattle.meaning.specs.Lines.{Line, endsWell, fieldsOf, identifier, hasFields}
-use Rattle.meaning.specs.Table.{Kind, role, fields, kindOf, named, placeFrom, startDate, endDate}
+use Rattle.meaning.specs.Kinds.{Kind, role}
+use Rattle.meaning.specs.Format.{kindOf, named, placeFrom, startDate, endDate}
+use Rattle.meaning.specs.Table.{fields, scottish}
 use Rattle.meaning.specs.Sound as meant
 use Rattle.meaning.specs.Sound.{datesAgree, fieldFault, formFault}
 use Rattle.meaning.specs.Records.{contentOf, letter}
@@ -48,10 +50,10 @@ pub ruleset numbers = (needs, width-most, number-told)
 -- ---- the tests of a line
 
 -- a line with no code has no fault
-no-code : (k : Kind) (t : List ℕ) (f : Fault) → f ≡ told (formFault k t none) → f .code ≡ 0 → isSound (formFault k t none) ≡ true
+no-code : (k : Kind) (t : List ℕ) (f : Fault) → f ≡ told (formFault scottish k t none) → f .code ≡ 0 → isSound (formFault scottish k t none) ≡ true
 unfolding formFault fieldFault
 no-code k t f e z =
-    let u : told (formFault k t none) .code ≡ 0 = sym (ap (λ x. x .code) e) ∙ z in
+    let u : told (formFault scottish k t none) .code ≡ 0 = sym (ap (λ x. x .code) e) ∙ z in
     let n : ℕ = lowestBad 1 (map bare (fields k)) (fieldsOf t) in
     rw (forms-is 0 (fields k) (fieldsOf t) _)
     (go (hasFields (length (fields k)) t) (eqb n 0) (datesAgree (named startDate (fields k) (fieldsOf t)) (named endDate (fields k) (fieldsOf t))) (placeFrom 1 endDate (fields k)) n
@@ -64,8 +66,8 @@ no-code k t f e z =
     go false b c x y z = unfold ask isSound in absurd (omega (arith, z))
 
 -- one with a code has one
-some-code : (k : Kind) (t : List ℕ) (f : Fault) → f ≡ told (formFault k t none) → (f .code ≡ 0 → ⊥) → isSound (formFault k t none) ≡ false
-some-code k t f e z = go (formFault k t none) (λ q. z (ap (λ x. x .code) e ∙ q))
+some-code : (k : Kind) (t : List ℕ) (f : Fault) → f ≡ told (formFault scottish k t none) → (f .code ≡ 0 → ⊥) → isSound (formFault scottish k t none) ≡ false
+some-code k t f e z = go (formFault scottish k t none) (λ q. z (ap (λ x. x .code) e ∙ q))
   where
     go : (o : Option meant.Fault) → (told o .code ≡ 0 → ⊥) → isSound o ≡ false
     go none n = absurd (n refl)
@@ -73,13 +75,13 @@ some-code k t f e z = go (formFault k t none) (λ q. z (ap (λ x. x .code) e ∙
 
 module _ (n : ℕ) (k : Kind) (t : List ℕ) (a : Bool) (p : a ≡ isHeld (role k)) where
   -- a kind that is not held
-  pub pass-kind : a ≡ false → false ≡ heldTest n k t
+  pub pass-kind : a ≡ false → false ≡ heldTest scottish n k t
   unfolding heldTest
   pass-kind u = rw (sym p ∙ u)
 
-  module _ (u : a ≡ true) (f : Fault) (q : f ≡ told (formFault k t none)) where
+  module _ (u : a ≡ true) (f : Fault) (q : f ≡ told (formFault scottish k t none)) where
     -- a line that is unsound
-    pub pass-form : (f .code ≡ 0 → ⊥) → false ≡ heldTest n k t
+    pub pass-form : (f .code ≡ 0 → ⊥) → false ≡ heldTest scottish n k t
     unfolding heldTest
     pass-form z = rw (sym p ∙ u, some-code k t f q z)
 
@@ -89,12 +91,12 @@ module _ (n : ℕ) (k : Kind) (t : List ℕ) (a : Bool) (p : a ≡ isHeld (role 
       lettered = rw (← r) s
 
       -- another CHANGE_TYPE
-      pub pass-letter : b ≡ false → false ≡ heldTest n k t
+      pub pass-letter : b ≡ false → false ≡ heldTest scottish n k t
       unfolding heldTest
       pass-letter v = rw (sym p ∙ u, no-code k t f q z, sym lettered ∙ v)
 
       -- else PRO_ORDER says it
-      pub pass-number : b ≡ true → (e : List ℕ) → e ≡ getD (fieldsOf t) 2 [] → (c : Bool) → c ≡ same e (dec n) → c ≡ heldTest n k t
+      pub pass-number : b ≡ true → (e : List ℕ) → e ≡ getD (fieldsOf t) 2 [] → (c : Bool) → c ≡ same e (dec n) → c ≡ heldTest scottish n k t
       unfolding heldTest
       pass-number v e w c x = rw (sym p ∙ u, no-code k t f q z, sym lettered ∙ v, ← w) x
 
@@ -108,13 +110,13 @@ module _ (n : ℕ) (t : List ℕ) (b : Bool) where
   unfolding heldAs
   held-open e = rw e
 
-  module _ (e : b ≡ true) (o : KindFound) (p : kindFound o ≡ kindOf (identifier t)) where
+  module _ (e : b ≡ true) (o : KindFound) (p : kindFound o ≡ kindOf scottish (identifier t)) where
     -- one of no known kind
     pub held-unknown : o ≡ Unknown → none ≡ heldAs n b t
     unfolding heldAs heldKindAs
     held-unknown q = rw (e, ← p, q)
 
-    module _ (k : code.Kind) (q : o ≡ Known k) (c : Bool) (r : c ≡ heldTest n (kindMeant k) t) where
+    module _ (k : code.Kind) (q : o ≡ Known k) (c : Bool) (r : c ≡ heldTest scottish n (kindMeant k) t) where
       -- one that fails a test
       pub held-fails : c ≡ false → none ≡ heldAs n b t
       unfolding heldAs heldKindAs keepIf
@@ -128,7 +130,7 @@ module _ (n : ℕ) (t : List ℕ) (b : Bool) where
 pub ruleset holds = (needs, not-true, not-false, held-open, held-unknown, held-fails, held-passes)
 
 -- the record that the meaning has of a line is that of the kind that was found
-pub held-is : (n : ℕ) (l : Line) (b : Bool) → b ≡ endsWell l → heldLine n l ≡ recordAs (l .text) (heldAs n b (l .text))
+pub held-is : (n : ℕ) (l : Line) (b : Bool) → b ≡ endsWell l → heldLine scottish n l ≡ recordAs (l .text) (heldAs n b (l .text))
 unfolding heldLine heldAs
 held-is n l b e = rw e (ending (endsWell l))
   where
@@ -139,10 +141,10 @@ held-is n l b e = rw e (ending (endsWell l))
     kept k true = unfold keepIf recordAs in refl
     kept k false = unfold keepIf recordAs in refl
 
-    known : (o : Option Kind) → heldKind n t o ≡ recordAs t (heldKindAs n t o)
+    known : (o : Option Kind) → heldKind scottish n t o ≡ recordAs t (heldKindAs n t o)
     known none = unfold heldKind heldKindAs recordAs in refl
-    known (some k) = unfold heldKind heldKindAs in kept k (heldTest n k t)
+    known (some k) = unfold heldKind heldKindAs in kept k (heldTest scottish n k t)
 
-    ending : (c : Bool) → pick c (heldKind n t (kindOf (identifier t))) none ≡ recordAs t (pick c (heldKindAs n t (kindOf (identifier t))) none)
-    ending true = known (kindOf (identifier t))
+    ending : (c : Bool) → pick c (heldKind scottish n t (kindOf scottish (identifier t))) none ≡ recordAs t (pick c (heldKindAs n t (kindOf scottish (identifier t))) none)
+    ending true = known (kindOf scottish (identifier t))
     ending false = unfold recordAs in refl

@@ -18,12 +18,14 @@ use Rattle.theory.specs.Store.{Asc}
 use Rattle.theory.specs.Limits.{most}
 use Rattle.theory.specs.Refs.{meets}
 use Rattle.meaning.specs.Lines.{Line, linesOf}
+use Rattle.meaning.specs.Table.{scottish}
 use Rattle.meaning.specs.Records.{Rec, keyOf, keyed, refsOf}
 use Rattle.meaning.specs.Holding as meaning
 use Rattle.meaning.specs.Holding.{sound, unsound, heldLine, addRec, above, onHeld, scan, referring, onScan, readHolding}
 use Rattle.meaning.specs.Load.{heldNumbers, checkHolding}
 use Rattle.laws.specs.Body.{fine}
 use Rattle.laws.specs.HoldingReadBack.{Scanned, Reads, scanned}
+use Rattle.laws.specs.Scottish.{scottish-regular}
 use Rattle.keys.specs.Numbers.{refNumbers}
 use Rattle.keys.specs.KeyLaws.{meets-agree}
 use Rattle.entries.specs.Entries.{recordOf}
@@ -46,14 +48,14 @@ module _ (h a : List ℕ) (n i : ℕ) (l : n ≤ length a) (g : i < n) where
   left-at = rw (add-one i) (says-at h h a n l i g)
 
   -- which is sound, as all are
-  pub fine-at : T (all fine (says h h a n)) → T (fine (recordOf h h (getD a i 0)))
+  pub fine-at : T (all (fine scottish) (says h h a n)) → T (fine scottish (recordOf h h (getD a i 0)))
   fine-at t =
-      let d : T (all fine (drop i (says h h a n))) = append-all fine (take i (says h h a n)) (drop i (says h h a n)) (rw (take-append-drop i (says h h a n)) t) .1 in
-      and-l (fine (recordOf h h (getD a i 0))) _ (subst (λ s. T (all fine s)) left-at d)
+      let d : T (all (fine scottish) (drop i (says h h a n))) = append-all (fine scottish) (take i (says h h a n)) (drop i (says h h a n)) (rw (take-append-drop i (says h h a n)) t) .1 in
+      and-l (fine scottish (recordOf h h (getD a i 0))) _ (subst (λ s. T (all (fine scottish) s)) left-at d)
 
 -- the records from i on are left, and the references of those before it are counted
 pub record Counting (h a : List ℕ) (n : ℕ) (t : List ℕ) (i : ℕ) : Type 0 where
-  pub left : faultOf (referring (says h h a n) (i + 1) (drop i (says h h a n))) ≡ faultOf (referring (says h h a n) 1 (says h h a n))
+  pub left : faultOf (referring scottish (says h h a n) (i + 1) (drop i (says h h a n))) ≡ faultOf (referring scottish (says h h a n) 1 (says h h a n))
   pub told : take n t ≡ byKey (tally (take i (says h h a n))) (says h h a n)
   pub within : i ≤ n
 
@@ -62,7 +64,7 @@ pub unmet-start : (h a : List ℕ) (n : ℕ) (t : List ℕ) → n ≤ length a �
 unmet-start h a n t l e = record { left = refl; told = e ∙ sym (by-nothing (says h h a n) ∙ ap zeros (length-says h h a n l)); within = omega arith }
 
 module _ (h a : List ℕ) (n : ℕ) (t : List ℕ) (i : ℕ) (w : Counting h a n t i) (l : n ≤ length a) where
-  module _ (m : n ≤ 8192) (g : i < n) (y : Asc keyed (says h h a n)) (p : T (all fine (says h h a n))) where
+  module _ (m : n ≤ 8192) (g : i < n) (y : Asc (keyed scottish) (says h h a n)) (p : T (all (fine scottish) (says h h a n))) where
     -- one record's references more can be counted
     pub unmet-open : Open true (says h h a n) t (refNumbers (recordOf h h (getD a i 0)))
     unmet-open =
@@ -70,10 +72,10 @@ module _ (h a : List ℕ) (n : ℕ) (t : List ℕ) (i : ℕ) (w : Counting h a n
         (λ k. omega (arith, tally-few (take i (says h h a n)) k, length-take-le i (says h h a n) (omega (arith, length-says h h a n l)), refs-few (recordOf h h (getD a i 0))))
 
     module _ (u : List ℕ) (b : Bool) (q : Notes true (says h h a n) (recordOf h h (getD a i 0)) t u b) where
-      here : faultOf (pick b (referring (says h h a n) (suc (i + 1)) (drop (i + 1) (says h h a n))) (unsound (i + 1))) ≡ faultOf (referring (says h h a n) 1 (says h h a n))
+      here : faultOf (pick b (referring scottish (says h h a n) (suc (i + 1)) (drop (i + 1) (says h h a n))) (unsound (i + 1))) ≡ faultOf (referring scottish (says h h a n) 1 (says h h a n))
       unfolding referring
       here =
-          let e : b ≡ meets keyed refsOf (says h h a n) (recordOf h h (getD a i 0)) = q .met ∙ meets-agree (says h h a n) p (recordOf h h (getD a i 0)) (fine-at h a n i l g p) in
+          let e : b ≡ meets (keyed scottish) (refsOf scottish) (says h h a n) (recordOf h h (getD a i 0)) = q .met ∙ meets-agree (says h h a n) p (recordOf h h (getD a i 0)) (fine-at h a n i l g p) in
           rw (left-at h a n i l g, ← e) at (w .left)
 
       -- one that is not met is the lowest
@@ -126,44 +128,44 @@ unfolding addRec
 counted-add r (sound st) c = tt
 counted-add r (unsound n) c = c
 
-scan-counted : (n : ℕ) (lo : Option (List ℕ)) (ls : List Line) → Counted (scan (suc n) lo ls)
+scan-counted : (n : ℕ) (lo : Option (List ℕ)) (ls : List Line) → Counted (scan scottish (suc n) lo ls)
 unfolding scan onHeld
 scan-counted n lo [] = tt
-scan-counted n lo (l ∷ ls) = go (heldLine (suc n) l) (λ r. scan-counted (suc n) (some (keyOf r)) ls)
+scan-counted n lo (l ∷ ls) = go (heldLine scottish (suc n) l) (λ r. scan-counted (suc n) (some (keyOf scottish r)) ls)
   where
-    when : (c : Bool) (r : Rec) → Counted (scan (suc (suc n)) (some (keyOf r)) ls) → Counted (pick c (addRec r (scan (suc (suc n)) (some (keyOf r)) ls)) (unsound (suc n)))
-    when true r i = counted-add r (scan (suc (suc n)) (some (keyOf r)) ls) i
+    when : (c : Bool) (r : Rec) → Counted (scan scottish (suc (suc n)) (some (keyOf scottish r)) ls) → Counted (pick c (addRec r (scan scottish (suc (suc n)) (some (keyOf scottish r)) ls)) (unsound (suc n)))
+    when true r i = counted-add r (scan scottish (suc (suc n)) (some (keyOf scottish r)) ls) i
     when false r i = λ z. omega (arith, z)
 
-    go : (o : Option Rec) → ((r : Rec) → Counted (scan (suc (suc n)) (some (keyOf r)) ls)) → Counted (onHeld (suc n) lo o (λ r. scan (suc (suc n)) (some (keyOf r)) ls))
+    go : (o : Option Rec) → ((r : Rec) → Counted (scan scottish (suc (suc n)) (some (keyOf scottish r)) ls)) → Counted (onHeld scottish (suc n) lo o (λ r. scan scottish (suc (suc n)) (some (keyOf scottish r)) ls))
     go none i = λ z. omega (arith, z)
-    go (some r) i = when (above lo r && leb (suc n) most) r (i r)
+    go (some r) i = when (above scottish lo r && leb (suc n) most) r (i r)
 
 -- the pass for references keeps the records
 abbrev Refers : List Rec → meaning.Held → Type 0
 Refers st (sound s) = s ≡ st
 Refers st (unsound n) = n ≡ 0 → ⊥
 
-refer-is : (st : List Rec) (n : ℕ) (rs : List Rec) → Refers st (referring st (suc n) rs)
+refer-is : (st : List Rec) (n : ℕ) (rs : List Rec) → Refers st (referring scottish st (suc n) rs)
 unfolding referring
 refer-is st n [] = refl
-refer-is st n (r ∷ rs) = go (meets keyed refsOf st r) (refer-is st (suc n) rs)
+refer-is st n (r ∷ rs) = go (meets (keyed scottish) (refsOf scottish) st r) (refer-is st (suc n) rs)
   where
-    go : (c : Bool) → Refers st (referring st (suc (suc n)) rs) → Refers st (pick c (referring st (suc (suc n)) rs) (unsound (suc n)))
+    go : (c : Bool) → Refers st (referring scottish st (suc (suc n)) rs) → Refers st (pick c (referring scottish st (suc (suc n)) rs) (unsound (suc n)))
     go true i = i
     go false i = λ z. omega (arith, z)
 
 -- a holding's faulty line is never 0
-pub read-counted : (h : List ℕ) → Counted (readHolding h)
+pub read-counted : (h : List ℕ) → Counted (readHolding scottish h)
 unfolding readHolding
-read-counted h = go (scan 1 none (linesOf h)) (scan-counted 0 none (linesOf h))
+read-counted h = go (scan scottish 1 none (linesOf h)) (scan-counted 0 none (linesOf h))
   where
     met : (st : List Rec) (s : meaning.Held) → Refers st s → Counted s
     met st (sound s) i = tt
     met st (unsound n) i = i
 
-    go : (s : meaning.Held) → Counted s → Counted (onScan s)
-    go (sound st) c = unfold onScan in (met st (referring st 1 st) (refer-is st 0 st))
+    go : (s : meaning.Held) → Counted s → Counted (onScan scottish s)
+    go (sound st) c = unfold onScan in (met st (referring scottish st 1 st) (refer-is st 0 st))
     go (unsound n) c = unfold onScan in c
 
 -- so what has no faulty line is sound
@@ -173,30 +175,30 @@ sound-told (sound st) c z = refl
 sound-told (unsound n) c z = absurd (c z)
 
 -- a holding is sound where its lowest faulty line is 0
-pub held-sound : (h : List ℕ) → faultOf (readHolding h) ≡ 0 → readHolding h ≡ sound (recordsOf (readHolding h))
-held-sound h z = sound-told (readHolding h) (read-counted h) z
+pub held-sound : (h : List ℕ) → faultOf (readHolding scottish h) ≡ 0 → readHolding scottish h ≡ sound (recordsOf (readHolding scottish h))
+held-sound h z = sound-told (readHolding scottish h) (read-counted h) z
 
 -- ---- both passes
 
-module _ (h a g : List ℕ) (r : Held) (s : ReadAs h (scan 1 none (linesOf h)) r a g) where
+module _ (h a g : List ℕ) (r : Held) (s : ReadAs h (scan scottish 1 none (linesOf h)) r a g) where
   -- a fault of the first pass is the holding's
   pub read-faulty : (t : List ℕ) → (r .line ≡ 0 → ⊥) → HeldIs h r a g t
   unfolding readHolding
-  read-faulty t m = record { line = go (scan 1 none (linesOf h)) (s .line); listed = λ z. absurd (m z); tagged = λ z. absurd (m z); told = λ z. absurd (m z) }
+  read-faulty t m = record { line = go (scan scottish 1 none (linesOf h)) (s .line); listed = λ z. absurd (m z); tagged = λ z. absurd (m z); told = λ z. absurd (m z) }
     where
-      go : (w : meaning.Held) → r .line ≡ faultOf w → r .line ≡ faultOf (onScan w)
+      go : (w : meaning.Held) → r .line ≡ faultOf w → r .line ≡ faultOf (onScan scottish w)
       go (sound st) e = absurd (m (unfold faultOf in e))
       go (unsound n) e = unfold onScan in e
 
   module _ (z : r .line ≡ 0) where
-    scan-sound : scan 1 none (linesOf h) ≡ sound (recordsOf (scan 1 none (linesOf h)))
-    scan-sound = sound-told (scan 1 none (linesOf h)) (scan-counted 0 none (linesOf h)) (sym (s .line) ∙ z)
+    scan-sound : scan scottish 1 none (linesOf h) ≡ sound (recordsOf (scan scottish 1 none (linesOf h)))
+    scan-sound = sound-told (scan scottish 1 none (linesOf h)) (scan-counted 0 none (linesOf h)) (sym (s .line) ∙ z)
 
-    says-is : says h h a (r .count) ≡ recordsOf (scan 1 none (linesOf h))
+    says-is : says h h a (r .count) ≡ recordsOf (scan scottish 1 none (linesOf h))
     says-is = s .listed z .says h
 
-    reads : Reads 1 none (linesOf h) (says h h a (r .count))
-    reads = subst (Reads 1 none (linesOf h)) (sym says-is) (subst (Scanned 1 none (linesOf h)) scan-sound (scanned 1 none (linesOf h) (omega arith)))
+    reads : Reads scottish 1 none (linesOf h) (says h h a (r .count))
+    reads = subst (Reads scottish 1 none (linesOf h)) (sym says-is) (subst (Scanned scottish 1 none (linesOf h)) scan-sound (scanned scottish scottish-regular 1 none (linesOf h) (omega arith)))
 
     -- the starts are no more than there is room for
     pub read-room : 8192 ≤ length a → r .count ≤ length a
@@ -207,11 +209,11 @@ module _ (h a g : List ℕ) (r : Held) (s : ReadAs h (scan 1 none (linesOf h)) r
     read-few = s .listed z .few
 
     -- the records are in order
-    pub read-asc : Asc keyed (says h h a (r .count))
+    pub read-asc : Asc (keyed scottish) (says h h a (r .count))
     read-asc = reads .asc
 
     -- and sound
-    pub read-fines : T (all fine (says h h a (r .count)))
+    pub read-fines : T (all (fine scottish) (says h h a (r .count)))
     read-fines = reads .fines
 
     -- their keys are tagged
@@ -223,16 +225,16 @@ module _ (h a g : List ℕ) (r : Held) (s : ReadAs h (scan 1 none (linesOf h)) r
     unfolding readHolding onScan
     read-told t x e = record {
       line = e .line ∙ ap faultOf (sym same);
-      listed = λ y. subst (λ w. Listed h a (r .count) (recordsOf w)) (sym same) (kept (referring st 1 st) (refer-is st 0 st) (sym (e .line) ∙ y));
-      tagged = λ y. subst (λ w. take (r .count) g ≡ byKey tagOf (recordsOf w)) (sym same) (tags (referring st 1 st) (refer-is st 0 st) (sym (e .line) ∙ y));
-      told = λ y. subst (λ w. take (r .count) t ≡ byKey (tally (recordsOf w)) (recordsOf w)) (sym same) (counts (referring st 1 st) (refer-is st 0 st) (sym (e .line) ∙ y) (e .told y));
+      listed = λ y. subst (λ w. Listed h a (r .count) (recordsOf w)) (sym same) (kept (referring scottish st 1 st) (refer-is st 0 st) (sym (e .line) ∙ y));
+      tagged = λ y. subst (λ w. take (r .count) g ≡ byKey tagOf (recordsOf w)) (sym same) (tags (referring scottish st 1 st) (refer-is st 0 st) (sym (e .line) ∙ y));
+      told = λ y. subst (λ w. take (r .count) t ≡ byKey (tally (recordsOf w)) (recordsOf w)) (sym same) (counts (referring scottish st 1 st) (refer-is st 0 st) (sym (e .line) ∙ y) (e .told y));
     }
       where
         st : List Rec
         st = says h h a (r .count)
 
-        same : readHolding h ≡ referring st 1 st
-        same = ap onScan scan-sound ∙ ap (λ l. referring l 1 l) (sym says-is)
+        same : readHolding scottish h ≡ referring scottish st 1 st
+        same = ap (onScan scottish) scan-sound ∙ ap (λ l. referring scottish l 1 l) (sym says-is)
 
         kept : (w : meaning.Held) → Refers st w → faultOf w ≡ 0 → Listed h a (r .count) (recordsOf w)
         kept (sound t) i y = unfold recordsOf in (rw (i, says-is) (s .listed z))
@@ -252,14 +254,14 @@ pub ruleset readings = (needs, read-faulty, read-room, read-few, read-asc, read-
 
 module _ (h a g t : List ℕ) (r : Held) (s : HeldIs h r a g t) where
   -- a sound holding
-  pub check-sound : r .line ≡ 0 → record { code = 0; line = 0; field = 0 } ≡ verdictOf (checkHolding h)
+  pub check-sound : r .line ≡ 0 → record { code = 0; line = 0; field = 0 } ≡ verdictOf (checkHolding scottish h)
   unfolding checkHolding heldNumbers
   check-sound z = rw (held-sound h (sym (s .line) ∙ z))
 
   -- an unsound one
-  pub check-unsound : (r .line ≡ 0 → ⊥) → record { code = 14; line = r .line; field = 0 } ≡ verdictOf (checkHolding h)
+  pub check-unsound : (r .line ≡ 0 → ⊥) → record { code = 14; line = r .line; field = 0 } ≡ verdictOf (checkHolding scottish h)
   unfolding checkHolding
-  check-unsound m = go (readHolding h) (s .line)
+  check-unsound m = go (readHolding scottish h) (s .line)
     where
       go : (w : meaning.Held) → r .line ≡ faultOf w → record { code = 14; line = r .line; field = 0 } ≡ verdictOf (heldNumbers w)
       go (sound st) e = absurd (m (unfold faultOf in e))

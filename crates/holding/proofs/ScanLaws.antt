@@ -21,13 +21,15 @@ use Rattle.theory.specs.LexLaws.{is-cmpN}
 use Rattle.theory.specs.Limits.{most}
 use Rattle.theory.specs.Decimal.{value, valueF}
 use Rattle.meaning.specs.Lines.{Line, linesOf}
-use Rattle.meaning.specs.Table.{Kind, kinds, ident}
+use Rattle.meaning.specs.Kinds.{Kind, kinds, ident}
+use Rattle.meaning.specs.Table.{scottish}
 use Rattle.meaning.specs.Records.{Rec, contentOf, keyOf}
 use Rattle.meaning.specs.Holding as meaning
 use Rattle.meaning.specs.Holding.{sound, unsound, heldLine, addRec, above, onHeld, scan}
 use Rattle.laws.specs.Kinds.{every}
 use Rattle.laws.specs.Body.{fine}
 use Rattle.laws.specs.HoldingReadBack.{HeldIs, held-out}
+use Rattle.laws.specs.Scottish.{scottish-regular}
 use Rattle.text.specs.declared.order.Order.{Order}
 use Rattle.text.specs.declared.order.Order.the-variants.{Before, Same, After}
 use Rattle.text.specs.Order.{triOf}
@@ -137,12 +139,12 @@ join-add st r (unsound n) = refl
 
 -- a key by numbers stands before the keys of sound records that the last key stands before
 abbrev pub Beside : List ℕ → Option (List ℕ) → Type 0
-Beside k lo = (r : Rec) → T (fine r) → isLt (lex k (keyNumbers r)) ≡ above lo r
+Beside k lo = (r : Rec) → T (fine scottish r) → isLt (lex k (keyNumbers r)) ≡ above scottish lo r
 
 -- n lines were read up to `at`, the last of key k, and their starts are in a, with their tags in g
 pub record Scanning (h a g : List ℕ) (n at : ℕ) (k : List ℕ) : Type 0 where
   pub lo : Option (List ℕ)
-  pub left : scan 1 none (linesOf h) ≡ joinHeld (says h h a n) (scan (suc n) lo (linesOf (drop at h)))
+  pub left : scan scottish 1 none (linesOf h) ≡ joinHeld (says h h a n) (scan scottish (suc n) lo (linesOf (drop at h)))
   pub beside : Beside k lo
   pub even : T (all (λ v. eqb (v % 2) 0) (take n a))
   pub tagged : take n g ≡ byKey tagOf (says h h a n)
@@ -161,7 +163,7 @@ zeros-beside r f = rw (is-cmpN 0 (value (ident (r .kind))) lt (kind-low (r .kind
 -- at the start nothing was read
 pub scan-start : (h a g : List ℕ) → Scanning h a g 0 0 (0 ∷ 0 ∷ 0 ∷ 0 ∷ [])
 unfolding says
-scan-start h a g = record { lo = none; left = join-nil (scan 1 none (linesOf h)); beside = zeros-beside; even = tt; tagged = refl; few = omega arith }
+scan-start h a g = record { lo = none; left = join-nil (scan scottish 1 none (linesOf h)); beside = zeros-beside; even = tt; tagged = refl; few = omega arith }
 
 -- the tag of a record more
 tags-more : (c : List ℕ) (n i : ℕ) (st : List Rec) (r : Rec) → n < length c → take n c ≡ byKey tagOf st → i ≡ tagOf (keyNumbers r) → take (n + 1) (set c n i) ≡ byKey tagOf (st ++ (r ∷ []))
@@ -171,9 +173,9 @@ tags-more c n i st r l e q = rw (add-one n, take-suc-set c n i l, e, q) (sym (ma
 
 abbrev FineIn : Option Rec → Type 0
 FineIn none = Unit {0}
-FineIn (some r) = T (fine r)
+FineIn (some r) = T (fine scottish r)
 
-held-fine : (n : ℕ) (l : Line) (o : Option Rec) → HeldIs n l o → FineIn o
+held-fine : (n : ℕ) (l : Line) (o : Option Rec) → HeldIs scottish n l o → FineIn o
 held-fine n l none w = tt
 held-fine n l (some r) w = w .1
 
@@ -181,27 +183,27 @@ held-fine n l (some r) w = w .1
 record Took (m : ℕ) (lo : Option (List ℕ)) (o : Option Rec) (go : Rec → meaning.Held) (j : List ℕ) : Type 0 where
   pub taken : Rec
   pub held : o ≡ some taken
-  pub sounds : T (fine taken)
+  pub sounds : T (fine scottish taken)
   pub key : j ≡ keyNumbers taken
-  pub goes : onHeld m lo o go ≡ addRec taken (go taken)
+  pub goes : onHeld scottish m lo o go ≡ addRec taken (go taken)
   pub few : m ≤ most
 
 abbrev Nexts : ℕ → Option (List ℕ) → Option Rec → (Rec → meaning.Held) → Option (List ℕ) → Type 0
-Nexts m lo o go none = onHeld m lo o go ≡ unsound m
+Nexts m lo o go none = onHeld scottish m lo o go ≡ unsound m
 Nexts m lo o go (some j) = Took m lo o go j
 
 next-in : (m : ℕ) (k : List ℕ) (lo : Option (List ℕ)) → Beside k lo → (o : Option Rec) → FineIn o → (go : Rec → meaning.Held) → Nexts m lo o go (nextAs m k o)
 unfolding nextAs onHeld
 next-in m k lo b none f go = refl
-next-in m k lo b (some r) f go = rw (b r f) (when (above lo r && leb m most) refl)
+next-in m k lo b (some r) f go = rw (b r f) (when (above scottish lo r && leb m most) refl)
   where
-    when : (c : Bool) → (above lo r && leb m most) ≡ c → Nexts m lo (some r) go (keepIf c (keyNumbers r))
-    when true q = unfold keepIf in (record { taken = r; held = refl; sounds = f; key = refl; goes = rw q; few = leb→le m most (and-r (above lo r) (leb m most) (rw q tt)) })
+    when : (c : Bool) → (above scottish lo r && leb m most) ≡ c → Nexts m lo (some r) go (keepIf c (keyNumbers r))
+    when true q = unfold keepIf in (record { taken = r; held = refl; sounds = f; key = refl; goes = rw q; few = leb→le m most (and-r (above scottish lo r) (leb m most) (rw q tt)) })
     when false q = unfold keepIf in (rw q)
 
 module _ (h : List ℕ) (at e : ℕ) (g : at < length h) (q : e ≡ plainEnd h at) where
   -- the line there, as the meaning has it
-  line-held : (n : ℕ) → heldLine n (firstLine (drop at h)) ≡ recordUpTo h at e n
+  line-held : (n : ℕ) → heldLine scottish n (firstLine (drop at h)) ≡ recordUpTo h at e n
   unfolding heldAs recordAs
   line-held n = held-is n (firstLine (drop at h)) (endsHere (drop e h)) (sym (ends-well-at h at e q)) ∙ go (endsHere (drop e h)) refl
     where
@@ -216,7 +218,7 @@ module _ (h : List ℕ) (at e : ℕ) (g : at < length h) (q : e ≡ plainEnd h a
   abbrev rest : List Line
   rest = linesOf (drop (at + (lineLen (drop at h) + 2)) h)
 
-  line-next : (n : ℕ) (lo : Option (List ℕ)) → scan (suc n) lo (linesOf (drop at h)) ≡ onHeld (suc n) lo (recordUpTo h at e (suc n)) (λ r. scan (suc (suc n)) (some (keyOf r)) rest)
+  line-next : (n : ℕ) (lo : Option (List ℕ)) → scan scottish (suc n) lo (linesOf (drop at h)) ≡ onHeld scottish (suc n) lo (recordUpTo h at e (suc n)) (λ r. scan scottish (suc (suc n)) (some (keyOf scottish r)) rest)
   unfolding scan
   line-next n lo = rw (lines-at h at g, line-held (suc n))
 
@@ -237,41 +239,41 @@ module _ (h : List ℕ) (at e : ℕ) (g : at < length h) (q : e ≡ plainEnd h a
   next-there n r p = let z = ends-there h at e q (ended n r p) in omega (arith, z)
 
   line-on : (n : ℕ) (lo : Option (List ℕ)) (r : Rec) (st st′ : List Rec)
-      → onHeld (suc n) lo (recordUpTo h at e (suc n)) (λ r. scan (suc (suc n)) (some (keyOf r)) rest) ≡ addRec r (scan (suc (suc n)) (some (keyOf r)) rest)
+      → onHeld scottish (suc n) lo (recordUpTo h at e (suc n)) (λ r. scan scottish (suc (suc n)) (some (keyOf scottish r)) rest) ≡ addRec r (scan scottish (suc (suc n)) (some (keyOf scottish r)) rest)
       → at + (lineLen (drop at h) + 2) ≡ e + 2 → st′ ≡ st ++ (r ∷ [])
-      → joinHeld st (scan (suc n) lo (linesOf (drop at h))) ≡ joinHeld st′ (scan (suc (n + 1)) (some (keyOf r)) (linesOf (drop (e + 2) h)))
+      → joinHeld st (scan scottish (suc n) lo (linesOf (drop at h))) ≡ joinHeld st′ (scan scottish (suc (n + 1)) (some (keyOf scottish r)) (linesOf (drop (e + 2) h)))
   line-on n lo r st st′ f w c = rw (line-next n lo, f, join-add st r _, c, w, add-one n)
 
   module _ (a c : List ℕ) (n : ℕ) (k : List ℕ) (s : Scanning h a c n at k) (x : Next) (v : keyTaken x ≡ nextAs (n + 1) k (recordUpTo h at e (n + 1))) where
-    found : Nexts (suc n) (s .lo) (recordUpTo h at e (suc n)) (λ r. scan (suc (suc n)) (some (keyOf r)) rest) (keyTaken x)
+    found : Nexts (suc n) (s .lo) (recordUpTo h at e (suc n)) (λ r. scan scottish (suc (suc n)) (some (keyOf scottish r)) rest) (keyTaken x)
     found =
         rw (v, add-one n)
-        (next-in (suc n) k (s .lo) (s .beside) (recordUpTo h at e (suc n)) (held-fine (suc n) (firstLine (drop at h)) (recordUpTo h at e (suc n)) (subst (HeldIs (suc n) (firstLine (drop at h))) (line-held (suc n)) (held-out (suc n) (firstLine (drop at h))))) (λ r. scan (suc (suc n)) (some (keyOf r)) rest))
+        (next-in (suc n) k (s .lo) (s .beside) (recordUpTo h at e (suc n)) (held-fine (suc n) (firstLine (drop at h)) (recordUpTo h at e (suc n)) (subst (HeldIs scottish (suc n) (firstLine (drop at h))) (line-held (suc n)) (held-out scottish scottish-regular (suc n) (firstLine (drop at h))))) (λ r. scan scottish (suc (suc n)) (some (keyOf scottish r)) rest))
 
     -- a line that is faulty or out of order is the lowest
-    pub scan-stop : x ≡ Faulty → ReadAs h (scan 1 none (linesOf h)) (record { line = n + 1; count = 0 }) a c
+    pub scan-stop : x ≡ Faulty → ReadAs h (scan scottish 1 none (linesOf h)) (record { line = n + 1; count = 0 }) a c
     unfolding faultOf
     scan-stop y =
-        let f : onHeld (suc n) (s .lo) (recordUpTo h at e (suc n)) (λ r. scan (suc (suc n)) (some (keyOf r)) rest) ≡ unsound (suc n) = rw y at found in
-        let w : scan 1 none (linesOf h) ≡ unsound (suc n) = s .left ∙ rw (line-next n (s .lo), f) in
+        let f : onHeld scottish (suc n) (s .lo) (recordUpTo h at e (suc n)) (λ r. scan scottish (suc (suc n)) (some (keyOf scottish r)) rest) ≡ unsound (suc n) = rw y at found in
+        let w : scan scottish 1 none (linesOf h) ≡ unsound (suc n) = s .left ∙ rw (line-next n (s .lo), f) in
         record { line = rw w (add-one n); listed = λ z. absurd (omega (arith, z)); tagged = λ z. absurd (omega (arith, z)) }
 
     -- there is room for the start of one that is taken, and for its tag
     pub scan-room : (j : Key) (o : List ℕ) → x ≡ Taken j → 8192 ≤ length o → n < length o
     scan-room j o y l =
-        let t : Took (suc n) (s .lo) (recordUpTo h at e (suc n)) (λ r. scan (suc (suc n)) (some (keyOf r)) rest) (keyList j) = rw y at found in
+        let t : Took (suc n) (s .lo) (recordUpTo h at e (suc n)) (λ r. scan scottish (suc (suc n)) (some (keyOf scottish r)) rest) (keyList j) = rw y at found in
         omega (arith, t .few)
 
     -- and it leaves those after it
     pub scan-turn : (j : Key) (i : ℕ) → x ≡ Taken j → 8192 ≤ length a → 8192 ≤ length c → i ≡ tagOf (keyList j) → Scanning h (set a n (2 * at)) (set c n i) (n + 1) (e + 2) (keyList j)
     scan-turn j i y l o p =
-        let t : Took (suc n) (s .lo) (recordUpTo h at e (suc n)) (λ r. scan (suc (suc n)) (some (keyOf r)) rest) (keyList j) = rw y at found in
+        let t : Took (suc n) (s .lo) (recordUpTo h at e (suc n)) (λ r. scan scottish (suc (suc n)) (some (keyOf scottish r)) rest) (keyList j) = rw y at found in
         let r : Rec = t .taken in
         let m : n < length a = omega (arith, t .few) in
         let f : recordOf h h (2 * at) ≡ r = entry-even h h at (2 * at) (omega arith) ∙ held-there h at (suc n) (firstLine (drop at h)) rest r (lines-at h at g) (line-held (suc n) ∙ t .held) in
         let d : says h h (set a n (2 * at)) (n + 1) ≡ says h h a n ++ (r ∷ []) = says-more h h a n (2 * at) m ∙ rw f in
         record {
-          lo = some (keyOf r);
+          lo = some (keyOf scottish r);
           left = s .left ∙ line-on n (s .lo) r (says h h a n) (says h h (set a n (2 * at)) (n + 1)) (t .goes) (next-there (suc n) r (t .held)) d;
           beside = λ z f. rw (t .key) (beside-key r (t .sounds) z f);
           even = rw (add-one n, take-suc-set a n (2 * at) m) (all-snoc (λ v. eqb (v % 2) 0) (take n a) (2 * at) (s .even) (yes-eqb {a = 2 * at % 2} {b = 0} (omega arith)));
@@ -279,14 +281,14 @@ module _ (h : List ℕ) (at e : ℕ) (g : at < length h) (q : e ≡ plainEnd h a
           few = omega (arith, t .few);
         }
       where
-        beside-key : (r : Rec) → T (fine r) → Beside (keyNumbers r) (some (keyOf r))
+        beside-key : (r : Rec) → T (fine scottish r) → Beside (keyNumbers r) (some (keyOf scottish r))
         beside-key r f z g = unfold above in (ap isLt (key-agrees r z f g))
 
 -- at the end all lines are sound and in order
-pub scan-done : (h a c k : List ℕ) (n at : ℕ) → Scanning h a c n at k → length h ≤ at → 8192 ≤ length a → ReadAs h (scan 1 none (linesOf h)) (record { line = 0; count = n }) a c
+pub scan-done : (h a c k : List ℕ) (n at : ℕ) → Scanning h a c n at k → length h ≤ at → 8192 ≤ length a → ReadAs h (scan scottish 1 none (linesOf h)) (record { line = 0; count = n }) a c
 unfolding scan faultOf recordsOf
 scan-done h a c k n at s g l =
-    let w : meaning.scan 1 none (linesOf h) ≡ sound (says h h a n) = s .left ∙ rw (lines-end h at g, append-nil) in
+    let w : meaning.scan scottish 1 none (linesOf h) ≡ sound (says h h a n) = s .left ∙ rw (lines-end h at g, append-nil) in
     record {
       line = rw w;
       listed = λ z. rw w (record {

@@ -10,7 +10,9 @@ use Rattle.theory.specs.Tri.{isLt}
 use Rattle.theory.specs.Lex.{lex}
 use Rattle.theory.specs.Limits.{most}
 use Rattle.meaning.specs.Lines.{identifier}
-use Rattle.meaning.specs.Table.{Kind, kindOf}
+use Rattle.meaning.specs.Kinds.{Kind}
+use Rattle.meaning.specs.Format.{kindOf}
+use Rattle.meaning.specs.Table.{scottish}
 use Rattle.meaning.specs.Records.{Rec, contentOf}
 use Rattle.meaning.specs.Holding.{heldTest}
 use Rattle.text.specs.Places.{endsHere}
@@ -21,11 +23,11 @@ use Rattle.holding.specs.declared.scan.Next.the-variants.{Taken, Faulty}
 -- a known kind, where the line is sound as line n of a holding
 unfoldable pub heldKindAs : ℕ → List ℕ → Option Kind → Option Kind
 heldKindAs n t none = none
-heldKindAs n t (some k) = keepIf (heldTest n k t) k
+heldKindAs n t (some k) = keepIf (heldTest scottish n k t) k
 
 -- the kind of line n, where it ends well and is sound as such
 unfoldable pub heldAs : ℕ → Bool → List ℕ → Option Kind
-heldAs n ended t = pick ended (heldKindAs n t (kindOf (identifier t))) none
+heldAs n ended t = pick ended (heldKindAs n t (kindOf scottish (identifier t))) none
 
 -- the record of a line of that kind
 unfoldable pub recordAs : List ℕ → Option Kind → Option Rec

@@ -6,6 +6,7 @@ use lib.Dec.{T, eqb}
 use lib.ListN.{length, take}
 use Rattle.base.specs.Lists.{all}
 use Rattle.theory.specs.Limits.{most}
+use Rattle.meaning.specs.Table.{scottish}
 use Rattle.meaning.specs.Records.{Rec}
 use Rattle.meaning.specs.Holding as meaning
 use Rattle.meaning.specs.Holding.{sound, unsound, referring, readHolding}
@@ -39,12 +40,12 @@ pub record ReadAs (h : List ℕ) (s : meaning.Held) (r : Held) (a g : List ℕ) 
 
 -- the lowest record whose references are not all met, or 0 and how often the records refer to each of them
 pub record CountsAs (h a : List ℕ) (n : ℕ) (t : List ℕ) (r : ℕ) : Type 0 where
-  pub line : r ≡ faultOf (referring (says h h a n) 1 (says h h a n))
+  pub line : r ≡ faultOf (referring scottish (says h h a n) 1 (says h h a n))
   pub told : r ≡ 0 → take n t ≡ byKey (tally (says h h a n)) (says h h a n)
 
 -- the lowest faulty line of a holding, or its records, where they stand, the tags of their keys and how often they refer to each of them
 pub record HeldIs (h : List ℕ) (r : Held) (a g t : List ℕ) : Type 0 where
-  pub line : r .line ≡ faultOf (readHolding h)
-  pub listed : r .line ≡ 0 → Listed h a (r .count) (recordsOf (readHolding h))
-  pub tagged : r .line ≡ 0 → take (r .count) g ≡ byKey tagOf (recordsOf (readHolding h))
-  pub told : r .line ≡ 0 → take (r .count) t ≡ byKey (tally (recordsOf (readHolding h))) (recordsOf (readHolding h))
+  pub line : r .line ≡ faultOf (readHolding scottish h)
+  pub listed : r .line ≡ 0 → Listed h a (r .count) (recordsOf (readHolding scottish h))
+  pub tagged : r .line ≡ 0 → take (r .count) g ≡ byKey tagOf (recordsOf (readHolding scottish h))
+  pub told : r .line ≡ 0 → take (r .count) t ≡ byKey (tally (recordsOf (readHolding scottish h))) (recordsOf (readHolding scottish h))

@@ -1,5 +1,6 @@
 // The check of a holding: 14 at its lowest faulty line.
 ghost use mathlib.Core.Path.{_≡_};
+ghost use Rattle.meaning.specs.Table.{scottish};
 ghost use Rattle.meaning.specs.Load.{checkHolding};
 ghost use Rattle.holding.specs.Verdict.{verdictOf};
 use crate::read::read_holding;
@@ -14,7 +15,7 @@ pub struct Verdict {
 
 // The check of a holding.
 pub fn check_holding(holding: &[u8]) -> Verdict
-    ensures { λ r. ⌜ r ≡ verdictOf (checkHolding (now (holding .entry))) ⌝ }
+    ensures { λ r. ⌜ r ≡ verdictOf (checkHolding scottish (now (holding .entry))) ⌝ }
 {
     let mut starts = [0u64; Holding::MOST_LINES];
     let mut tags = [0u64; Holding::MOST_LINES];

@@ -2,6 +2,7 @@
 ghost use mathlib.Core.Path.{_≡_};
 ghost use Rattle.base.specs.Lists.{same};
 ghost use Rattle.theory.specs.Decimal.{dec};
+ghost use Rattle.meaning.specs.Table.{scottish};
 ghost use Rattle.meaning.specs.Holding.{heldTest};
 ghost use Rattle.layout.specs.Meant.{kindMeant, kindFound};
 ghost use Rattle.holding.specs.Held.{heldAs};
@@ -24,7 +25,7 @@ fn is_number(text: &[u8], number: usize) -> bool
 
 // Whether a line of a kind is sound as the line of that number in a holding.
 fn passes(kind: Kind, text: &[u8], line: usize) -> bool
-    ensures { λ r. ⌜ r ≡ heldTest line (kindMeant kind) (now (text .entry)) ⌝ }
+    ensures { λ r. ⌜ r ≡ heldTest scottish line (kindMeant kind) (now (text .entry)) ⌝ }
 {
     if !is_held(kind) {
         return false;

@@ -4,6 +4,7 @@ ghost use lib.Dec.{T};
 ghost use lib.ListN.{length};
 ghost use Rattle.base.specs.Lists.{all};
 ghost use Rattle.theory.specs.Store.{Asc};
+ghost use Rattle.meaning.specs.Table.{scottish};
 ghost use Rattle.meaning.specs.Records.{keyed};
 ghost use Rattle.laws.specs.Body.{fine};
 ghost use Rattle.places.specs.Places.{says};
@@ -20,7 +21,7 @@ pub fn unmet(
     counts: &mut [u16],
     count: usize,
 ) -> usize
-    requires { ⌜ (count ≤ length (now starts)) × (count ≤ length (now counts)) × (count ≤ 8192) × Asc keyed (says (now holding) (now holding) (now starts) count) × T (all fine (says (now holding) (now holding) (now starts) count)) × Tagged (now holding) (now holding) (now starts) (now tags) count ⌝ }
+    requires { ⌜ (count ≤ length (now starts)) × (count ≤ length (now counts)) × (count ≤ 8192) × Asc (keyed scottish) (says (now holding) (now holding) (now starts) count) × T (all (fine scottish) (says (now holding) (now holding) (now starts) count)) × Tagged (now holding) (now holding) (now starts) (now tags) count ⌝ }
     ensures { λ r. ⌜ CountsAs (now (holding .entry)) (now (starts .entry)) count (now (counts .exit)) r ⌝ }
 {
     clear(&mut *counts, count);

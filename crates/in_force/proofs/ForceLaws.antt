@@ -18,7 +18,8 @@ use Rattle.theory.specs.Decimal.{value}
 use Rattle.theory.specs.Step.{Op, ins, upd, del, Change}
 use Rattle.theory.specs.Answer.{Read, fault, file}
 use Rattle.meaning.specs.Lines.{Line, linesOf, fieldsOf}
-use Rattle.meaning.specs.Table.{ident, Role, headerLine, bodyLine, metadataLine, trailerLine, role, enquiries, numberedAmong}
+use Rattle.meaning.specs.Kinds.{ident, Role, headerLine, bodyLine, metadataLine, trailerLine, role, numberedAmong}
+use Rattle.meaning.specs.Table.{enquiries, scottish}
 use Rattle.meaning.specs.Records.{Rec, opOf, changeOf, keyOf}
 use Rattle.meaning.specs.Holding.{readHolding}
 use Rattle.meaning.specs.File.{Sheet, Frame, readFile}
@@ -28,6 +29,7 @@ use Rattle.laws.specs.LinesAndFields.{endsAll}
 use Rattle.laws.specs.SoundFile.{RoleLine, SaysChange, SaysChanges, SoundFile, sound-read}
 use Rattle.laws.specs.FileReadBack.{fineC, file-says}
 use Rattle.laws.specs.Checks.{checked-file}
+use Rattle.laws.specs.Scottish.{scottish-regular}
 use Rattle.volume.specs.declared.check.Answer.{Answer}
 use Rattle.volume.specs.Answer.{answerOf}
 use Rattle.keys.specs.Numbers.{keyNumbers}
@@ -48,7 +50,7 @@ use Rattle.find.proofs.FindLaws.{Asked, asked-is, asked-agrees, same-lex, no-ki
 -- ---- the lines of a sound file
 
 -- the record of a body line is its change's
-pub body-rec : (i : ℕ) (t : List ℕ) (c : Change Rec) → SaysChange i t c → recOf t ≡ c .rec
+pub body-rec : (i : ℕ) (t : List ℕ) (c : Change Rec) → SaysChange scottish i t c → recOf t ≡ c .rec
 unfolding changeOf
 body-rec i t c s = role-known bodyLine t (s .line) ∙ ap (λ x. x .rec) (s .says)
 
@@ -58,7 +60,7 @@ sought kind n = kind ∷ n ∷ 0 ∷ 0 ∷ []
 
 module _ (kind n : ℕ) (k : Asked kind) where
   -- a line that is no body line does not name it
-  unnamed : (i : ℕ) (o : Role) (t : List ℕ) → RoleLine o t → (bodyLine ≡ o → ⊥) → namedBy (sought kind n) i t ≡ Unnamed
+  unnamed : (i : ℕ) (o : Role) (t : List ℕ) → RoleLine scottish o t → (bodyLine ≡ o → ⊥) → namedBy (sought kind n) i t ≡ Unnamed
   unfolding namedBy keyNumbers
   unnamed i o t r d = go (lex (sought kind n) (keyNumbers (recOf t))) refl
     where
@@ -73,16 +75,16 @@ module _ (kind n : ℕ) (k : Asked kind) where
       go gt e = refl
 
   -- a body line says what its change does
-  said-by : (i : ℕ) (t : List ℕ) (c : Change Rec) → SaysChange i t c → T (fineC c) → (o : Option (ℕ × Op))
-      → laterOf (namingOf o) (namedBy (sought kind n) (suc i) t) ≡ namingOf (pick (same (kind ∷ n ∷ []) (keyOf (c .rec))) (some (i, c .op)) o)
+  said-by : (i : ℕ) (t : List ℕ) (c : Change Rec) → SaysChange scottish i t c → T (fineC scottish c) → (o : Option (ℕ × Op))
+      → laterOf (namingOf o) (namedBy (sought kind n) (suc i) t) ≡ namingOf (pick (same (kind ∷ n ∷ []) (keyOf scottish (c .rec))) (some (i, c .op)) o)
   unfolding namedBy changeOf laterOf namingOf saidBy
-  said-by i t c s f o = rw (names, op) (go (same (kind ∷ n ∷ []) (keyOf (c .rec))) (c .op))
+  said-by i t c s f o = rw (names, op) (go (same (kind ∷ n ∷ []) (keyOf scottish (c .rec))) (c .op))
     where
       op : opOf (getD (fieldsOf t) 1 []) ≡ c .op
       op = ap (λ x. x .op) (s .says)
 
-      names : isEq (lex (sought kind n) (keyNumbers (recOf t))) ≡ same (kind ∷ n ∷ []) (keyOf (c .rec))
-      names = ap (λ x. isEq (lex (sought kind n) (keyNumbers x))) (body-rec i t c s) ∙ ap isEq (asked-agrees kind n k (c .rec) f) ∙ same-lex (kind ∷ n ∷ []) (keyOf (c .rec))
+      names : isEq (lex (sought kind n) (keyNumbers (recOf t))) ≡ same (kind ∷ n ∷ []) (keyOf scottish (c .rec))
+      names = ap (λ x. isEq (lex (sought kind n) (keyNumbers x))) (body-rec i t c s) ∙ ap isEq (asked-agrees kind n k (c .rec) f) ∙ same-lex (kind ∷ n ∷ []) (keyOf scottish (c .rec))
 
       go : (b : Bool) (p : Op) → laterOf (namingOf o) (pick b (saidBy (suc i) p) Unnamed) ≡ namingOf (pick b (some (i, p)) o)
       go true ins = refl
@@ -90,8 +92,8 @@ module _ (kind n : ℕ) (k : Asked kind) where
       go true del = refl
       go false p = refl
 
-  body-says : (i : ℕ) (ts : List (List ℕ)) (cs : List (Change Rec)) (m t : List ℕ) (o : Option (ℕ × Op)) → SaysChanges i ts cs → T (all fineC cs) → RoleLine metadataLine m → RoleLine trailerLine t
-      → lastNamed (sought kind n) (suc i) (endsAll (ts ++ (m ∷ t ∷ []))) (namingOf o) ≡ namingOf (lastNaming (kind ∷ n ∷ []) i cs o)
+  body-says : (i : ℕ) (ts : List (List ℕ)) (cs : List (Change Rec)) (m t : List ℕ) (o : Option (ℕ × Op)) → SaysChanges scottish i ts cs → T (all (fineC scottish) cs) → RoleLine scottish metadataLine m → RoleLine scottish trailerLine t
+      → lastNamed (sought kind n) (suc i) (endsAll (ts ++ (m ∷ t ∷ []))) (namingOf o) ≡ namingOf (lastNaming scottish (kind ∷ n ∷ []) i cs o)
   unfolding lastNamed lastNaming laterOf
   body-says i [] [] m t o s f a b = rw (unnamed (suc i) metadataLine m a (λ e. other e), unnamed (suc (suc i)) trailerLine t b (λ e. last e))
     where
@@ -103,16 +105,16 @@ module _ (kind n : ℕ) (k : Asked kind) where
   body-says i [] (c ∷ cs) m t o s f a b = absurd s
   body-says i (x ∷ ts) [] m t o s f a b = absurd s
   body-says i (x ∷ ts) (c ∷ cs) m t o s f a b =
-      ap (lastNamed (sought kind n) (suc (suc i)) (endsAll (ts ++ (m ∷ t ∷ [])))) (said-by i x c (s .0) (and-l (fineC c) (all fineC cs) f) o)
-      ∙ body-says (suc i) ts cs m t (pick (same (kind ∷ n ∷ []) (keyOf (c .rec))) (some (i, c .op)) o) (s .1) (and-r (fineC c) (all fineC cs) f) a b
+      ap (lastNamed (sought kind n) (suc (suc i)) (endsAll (ts ++ (m ∷ t ∷ [])))) (said-by i x c (s .0) (and-l (fineC scottish c) (all (fineC scottish) cs) f) o)
+      ∙ body-says (suc i) ts cs m t (pick (same (kind ∷ n ∷ []) (keyOf scottish (c .rec))) (some (i, c .op)) o) (s .1) (and-r (fineC scottish c) (all (fineC scottish) cs) f) a b
 
   -- the lines of a sound file say what its last body line of the key says
-  file-names : (b : List ℕ) (fr : Frame) (cs : List (Change Rec)) → SoundFile b fr cs → lastNamed (sought kind n) 1 (linesOf b) Unnamed ≡ namingOf (lastNaming (kind ∷ n ∷ []) 1 cs none)
+  file-names : (b : List ℕ) (fr : Frame) (cs : List (Change Rec)) → SoundFile scottish b fr cs → lastNamed (sought kind n) 1 (linesOf b) Unnamed ≡ namingOf (lastNaming scottish (kind ∷ n ∷ []) 1 cs none)
   unfolding lastNamed laterOf namingOf
   file-names b fr cs s =
       ap (λ ls. lastNamed (sought kind n) 1 ls Unnamed) (s .lines)
       ∙ ap (λ o. lastNamed (sought kind n) 2 (endsAll (s .texts ++ (fr .metadataText ∷ fr .trailerText ∷ []))) (laterOf Unnamed o)) (unnamed 1 headerLine (fr .headerText) (s .heading) (λ e. other e))
-      ∙ body-says 1 (s .texts) cs (fr .metadataText) (fr .trailerText) none (s .body) (file-says b fr cs (sound-read b fr cs s) .1) (s .describing) (s .closing .line)
+      ∙ body-says 1 (s .texts) cs (fr .metadataText) (fr .trailerText) none (s .body) (file-says scottish scottish-regular b fr cs (sound-read scottish b fr cs s) .1) (s .describing) (s .closing .line)
     where
       other : bodyLine ≡ headerLine → ⊥
       other e = let z : _≡_ {A = ℕ} 0 1 = cc in omega arith
@@ -169,11 +171,11 @@ module _ (f k : List ℕ) (o : Naming) (l : ℕ) (e : o ≡ lastNamed k 1 (lines
 
 -- what is handed back, by what the lines say
 unfoldable handedBy : List ℕ → List ℕ → List ℕ → List Rec → Naming → Found
-handedBy old b q st Unnamed = heldPart old (heldAt q 0 st)
+handedBy old b q st Unnamed = heldPart old (heldAt scottish q 0 st)
 handedBy old b q st Deleted = refusal 11 0 0
 handedBy old b q st (Named l) = partOf second (linesOf b) (l - 1)
 
-handed-by : (old b q : List ℕ) (st : List Rec) (o : Option (ℕ × Op)) → inForcePart old b q st o ≡ handedBy old b q st (namingOf o)
+handed-by : (old b q : List ℕ) (st : List Rec) (o : Option (ℕ × Op)) → inForcePart scottish old b q st o ≡ handedBy old b q st (namingOf o)
 unfolding inForcePart handedBy named namingOf saidBy
 handed-by old b q st none = refl
 handed-by old b q st (some l) = go (l .1)
@@ -186,22 +188,22 @@ handed-by old b q st (some l) = go (l .1)
     go upd = ap (partOf second (linesOf b)) (sym less)
     go del = refl
 
-module _ (s t : List ℕ) (kind n : ℕ) (x : Finding) (k : Asked kind) (z : checkFile t .code ≡ 0) (j : List ℕ) (y : j ≡ kind ∷ n ∷ 0 ∷ 0 ∷ []) (o : Naming) (g : o ≡ lastNamed j 1 (linesOf t) Unnamed) where
+module _ (s t : List ℕ) (kind n : ℕ) (x : Finding) (k : Asked kind) (z : checkFile scottish t .code ≡ 0) (j : List ℕ) (y : j ≡ kind ∷ n ∷ 0 ∷ 0 ∷ []) (o : Naming) (g : o ≡ lastNamed j 1 (linesOf t) Unnamed) where
   -- what is found of a sound file
   abbrev found : Found
-  found = inForceFile s t (kind ∷ n ∷ []) (recordsOf (readHolding s)) (readFile t)
+  found = inForceFile scottish s t (kind ∷ n ∷ []) (recordsOf (readHolding scottish s)) (readFile scottish t)
 
   -- it is what the file's lines say
-  on-lines : found ≡ handedBy s t (kind ∷ n ∷ []) (recordsOf (readHolding s)) o
+  on-lines : found ≡ handedBy s t (kind ∷ n ∷ []) (recordsOf (readHolding scottish s)) o
   unfolding inForceFile
   on-lines =
-      let f = checked-file t z in
-      rw (sound-read t (f .frame) (f .changes) (f .sounds))
-      (handed-by s t (kind ∷ n ∷ []) (recordsOf (readHolding s)) (lastNaming (kind ∷ n ∷ []) 1 (f .changes) none)
-      ∙ ap (handedBy s t (kind ∷ n ∷ []) (recordsOf (readHolding s))) (sym (g ∙ ap (λ i. lastNamed i 1 (linesOf t) Unnamed) y ∙ file-names kind n k t (f .frame) (f .changes) (f .sounds))))
+      let f = checked-file scottish scottish-regular t z in
+      rw (sound-read scottish t (f .frame) (f .changes) (f .sounds))
+      (handed-by s t (kind ∷ n ∷ []) (recordsOf (readHolding scottish s)) (lastNaming scottish (kind ∷ n ∷ []) 1 (f .changes) none)
+      ∙ ap (handedBy s t (kind ∷ n ∷ []) (recordsOf (readHolding scottish s))) (sym (g ∙ ap (λ i. lastNamed i 1 (linesOf t) Unnamed) y ∙ file-names kind n k t (f .frame) (f .changes) (f .sounds))))
 
   -- where none names the key, the held line
-  pub last-held : o ≡ Unnamed → x ≡ findingOf (heldPart s (heldAt (kind ∷ n ∷ []) 0 (recordsOf (readHolding s)))) → x ≡ findingOf found
+  pub last-held : o ≡ Unnamed → x ≡ findingOf (heldPart s (heldAt scottish (kind ∷ n ∷ []) 0 (recordsOf (readHolding scottish s)))) → x ≡ findingOf found
   unfolding handedBy
   last-held q w = rw (on-lines, q) w
 
@@ -223,40 +225,40 @@ pub ruleset last = (needs, named-from, named-to, last-asked, last-held, last-del
 
 module _ (s t : List ℕ) (kind n : ℕ) (x : Finding) (b : Bool) (e : b ≡ some? (numberedAmong enquiries kind)) where
   -- 15 for a kind that can't be asked for
-  pub force-other : b ≡ false → x ≡ findingOf (refusal 15 0 0) → x ≡ findingOf (inForce s t kind n)
+  pub force-other : b ≡ false → x ≡ findingOf (refusal 15 0 0) → x ≡ findingOf (inForce scottish s t kind n)
   unfolding inForce inForceKind
   force-other f w = rw (no-kind kind b e f) w
 
   -- 14 for an unsound holding
-  pub force-unsound : (r : Held) (a o c : List ℕ) → b ≡ true → HeldIs s r a o c → (r .line ≡ 0 → ⊥) → x ≡ findingOf (refusal 14 (r .line) 0) → x ≡ findingOf (inForce s t kind n)
+  pub force-unsound : (r : Held) (a o c : List ℕ) → b ≡ true → HeldIs s r a o c → (r .line ≡ 0 → ⊥) → x ≡ findingOf (refusal 14 (r .line) 0) → x ≡ findingOf (inForce scottish s t kind n)
   unfolding inForce inForceKind inForceHeld
   force-unsound r a o c f h z w = rw (asked-is kind (sym e ∙ f) .known, unsounds s r a o c h z) w
 
   module _ (u : b ≡ true) (r : Held) (a o i : List ℕ) (h : HeldIs s r a o i) (v : r .line ≡ 0) where
     -- then the file is judged
-    on-file : inForce s t kind n ≡ inForceFile s t (kind ∷ n ∷ []) (recordsOf (readHolding s)) (readFile t)
+    on-file : inForce scottish s t kind n ≡ inForceFile scottish s t (kind ∷ n ∷ []) (recordsOf (readHolding scottish s)) (readFile scottish t)
     unfolding inForce inForceKind inForceHeld
     on-file =
         let k = asked-is kind (sym e ∙ u) in
-        ap (inForceKind s t n) (k .known)
-        ∙ ap (λ (v : ℕ). inForceHeld s t (v ∷ n ∷ []) (readHolding s)) (sym (k .number))
-        ∙ ap (inForceHeld s t (kind ∷ n ∷ [])) (held-sound s (sym (h .line) ∙ v))
+        ap (inForceKind scottish s t n) (k .known)
+        ∙ ap (λ (v : ℕ). inForceHeld scottish s t (v ∷ n ∷ []) (readHolding scottish s)) (sym (k .number))
+        ∙ ap (inForceHeld scottish s t (kind ∷ n ∷ [])) (held-sound s (sym (h .line) ∙ v))
 
     -- the file's own fault
-    pub force-faulty : (c : Answer) → c ≡ answerOf (checkFile t) → (c .code ≡ 0 → ⊥) → x ≡ findingOf (refusal (c .code) (c .line) (c .field)) → x ≡ findingOf (inForce s t kind n)
+    pub force-faulty : (c : Answer) → c ≡ answerOf (checkFile scottish t) → (c .code ≡ 0 → ⊥) → x ≡ findingOf (refusal (c .code) (c .line) (c .field)) → x ≡ findingOf (inForce scottish s t kind n)
     unfolding checkFile
-    force-faulty c d z w = w ∙ ap findingOf (sym (on-file ∙ go (readFile t) d))
+    force-faulty c d z w = w ∙ ap findingOf (sym (on-file ∙ go (readFile scottish t) d))
       where
-        go : (u : Read Sheet) → c ≡ answerOf (checked u) → inForceFile s t (kind ∷ n ∷ []) (recordsOf (readHolding s)) u ≡ refusal (c .code) (c .line) (c .field)
+        go : (u : Read Sheet) → c ≡ answerOf (checked u) → inForceFile scottish s t (kind ∷ n ∷ []) (recordsOf (readHolding scottish s)) u ≡ refusal (c .code) (c .line) (c .field)
         go (fault m l y) q = unfold checked inForceFile in rw q
         go (file y) q = absurd (unfold checked in z (ap (λ y. y .code) q))
 
     -- else what it says
-    pub force-last : x ≡ findingOf (inForceFile s t (kind ∷ n ∷ []) (recordsOf (readHolding s)) (readFile t)) → x ≡ findingOf (inForce s t kind n)
+    pub force-last : x ≡ findingOf (inForceFile scottish s t (kind ∷ n ∷ []) (recordsOf (readHolding scottish s)) (readFile scottish t)) → x ≡ findingOf (inForce scottish s t kind n)
     force-last w = rw on-file w
 
 -- a file with no fault
-pub faultless : (t : List ℕ) (c : Answer) → c ≡ answerOf (checkFile t) → c .code ≡ 0 → checkFile t .code ≡ 0
+pub faultless : (t : List ℕ) (c : Answer) → c ≡ answerOf (checkFile scottish t) → c .code ≡ 0 → checkFile scottish t .code ≡ 0
 faultless t c d z = sym (ap (λ y. y .code) d) ∙ z
 
 pub ruleset force = (needs, not-true, not-false, force-other, force-unsound, force-faulty, force-last)

@@ -12,7 +12,8 @@ use lib.ListN.{length}
 use Rattle.theory.specs.Step.{Op, ins, upd, del}
 use Rattle.theory.specs.Answer.{Read, fault, file}
 use Rattle.meaning.specs.Lines.{linesOf}
-use Rattle.meaning.specs.Table.{Kind, enquiries, numberedAmong}
+use Rattle.meaning.specs.Kinds.{Kind, numberedAmong}
+use Rattle.meaning.specs.Table.{enquiries, scottish}
 use Rattle.meaning.specs.Records.{Rec}
 use Rattle.meaning.specs.File.{Sheet, readFile}
 use Rattle.meaning.specs.Holding.{Held, sound, unsound, readHolding}
@@ -29,7 +30,7 @@ second-within : (a b : List ℕ) (i : ℕ) → Within (partOf second (linesOf b)
 unfolding partOf
 second-within a b i = line-within b i
 
-force-within : (a b : List ℕ) (kind n : ℕ) → Within (inForce a b kind n) a b
+force-within : (a b : List ℕ) (kind n : ℕ) → Within (inForce scottish a b kind n) a b
 unfolding inForce inForceKind inForceHeld inForceFile inForcePart named
 force-within a b kind n = asked (numberedAmong enquiries kind)
   where
@@ -38,41 +39,41 @@ force-within a b kind n = asked (numberedAmong enquiries kind)
     says i upd = second-within a b i
     says i del = nothing 11 0 0 a b
 
-    names : (q : List ℕ) (st : List Rec) (o : Option (ℕ × Op)) → Within (inForcePart a b q st o) a b
-    names q st none = held-within a b (heldAt q 0 st)
+    names : (q : List ℕ) (st : List Rec) (o : Option (ℕ × Op)) → Within (inForcePart scottish a b q st o) a b
+    names q st none = held-within a b (heldAt scottish q 0 st)
     names q st (some l) = says (l .0) (l .1)
 
-    reads : (q : List ℕ) (st : List Rec) (s : Read Sheet) → Within (inForceFile a b q st s) a b
+    reads : (q : List ℕ) (st : List Rec) (s : Read Sheet) → Within (inForceFile scottish a b q st s) a b
     reads q st (fault c l f) = nothing c l f a b
-    reads q st (file s) = names q st (lastNaming q 1 (s .1) none)
+    reads q st (file s) = names q st (lastNaming scottish q 1 (s .1) none)
 
-    holds : (q : List ℕ) (h : Held) → Within (inForceHeld a b q h) a b
+    holds : (q : List ℕ) (h : Held) → Within (inForceHeld scottish a b q h) a b
     holds q (unsound m) = nothing 14 m 0 a b
-    holds q (sound st) = reads q st (readFile b)
+    holds q (sound st) = reads q st (readFile scottish b)
 
-    asked : (k : Option Kind) → Within (inForceKind a b n k) a b
+    asked : (k : Option Kind) → Within (inForceKind scottish a b n k) a b
     asked none = nothing 15 0 0 a b
-    asked (some k) = holds _ (readHolding a)
+    asked (some k) = holds _ (readHolding scottish a)
 
 -- the record in force, in the one of two that the finding names
-module _ (a b : List ℕ) (kind n : ℕ) (g : Finding) (e : g ≡ findingOf (inForce a b kind n)) where
-  fits : (z : Slice) → inForce a b kind n .slice ≡ z → g .start + g .size ≤ length (lentAs z a b)
+module _ (a b : List ℕ) (kind n : ℕ) (g : Finding) (e : g ≡ findingOf (inForce scottish a b kind n)) where
+  fits : (z : Slice) → inForce scottish a b kind n .slice ≡ z → g .start + g .size ≤ length (lentAs z a b)
   unfolding findingOf
   fits z q = subst (λ (y : Slice). g .start + g .size ≤ length (lentAs y a b)) q (rw e (force-within a b kind n))
 
   pub force-second : g .infile ≡ true → g .start + g .size ≤ length b
   unfolding findingOf
-  force-second i = go (inForce a b kind n .slice) refl
+  force-second i = go (inForce scottish a b kind n .slice) refl
     where
-      go : (z : Slice) → inForce a b kind n .slice ≡ z → g .start + g .size ≤ length b
+      go : (z : Slice) → inForce scottish a b kind n .slice ≡ z → g .start + g .size ≤ length b
       go first q = absurd (let y : false ≡ true = ap inFile (sym q) ∙ sym (ap (λ y. y .infile) e) ∙ i in let z : _≡_ {A = ℕ} 0 1 = cc in omega arith)
       go second q = fits second q
 
   pub force-first : g .infile ≡ false → g .start + g .size ≤ length a
   unfolding findingOf
-  force-first i = go (inForce a b kind n .slice) refl
+  force-first i = go (inForce scottish a b kind n .slice) refl
     where
-      go : (z : Slice) → inForce a b kind n .slice ≡ z → g .start + g .size ≤ length a
+      go : (z : Slice) → inForce scottish a b kind n .slice ≡ z → g .start + g .size ≤ length a
       go first q = fits first q
       go second q = absurd (let y : true ≡ false = ap inFile (sym q) ∙ sym (ap (λ y. y .infile) e) ∙ i in let z : _≡_ {A = ℕ} 0 1 = cc in omega arith)
 

@@ -12,7 +12,8 @@ use Rattle.base.specs.Tests.{some≢none}
 use Rattle.theory.specs.Step.{Op, ins, upd, del, Change, new}
 use Rattle.theory.specs.Store.{get}
 use Rattle.meaning.specs.Lines.{Line, linesOf}
-use Rattle.meaning.specs.Table.{enquiries, numberedAmong}
+use Rattle.meaning.specs.Kinds.{numberedAmong}
+use Rattle.meaning.specs.Table.{enquiries, scottish}
 use Rattle.meaning.specs.Records.{Rec, keyed, changeText}
 use Rattle.meaning.specs.Enquiries.{Found, Slice, first, second, refusal, partOf, heldAt, heldPart, find, findKind, findIn, lastNaming, named, inForcePart, inForceFile, inForceHeld, inForceKind, inForce}
 use Rattle.laws.specs.Body.{ident-in, change-read}
@@ -25,6 +26,7 @@ use Rattle.laws.specs.LinePart.{noLine, part-is}
 use Rattle.laws.specs.Find.{FoundIt, find-finds, finds-find}
 use Rattle.laws.specs.Demand2.{Allowed, afterAll}
 use Rattle.laws.specs.InForce.{NamedSays, in-force}
+use Rattle.laws.specs.Scottish.{scottish-knows, scottish-regular}
 use Rattle.entries.specs.Entries.{recOf}
 use Rattle.entries.proofs.LineLaws.{rec-change}
 use Rattle.enquiries.specs.Handed.{threeList, lentAs, HandedOf}
@@ -45,25 +47,25 @@ bytesIn a b f = take (f .size) (drop (f .start) (lentAs (f .slice) a b))
 -- the line of a record carries it
 carries : (n : ℕ) (r : Rec) → recOf (changeText n (insertOf r)) ≡ r
 unfolding changeText
-carries n r = rec-change (changeText n (insertOf r)) (r .kind) (ident-in (r .kind) _) ∙ ap (λ c. c .rec) (change-read n (insertOf r))
+carries n r = rec-change (changeText n (insertOf r)) (r .kind) (ident-in scottish (r .kind) _ (scottish-knows (r .kind))) ∙ ap (λ c. c .rec) (change-read n (insertOf r))
 
-module _ (old b : List ℕ) (kind n : ℕ) (st : List Rec) (k : Asked kind) (h : SoundHolding old st) where
-  find-is : find old kind n ≡ heldPart old (heldAt (kind ∷ n ∷ []) 0 st)
+module _ (old b : List ℕ) (kind n : ℕ) (st : List Rec) (k : Asked kind) (h : SoundHolding scottish old st) where
+  find-is : find scottish old kind n ≡ heldPart old (heldAt scottish (kind ∷ n ∷ []) 0 st)
   unfolding find findKind findIn
-  find-is = rw (k .known, sound-held old st h, ← (k .number))
+  find-is = rw (k .known, sound-held scottish scottish-regular old st h, ← (k .number))
 
   -- where a part is found, the record stands at the key
-  found-there : (f : Found) → find old kind n ≡ f → f .answer .code ≡ 0 → (r : Rec) × (m : ℕ) × (get keyed (kind ∷ n ∷ []) st ≡ some r) × (take (f .size) (drop (f .start) old) ≡ changeText m (insertOf r))
+  found-there : (f : Found) → find scottish old kind n ≡ f → f .answer .code ≡ 0 → (r : Rec) × (m : ℕ) × (get (keyed scottish) (kind ∷ n ∷ []) st ≡ some r) × (take (f .size) (drop (f .start) old) ≡ changeText m (insertOf r))
   found-there f e z =
-      let w : FoundIt old kind n f = subst (FoundIt old kind n) e (find-finds old kind n (rw e z)) in
-      (w .rec, w .number, subst (λ l. get keyed (kind ∷ n ∷ []) l ≡ some (w .rec)) (held-only old (w .st) st (w .held) h) (w .looks), w .bytes)
+      let w : FoundIt scottish old kind n f = subst (FoundIt scottish old kind n) e (find-finds scottish scottish-regular old kind n (rw e z)) in
+      (w .rec, w .number, subst (λ l. get (keyed scottish) (kind ∷ n ∷ []) l ≡ some (w .rec)) (held-only scottish scottish-regular old (w .st) st (w .held) h) (w .looks), w .bytes)
 
-  held-shows : (o : Option ℕ) → heldAt (kind ∷ n ∷ []) 0 st ≡ o → (v : Option Rec) → get keyed (kind ∷ n ∷ []) st ≡ v → Shows v (threeList (heldPart old o .answer)) (bytesIn old b (heldPart old o))
+  held-shows : (o : Option ℕ) → heldAt scottish (kind ∷ n ∷ []) 0 st ≡ o → (v : Option Rec) → get (keyed scottish) (kind ∷ n ∷ []) st ≡ v → Shows v (threeList (heldPart old o .answer)) (bytesIn old b (heldPart old o))
   unfolding heldPart refusal partOf
   held-shows none e none g = (refl, refl)
   held-shows none e (some r) g =
-      let z : find old kind n .answer .code ≡ 11 = ap (λ f. f .answer .code) (find-is ∙ ap (heldPart old) e) in
-      absurd (omega (arith, z, ap (λ a. a .code) (finds-find old (k .named) kind n st r (k .known) h g)))
+      let z : find scottish old kind n .answer .code ≡ 11 = ap (λ f. f .answer .code) (find-is ∙ ap (heldPart old) e) in
+      absurd (omega (arith, z, ap (λ a. a .code) (finds-find scottish scottish-regular old (k .named) kind n st r (k .known) h g)))
   held-shows (some i) e none g = let w = found-there (partOf first (linesOf old) i) (find-is ∙ ap (heldPart old) e) refl in absurd (some≢none (sym (w .2) ∙ g))
   held-shows (some i) e (some r) g =
       let w = found-there (partOf first (linesOf old) i) (find-is ∙ ap (heldPart old) e) refl in
@@ -78,7 +80,7 @@ pub record LineOf (ls : List Line) (i : ℕ) (c : Change Rec) : Type 0 where
   pub there : getD ls i noLine ≡ ends text
   pub carried : recOf text ≡ c .rec
 
-line-of : (i : ℕ) (ts rest : List (List ℕ)) (pre : List (Change Rec)) (c : Change Rec) (post : List (Change Rec)) → SaysChanges i ts (pre ++ (c ∷ post)) → LineOf (endsAll (ts ++ rest)) (length pre) c
+line-of : (i : ℕ) (ts rest : List (List ℕ)) (pre : List (Change Rec)) (c : Change Rec) (post : List (Change Rec)) → SaysChanges scottish i ts (pre ++ (c ∷ post)) → LineOf (endsAll (ts ++ rest)) (length pre) c
 line-of i [] rest [] c post s = absurd s
 line-of i [] rest (x ∷ pre) c post s = absurd s
 line-of i (t ∷ ts) rest [] c post s = record { text = t; inside = omega arith; there = refl; carried = body-rec i t c (s .0) }
@@ -86,21 +88,21 @@ line-of i (t ∷ ts) rest (x ∷ pre) c post s = let l = line-of (suc i) ts rest
 
 -- ---- the record in force
 
-module _ (old b : List ℕ) (room kind n : ℕ) (a : Allowed old b room) (k : Asked kind) where
-  force-is : inForce old b kind n ≡ inForcePart old b (kind ∷ n ∷ []) (a .st) (lastNaming (kind ∷ n ∷ []) 1 (a .cs) none)
+module _ (old b : List ℕ) (room kind n : ℕ) (a : Allowed scottish old b room) (k : Asked kind) where
+  force-is : inForce scottish old b kind n ≡ inForcePart scottish old b (kind ∷ n ∷ []) (a .st) (lastNaming scottish (kind ∷ n ∷ []) 1 (a .cs) none)
   unfolding inForce inForceKind inForceHeld inForceFile
-  force-is = rw (k .known, sound-held old (a .st) (a .held), sound-read b (a .fr) (a .cs) (a .lines), ← (k .number))
+  force-is = rw (k .known, sound-held scottish scottish-regular old (a .st) (a .held), sound-read scottish b (a .fr) (a .cs) (a .lines), ← (k .number))
 
-  force-shows : (o : Option (ℕ × Op)) (v : Option Rec) → NamedSays (kind ∷ n ∷ []) (a .st) (a .cs) o v
-      → Shows v (threeList (inForcePart old b (kind ∷ n ∷ []) (a .st) o .answer)) (bytesIn old b (inForcePart old b (kind ∷ n ∷ []) (a .st) o))
+  force-shows : (o : Option (ℕ × Op)) (v : Option Rec) → NamedSays scottish (kind ∷ n ∷ []) (a .st) (a .cs) o v
+      → Shows v (threeList (inForcePart scottish old b (kind ∷ n ∷ []) (a .st) o .answer)) (bytesIn old b (inForcePart scottish old b (kind ∷ n ∷ []) (a .st) o))
   unfolding inForcePart partOf named refusal
-  force-shows none v w = held-shows old b kind n (a .st) k (a .held) (heldAt (kind ∷ n ∷ []) 0 (a .st)) refl v (sym w)
+  force-shows none v w = held-shows old b kind n (a .st) k (a .held) (heldAt scottish (kind ∷ n ∷ []) 0 (a .st)) refl v (sym w)
   force-shows (some l) v w = go (w .1 .op) (l .1) (w .5) v (w .7)
     where
       line : LineOf (linesOf b) (l .0) (w .1)
       line =
           let s = a .lines in
-          let x = line-of 1 (s .texts) (a .fr .metadataText ∷ a .fr .trailerText ∷ []) (w .0) (w .1) (w .2) (subst (SaysChanges 1 (s .texts)) (w .3) (s .body)) in
+          let x = line-of 1 (s .texts) (a .fr .metadataText ∷ a .fr .trailerText ∷ []) (w .0) (w .1) (w .2) (subst (SaysChanges scottish 1 (s .texts)) (w .3) (s .body)) in
           let y : LineOf (endsAll (a .fr .headerText ∷ (s .texts ++ (a .fr .metadataText ∷ a .fr .trailerText ∷ [])))) (suc (length (w .0))) (w .1) = record { text = x .text; inside = omega (arith, x .inside); there = x .there; carried = x .carried } in
           rw (s .lines, w .4) y
 
@@ -113,21 +115,21 @@ module _ (old b : List ℕ) (room kind n : ℕ) (a : Allowed old b room) (k : As
       go del q e v g = rw (e, g) (refl, refl)
 
 -- where a file would be taken, what in_force answers and hands back is what apply would leave at that key
-pub taken-shows : (s t r : RefT (List ℕ)) (kind n room : ℕ) (answer : List ℕ) → some? (numberedAmong enquiries kind) ≡ true → (a : Allowed (s .now) (t .now) room)
-    → HandedOf (inForce (s .now) (t .now) kind n) s t r answer → Shows (get keyed (kind ∷ n ∷ []) (afterAll a)) answer (r .now)
+pub taken-shows : (s t r : RefT (List ℕ)) (kind n room : ℕ) (answer : List ℕ) → some? (numberedAmong enquiries kind) ≡ true → (a : Allowed scottish (s .now) (t .now) room)
+    → HandedOf (inForce scottish (s .now) (t .now) kind n) s t r answer → Shows (get (keyed scottish) (kind ∷ n ∷ []) (afterAll scottish a)) answer (r .now)
 taken-shows s t r kind n room answer e a h = rw (h .numbers, h .part .bytes ∙ side (f .slice)) shown
   where
     f : Found
-    f = inForce (s .now) (t .now) kind n
+    f = inForce scottish (s .now) (t .now) kind n
 
     side : (z : Slice) → take (f .size) (drop (f .start) (lentAs z s t .now)) ≡ take (f .size) (drop (f .start) (lentAs z (s .now) (t .now)))
     side first = refl
     side second = refl
 
     v : Option Rec
-    v = get keyed (kind ∷ n ∷ []) (afterAll a)
+    v = get (keyed scottish) (kind ∷ n ∷ []) (afterAll scottish a)
 
     shown : Shows v (threeList (f .answer)) (bytesIn (s .now) (t .now) f)
     shown =
         subst (λ (g : Found). Shows v (threeList (g .answer)) (bytesIn (s .now) (t .now) g)) (sym (force-is (s .now) (t .now) room kind n a (asked-is kind e)))
-        (force-shows (s .now) (t .now) room kind n a (asked-is kind e) (lastNaming (kind ∷ n ∷ []) 1 (a .cs) none) v (in-force (s .now) (t .now) room a (kind ∷ n ∷ [])))
+        (force-shows (s .now) (t .now) room kind n a (asked-is kind e) (lastNaming scottish (kind ∷ n ∷ []) 1 (a .cs) none) v (in-force scottish scottish-regular (s .now) (t .now) room a (kind ∷ n ∷ [])))

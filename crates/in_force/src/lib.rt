@@ -1,6 +1,7 @@
 // The record in force if a file were taken: a part of the file or of the holding. Steps are not judged.
 ghost use mathlib.Core.Path.{_≡_};
 ghost use mathlib.Core.List.{[], _∷_};
+ghost use Rattle.meaning.specs.Table.{scottish};
 ghost use Rattle.meaning.specs.File.{readFile};
 ghost use Rattle.meaning.specs.Holding.{readHolding};
 ghost use Rattle.meaning.specs.Load.{checkFile};
@@ -35,8 +36,8 @@ fn last_line(
     kind: u64,
     number: u64,
 ) -> Finding
-    requires { ⌜ Enquired (now holding) (now starts) (now tags) held kind × (checkFile (now file) .code ≡ 0) ⌝ }
-    ensures { λ r. ⌜ r ≡ findingOf (inForceFile (now (holding .entry)) (now (file .entry)) (kind ∷ number ∷ []) (recordsOf (readHolding (now (holding .entry)))) (readFile (now (file .entry)))) ⌝ }
+    requires { ⌜ Enquired (now holding) (now starts) (now tags) held kind × (checkFile scottish (now file) .code ≡ 0) ⌝ }
+    ensures { λ r. ⌜ r ≡ findingOf (inForceFile scottish (now (holding .entry)) (now (file .entry)) (kind ∷ number ∷ []) (recordsOf (readHolding scottish (now (holding .entry)))) (readFile scottish (now (file .entry)))) ⌝ }
 {
     match last_naming(file, asked_key(kind, number)) {
         Naming::Unnamed => held_line(holding, starts, tags, held, kind, number),
@@ -47,7 +48,7 @@ fn last_line(
 
 // Where the record in force stands: 15, then 14, then the file check, then 11.
 pub fn line_in_force(holding: &[u8], file: &[u8], kind: u64, number: u64) -> Finding
-    ensures { λ r. ⌜ r ≡ findingOf (inForce (now (holding .entry)) (now (file .entry)) kind number) ⌝ }
+    ensures { λ r. ⌜ r ≡ findingOf (inForce scottish (now (holding .entry)) (now (file .entry)) kind number) ⌝ }
 {
     if !is_enquired(kind) {
         return refusal(15, 0, 0);
@@ -74,7 +75,7 @@ pub fn in_force<'a>(
     number: u64,
     answer: &mut [u64; 3],
 ) -> &'a [u8]
-    ensures { λ r. ⌜ HandedOf (inForce (now (holding .entry)) (now (file .entry)) kind number) (holding .entry) (file .entry) r (now (answer .exit)) ⌝ }
+    ensures { λ r. ⌜ HandedOf (inForce scottish (now (holding .entry)) (now (file .entry)) kind number) (holding .entry) (file .entry) r (now (answer .exit)) ⌝ }
 {
     let found = line_in_force(holding, file, kind, number);
     if found.infile {

@@ -13,6 +13,7 @@ use Rattle.theory.specs.Tri.{Tri, lt, eq, gt, isGt}
 use Rattle.theory.specs.Lex.{lex}
 use Rattle.theory.specs.Store.{get, gets}
 use Rattle.theory.specs.Place.{rank}
+use Rattle.meaning.specs.Table.{scottish}
 use Rattle.meaning.specs.Records.{Rec, keyed, keyOf}
 use Rattle.laws.specs.Body.{fine}
 use Rattle.keys.specs.declared.Key.{Key}
@@ -26,11 +27,11 @@ use Rattle.places.proofs.MetLaws.{asc-told}
 use Rattle.judge.specs.Ready.{Finds}
 
 -- a look-up by numbers finds what the look-up by keys finds
-pub get-both : (st : List Rec) (x : Rec) → T (all fine st) → T (fine x) → get numbered (keyNumbers x) st ≡ get keyed (keyOf x) st
-get-both st x p g = get-alike st p (keyNumbers x) (keyOf x) (own-agrees x g)
+pub get-both : (st : List Rec) (x : Rec) → T (all (fine scottish) st) → T (fine scottish x) → get numbered (keyNumbers x) st ≡ get (keyed scottish) (keyOf scottish x) st
+get-both st x p g = get-alike st p (keyNumbers x) (keyOf scottish x) (own-agrees x g)
 
 -- the place by halves and what stands there are what is asked for
-pub finds : (h f a : List ℕ) (n v : ℕ) (k : Key) (i : ℕ) (b : Bool) → T (all fine (says h f a n)) → T (fine (recordOf h f v)) → keyList k ≡ keyNumbers (recordOf h f v)
+pub finds : (h f a : List ℕ) (n v : ℕ) (k : Key) (i : ℕ) (b : Bool) → T (all (fine scottish) (says h f a n)) → T (fine scottish (recordOf h f v)) → keyList k ≡ keyNumbers (recordOf h f v)
     → i ≡ rank numbered (keyList k) (says h f a n) → i ≤ n → b ≡ some? (get numbered (keyList k) (says h f a n)) → Finds h f a n v (record { place = i; stands = b })
 finds h f a n v k i b p g e r l q =
     record { placed = r ∙ ap (λ z. rank numbered z (says h f a n)) e; within = l; there = q ∙ ap (λ z. some? (get numbered z (says h f a n))) e ∙ ap some? (get-both (says h f a n) (recordOf h f v) p g) }

@@ -21,7 +21,8 @@ use Rattle.theory.specs.Written.{render, bare, size}
 use Rattle.theory.specs.WrittenLaws.{size-ins, size-upd, size-del}
 use Rattle.theory.specs.Step.{Op, ins, upd, del, Change, judge, after}
 use Rattle.theory.specs.Fast.{fast, fewAfter, metAfter, sizeAfter}
-use Rattle.meaning.specs.Table.{Kind, kinds, ident}
+use Rattle.meaning.specs.Kinds.{Kind, kinds, ident}
+use Rattle.meaning.specs.Table.{scottish}
 use Rattle.meaning.specs.Records.{Rec, keyed, keyOf, refsOf, letter}
 use Rattle.meaning.specs.Holding.{written}
 use Rattle.meaning.specs.Load.{stepTests}
@@ -60,9 +61,9 @@ none-of none e = refl
 none-of (some x) e = absurd (subst T e tt)
 
 -- no sound record refers to a sound one by its numbers where none does by its key
-clear-all : (x : Rec) (st : List Rec) → T (fine x) → T (all fine st) → all (clear numbered refNumbers (keyNumbers x)) st ≡ all (clear keyed refsOf (keyOf x)) st
+clear-all : (x : Rec) (st : List Rec) → T (fine scottish x) → T (all (fine scottish) st) → all (clear numbered refNumbers (keyNumbers x)) st ≡ all (clear (keyed scottish) (refsOf scottish) (keyOf scottish x)) st
 clear-all x [] g h = refl
-clear-all x (r ∷ rs) g h = rw (clear-agree r x (and-l (fine r) (all fine rs) h) g, clear-all x rs g (and-r (fine r) (all fine rs) h))
+clear-all x (r ∷ rs) g h = rw (clear-agree r x (and-l (fine scottish r) (all (fine scottish) rs) h) g, clear-all x rs g (and-r (fine scottish r) (all (fine scottish) rs) h))
 
 -- ---- what a state that is ready for a step gives
 
@@ -98,14 +99,14 @@ module _ (h f a : List ℕ) (room : ℕ) (s : State) (y : Ready h f a room s) wh
   sizes : size printed (says h f a (s .count)) ≡ s .size
   sizes = sym (written-length (says h f a (s .count))) ∙ sym (y .sized)
 
-  module _ (v : ℕ) (g : T (fine (recordOf h f v))) (p : Found) (q : Finds h f a (s .count) v p) where
-    at-none : p .stands ≡ false → get keyed (keyOf (recordOf h f v)) (says h f a (s .count)) ≡ none
-    at-none t = none-of (get keyed (keyOf (recordOf h f v)) (says h f a (s .count))) (sym (q .there) ∙ t)
+  module _ (v : ℕ) (g : T (fine scottish (recordOf h f v))) (p : Found) (q : Finds h f a (s .count) v p) where
+    at-none : p .stands ≡ false → get (keyed scottish) (keyOf scottish (recordOf h f v)) (says h f a (s .count)) ≡ none
+    at-none t = none-of (get (keyed scottish) (keyOf scottish (recordOf h f v)) (says h f a (s .count))) (sym (q .there) ∙ t)
 
     stood : p .stands ≡ true → T (some? (get numbered (keyNumbers (recordOf h f v)) (says h f a (s .count))))
     stood t = rw (get-both (says h f a (s .count)) (recordOf h f v) (y .fines) g, sym (q .there) ∙ t) tt
 
-    at-some : p .stands ≡ true → get keyed (keyOf (recordOf h f v)) (says h f a (s .count)) ≡ some (recordOf h f (getD a (p .place) 0))
+    at-some : p .stands ≡ true → get (keyed scottish) (keyOf scottish (recordOf h f v)) (says h f a (s .count)) ≡ some (recordOf h f (getD a (p .place) 0))
     at-some t =
         sym (get-both (says h f a (s .count)) (recordOf h f v) (y .fines) g)
         ∙ found-at h f a (keyNumbers (recordOf h f v)) (s .count) (p .place) ready-in (q .placed) (stood t)
@@ -114,23 +115,23 @@ module _ (h f a : List ℕ) (room : ℕ) (s : State) (y : Ready h f a room s) wh
     pub place-in : p .stands ≡ true → p .place < length a
     place-in t = omega (arith, ready-in, stands-in h f a (s .count) (p .place) (keyNumbers (recordOf h f v)) ready-in (q .placed) (some? (get numbered (keyNumbers (recordOf h f v)) (says h f a (s .count)))) refl (T-true _ (stood t)))
 
-    refused : (o : Op) (w z : ℕ) → w ≡ codeNumber (judge keyed (stepTests room) (says h f a (s .count)) (change o (recordOf h f v))) → (w ≡ 0 → ⊥)
+    refused : (o : Op) (w z : ℕ) → w ≡ codeNumber (judge (keyed scottish) (stepTests scottish room) (says h f a (s .count)) (change o (recordOf h f v))) → (w ≡ 0 → ⊥)
         → Judges h f a room (change o (recordOf h f v)) s (record { code = w; place = p .place; size = z })
     refused o w z e n = record { coded = e; placed = q .placed; within = q .within; sized = λ u. absurd (n u) }
 
-    taken : (o : Op) (z : ℕ) → judge keyed (stepTests room) (says h f a (s .count)) (change o (recordOf h f v)) ≡ none → z ≡ length (written (after keyed (says h f a (s .count)) (change o (recordOf h f v))))
+    taken : (o : Op) (z : ℕ) → judge (keyed scottish) (stepTests scottish room) (says h f a (s .count)) (change o (recordOf h f v)) ≡ none → z ≡ length (written (after (keyed scottish) (says h f a (s .count)) (change o (recordOf h f v))))
         → Judges h f a room (change o (recordOf h f v)) s (record { code = 0; place = p .place; size = z })
     taken o z e n = record { coded = rw e; placed = q .placed; within = q .within; sized = λ u. n }
 
     -- ---- insert
 
-    told-ins : judge keyed (stepTests room) (says h f a (s .count)) (change ins (recordOf h f v))
-        ≡ ask (not (some? (get keyed (keyOf (recordOf h f v)) (says h f a (s .count))))) 10
+    told-ins : judge (keyed scottish) (stepTests scottish room) (says h f a (s .count)) (change ins (recordOf h f v))
+        ≡ ask (not (some? (get (keyed scottish) (keyOf scottish (recordOf h f v)) (says h f a (s .count))))) 10
         (ask (leb (suc (length (says h f a (s .count)))) most) 16
-        (ask (meets keyed refsOf (says h f a (s .count)) (recordOf h f v)) 12
+        (ask (meets (keyed scottish) (refsOf scottish) (says h f a (s .count)) (recordOf h f v)) 12
         (ask (leb (length (render printed (says h f a (s .count))) + bare printed (recordOf h f v) + width (suc (length (says h f a (s .count))))) room) 13 none)))
     unfolding fast fewAfter metAfter sizeAfter
-    told-ins = fast-step room (says h f a (s .count)) (change ins (recordOf h f v)) (y .asc) (y .pass)
+    told-ins = fast-step scottish room (says h f a (s .count)) (change ins (recordOf h f v)) (y .asc) (y .pass)
 
     -- a key that stands is not inserted
     pub ins-held : p .stands ≡ true → Judges h f a room (change ins (recordOf h f v)) s (record { code = 10; place = p .place; size = s .size })
@@ -143,7 +144,7 @@ module _ (h f a : List ℕ) (room : ℕ) (s : State) (y : Ready h f a room s) wh
       unfolding ask
       ins-many m = refused ins 16 (s .size) (rw (told-ins, ← q .there, t, lt-leb (suc (length (says h f a (s .count)))) most (omega (arith, y .counted)))) (λ e. omega arith)
 
-      module _ (m : s .count < limit) (b : Bool) (r : b ≡ meets keyed refsOf (says h f a (s .count)) (recordOf h f v)) where
+      module _ (m : s .count < limit) (b : Bool) (r : b ≡ meets (keyed scottish) (refsOf scottish) (says h f a (s .count)) (recordOf h f v)) where
         few-ok : leb (suc (length (says h f a (s .count)))) most ≡ true
         few-ok = le-leb (suc (length (says h f a (s .count)))) most (omega (arith, y .counted))
 
@@ -166,9 +167,9 @@ module _ (h f a : List ℕ) (room : ℕ) (s : State) (y : Ready h f a room s) wh
           unfolding ask
           ins-long x = refused ins 13 (s .size) (rw (told-ins, ← q .there, t, few-ok, ← r, u, grown, lt-leb (s .size + (l + 10 + w)) room (omega (arith, y .fits)))) (λ e. omega arith)
 
-          ins-sized : s .size + (l + 10 + w) ≡ length (written (after keyed (says h f a (s .count)) (change ins (recordOf h f v))))
+          ins-sized : s .size + (l + 10 + w) ≡ length (written (after (keyed scottish) (says h f a (s .count)) (change ins (recordOf h f v))))
           unfolding after
-          ins-sized = omega (arith, written-length (put keyed (keyOf (recordOf h f v)) (some (recordOf h f v)) (says h f a (s .count))), size-ins keyed printed (keyOf (recordOf h f v)) (recordOf h f v) (says h f a (s .count)) (at-none t), sizes, bare-is (recordOf h f v), wider)
+          ins-sized = omega (arith, written-length (put (keyed scottish) (keyOf scottish (recordOf h f v)) (some (recordOf h f v)) (says h f a (s .count))), size-ins (keyed scottish) printed (keyOf scottish (recordOf h f v)) (recordOf h f v) (says h f a (s .count)) (at-none t), sizes, bare-is (recordOf h f v), wider)
 
           -- else it is taken
           pub ins-taken : l + 10 + w ≤ room - s .size → Judges h f a room (change ins (recordOf h f v)) s (record { code = 0; place = p .place; size = s .size + (l + 10 + w) })
@@ -180,25 +181,25 @@ module _ (h f a : List ℕ) (room : ℕ) (s : State) (y : Ready h f a room s) wh
     -- a key that stands nowhere is not updated
     pub upd-absent : p .stands ≡ false → Judges h f a room (change upd (recordOf h f v)) s (record { code = 11; place = p .place; size = s .size })
     unfolding ask fast
-    upd-absent t = refused upd 11 (s .size) (rw (fast-step room (says h f a (s .count)) (change upd (recordOf h f v)) (y .asc) (y .pass), at-none t)) (λ e. omega arith)
+    upd-absent t = refused upd 11 (s .size) (rw (fast-step scottish room (says h f a (s .count)) (change upd (recordOf h f v)) (y .asc) (y .pass), at-none t)) (λ e. omega arith)
 
     module _ (t : p .stands ≡ true) where
-      told-upd : judge keyed (stepTests room) (says h f a (s .count)) (change upd (recordOf h f v))
-          ≡ ask (meets keyed refsOf (says h f a (s .count)) (recordOf h f v)) 12
+      told-upd : judge (keyed scottish) (stepTests scottish room) (says h f a (s .count)) (change upd (recordOf h f v))
+          ≡ ask (meets (keyed scottish) (refsOf scottish) (says h f a (s .count)) (recordOf h f v)) 12
           (ask (leb (length (render printed (says h f a (s .count))) + bare printed (recordOf h f v) - bare printed (recordOf h f (getD a (p .place) 0))) room) 13 none)
       unfolding fast fewAfter metAfter sizeAfter ask
-      told-upd = fast-step room (says h f a (s .count)) (change upd (recordOf h f v)) (y .asc) (y .pass) ∙ rw (at-some t)
+      told-upd = fast-step scottish room (says h f a (s .count)) (change upd (recordOf h f v)) (y .asc) (y .pass) ∙ rw (at-some t)
 
-      module _ (b : Bool) (r : b ≡ meets keyed refsOf (says h f a (s .count)) (recordOf h f v)) where
+      module _ (b : Bool) (r : b ≡ meets (keyed scottish) (refsOf scottish) (says h f a (s .count)) (recordOf h f v)) where
         -- its references must be met
         pub upd-unmet : b ≡ false → Judges h f a room (change upd (recordOf h f v)) s (record { code = 12; place = p .place; size = s .size })
         unfolding ask
         upd-unmet u = refused upd 12 (s .size) (rw (told-upd, ← r, u)) (λ e. omega arith)
 
         module _ (l n : ℕ) (d : l ≡ length (recordOf h f (getD a (p .place) 0) .content)) (e : n ≡ length (recordOf h f v .content)) where
-          upd-sized : length (written (after keyed (says h f a (s .count)) (change upd (recordOf h f v)))) + l ≡ s .size + n
+          upd-sized : length (written (after (keyed scottish) (says h f a (s .count)) (change upd (recordOf h f v)))) + l ≡ s .size + n
           unfolding after
-          upd-sized = omega (arith, written-length (put keyed (keyOf (recordOf h f v)) (some (recordOf h f v)) (says h f a (s .count))), size-upd keyed printed (keyOf (recordOf h f v)) (recordOf h f (getD a (p .place) 0)) (recordOf h f v) (says h f a (s .count)) (at-some t), sizes, bare-is (recordOf h f v), bare-is (recordOf h f (getD a (p .place) 0)))
+          upd-sized = omega (arith, written-length (put (keyed scottish) (keyOf scottish (recordOf h f v)) (some (recordOf h f v)) (says h f a (s .count))), size-upd (keyed scottish) printed (keyOf scottish (recordOf h f v)) (recordOf h f (getD a (p .place) 0)) (recordOf h f v) (says h f a (s .count)) (at-some t), sizes, bare-is (recordOf h f v), bare-is (recordOf h f (getD a (p .place) 0)))
 
           upd-changed : length (render printed (says h f a (s .count))) + bare printed (recordOf h f v) - bare printed (recordOf h f (getD a (p .place) 0)) ≡ s .size + n - l
           upd-changed = omega (arith, rendered, bare-is (recordOf h f v), bare-is (recordOf h f (getD a (p .place) 0)))
@@ -228,14 +229,14 @@ module _ (h f a : List ℕ) (room : ℕ) (s : State) (y : Ready h f a room s) wh
     -- a key that stands nowhere is not deleted
     pub del-absent : p .stands ≡ false → Judges h f a room (change del (recordOf h f v)) s (record { code = 11; place = p .place; size = s .size })
     unfolding ask fast
-    del-absent t = refused del 11 (s .size) (rw (fast-step room (says h f a (s .count)) (change del (recordOf h f v)) (y .asc) (y .pass), at-none t)) (λ e. omega arith)
+    del-absent t = refused del 11 (s .size) (rw (fast-step scottish room (says h f a (s .count)) (change del (recordOf h f v)) (y .asc) (y .pass), at-none t)) (λ e. omega arith)
 
     module _ (t : p .stands ≡ true) where
-      told-del : judge keyed (stepTests room) (says h f a (s .count)) (change del (recordOf h f v))
-          ≡ ask (all (clear keyed refsOf (keyOf (recordOf h f v))) (says h f a (s .count))) 12
+      told-del : judge (keyed scottish) (stepTests scottish room) (says h f a (s .count)) (change del (recordOf h f v))
+          ≡ ask (all (clear (keyed scottish) (refsOf scottish) (keyOf scottish (recordOf h f v))) (says h f a (s .count))) 12
           (ask (leb (length (render printed (says h f a (s .count))) - bare printed (recordOf h f (getD a (p .place) 0)) - width (length (says h f a (s .count)))) room) 13 none)
       unfolding fast fewAfter metAfter sizeAfter ask
-      told-del = fast-step room (says h f a (s .count)) (change del (recordOf h f v)) (y .asc) (y .pass) ∙ rw (at-some t)
+      told-del = fast-step scottish room (says h f a (s .count)) (change del (recordOf h f v)) (y .asc) (y .pass) ∙ rw (at-some t)
 
       module _ (c : List ℕ) (k : Counted h f a c (s .count)) where
         -- its count is beside it
@@ -248,7 +249,7 @@ module _ (h f a : List ℕ) (room : ℕ) (s : State) (y : Ready h f a room s) wh
             ap (λ i. getD c i 0) (q .placed)
             ∙ count-at (says h f a (s .count)) (asc-told (says h f a (s .count)) (y .asc) (y .fines)) (s .count) (y .counted) true (tally (says h f a (s .count))) c (k .told) (keyNumbers (recordOf h f v)) (stood t)
 
-        seen : all (clear keyed refsOf (keyOf (recordOf h f v))) (says h f a (s .count)) ≡ eqb (getD c (p .place) 0) 0
+        seen : all (clear (keyed scottish) (refsOf scottish) (keyOf scottish (recordOf h f v))) (says h f a (s .count)) ≡ eqb (getD c (p .place) 0) 0
         seen = sym (clear-all (recordOf h f v) (says h f a (s .count)) g (y .fines)) ∙ clear-tally (keyNumbers (recordOf h f v)) (says h f a (s .count)) ∙ ap (λ n. eqb n 0) (sym counts)
 
         -- no record may refer to the one that goes
@@ -260,9 +261,9 @@ module _ (h f a : List ℕ) (room : ℕ) (s : State) (y : Ready h f a room s) wh
         narrower : width (length (says h f a (s .count))) ≡ w
         narrower = ap width (sym (y .counted)) ∙ sym e
 
-        del-sized : length (written (after keyed (says h f a (s .count)) (change del (recordOf h f v)))) + (l + 10 + w) ≡ s .size
+        del-sized : length (written (after (keyed scottish) (says h f a (s .count)) (change del (recordOf h f v)))) + (l + 10 + w) ≡ s .size
         unfolding after
-        del-sized = omega (arith, written-length (put keyed (keyOf (recordOf h f v)) none (says h f a (s .count))), size-del keyed printed (keyOf (recordOf h f v)) (recordOf h f (getD a (p .place) 0)) (says h f a (s .count)) (at-some t), sizes, bare-is (recordOf h f (getD a (p .place) 0)), narrower)
+        del-sized = omega (arith, written-length (put (keyed scottish) (keyOf scottish (recordOf h f v)) none (says h f a (s .count))), size-del (keyed scottish) printed (keyOf scottish (recordOf h f v)) (recordOf h f (getD a (p .place) 0)) (says h f a (s .count)) (at-some t), sizes, bare-is (recordOf h f (getD a (p .place) 0)), narrower)
 
         -- its line was written
         pub del-room : l + 10 + w ≤ s .size

@@ -9,6 +9,7 @@ use Rattle.base.specs.Lists.{all, some?}
 use Rattle.theory.specs.Store.{get, Asc}
 use Rattle.theory.specs.Place.{rank}
 use Rattle.theory.specs.Step.{Change, passes, judge, after}
+use Rattle.meaning.specs.Table.{scottish}
 use Rattle.meaning.specs.Records.{Rec, keyed, keyOf}
 use Rattle.meaning.specs.Holding.{written}
 use Rattle.meaning.specs.Load.{stepTests}
@@ -28,9 +29,9 @@ codeNumber (some w) = w
 
 -- the records in force are those of a sound holding, count and size are its records and bytes, it fits the room, and the array has room for every holding
 pub record Ready (h f a : List ℕ) (room : ℕ) (s : State) : Type 0 where
-  pub asc : Asc keyed (says h f a (s .count))
-  pub fines : T (all fine (says h f a (s .count)))
-  pub pass : T (passes always (says h f a (s .count)))
+  pub asc : Asc (keyed scottish) (says h f a (s .count))
+  pub fines : T (all (fine scottish) (says h f a (s .count)))
+  pub pass : T (passes (always scottish) (says h f a (s .count)))
   pub counted : s .count ≡ length (says h f a (s .count))
   pub sized : s .size ≡ length (written (says h f a (s .count)))
   pub fits : s .size ≤ room
@@ -43,11 +44,11 @@ pub record Ready (h f a : List ℕ) (room : ℕ) (s : State) : Type 0 where
 pub record Finds (h f a : List ℕ) (n v : ℕ) (r : Found) : Type 0 where
   pub placed : r .place ≡ rank numbered (keyNumbers (recordOf h f v)) (says h f a n)
   pub within : r .place ≤ n
-  pub there : r .stands ≡ some? (get keyed (keyOf (recordOf h f v)) (says h f a n))
+  pub there : r .stands ≡ some? (get (keyed scottish) (keyOf scottish (recordOf h f v)) (says h f a n))
 
 -- the code of a change over the state, the place of its key, and the bytes after it where it is not refused
 pub record Judges (h f a : List ℕ) (room : ℕ) (c : Change Rec) (s : State) (r : Judged) : Type 0 where
-  pub coded : r .code ≡ codeNumber (judge keyed (stepTests room) (says h f a (s .count)) c)
+  pub coded : r .code ≡ codeNumber (judge (keyed scottish) (stepTests scottish room) (says h f a (s .count)) c)
   pub placed : r .place ≡ rank numbered (keyNumbers (c .rec)) (says h f a (s .count))
   pub within : r .place ≤ s .count
-  pub sized : r .code ≡ 0 → r .size ≡ length (written (after keyed (says h f a (s .count)) c))
+  pub sized : r .code ≡ 0 → r .size ≡ length (written (after (keyed scottish) (says h f a (s .count)) c))

@@ -7,6 +7,7 @@ ghost use Rattle.base.specs.Lists.{all};
 ghost use Rattle.theory.specs.Store.{Asc};
 ghost use Rattle.theory.specs.Step.{ins, upd, del};
 ghost use Rattle.theory.specs.Decimal.{width};
+ghost use Rattle.meaning.specs.Table.{scottish};
 ghost use Rattle.meaning.specs.Records.{keyed};
 ghost use Rattle.laws.specs.Body.{fine};
 ghost use Rattle.entries.specs.Entries.{recordOf};
@@ -61,7 +62,7 @@ pub fn find(
     count: usize,
     entry: u64,
 ) -> Found
-    requires { ⌜ (count ≤ length (now places)) × Asc keyed (says (now holding) (now file) (now places) count) × T (all fine (says (now holding) (now file) (now places) count)) × T (fine (recordOf (now holding) (now file) entry)) × Tagged (now holding) (now file) (now places) (now tags) count ⌝ }
+    requires { ⌜ (count ≤ length (now places)) × Asc (keyed scottish) (says (now holding) (now file) (now places) count) × T (all (fine scottish) (says (now holding) (now file) (now places) count)) × T (fine scottish (recordOf (now holding) (now file) entry)) × Tagged (now holding) (now file) (now places) (now tags) count ⌝ }
     ensures { λ r. ⌜ Finds (now (holding .entry)) (now (file .entry)) (now (places .entry)) count entry r ⌝ }
 {
     let key = entry_key(holding, file, entry);
@@ -83,7 +84,7 @@ pub fn judge_insert(
     state: State,
     room: usize,
 ) -> Judged
-    requires { ⌜ Ready (now holding) (now file) (now places) room state × T (fine (recordOf (now holding) (now file) entry)) × Tagged (now holding) (now file) (now places) (now tags) (state .count) ⌝ }
+    requires { ⌜ Ready (now holding) (now file) (now places) room state × T (fine scottish (recordOf (now holding) (now file) entry)) × Tagged (now holding) (now file) (now places) (now tags) (state .count) ⌝ }
     ensures { λ r. ⌜ Judges (now (holding .entry)) (now (file .entry)) (now (places .entry)) room (change ins (recordOf (now (holding .entry)) (now (file .entry)) entry)) state r ⌝ }
 {
     let count = state.count;
@@ -118,7 +119,7 @@ pub fn judge_update(
     state: State,
     room: usize,
 ) -> Judged
-    requires { ⌜ Ready (now holding) (now file) (now places) room state × T (fine (recordOf (now holding) (now file) entry)) × Tagged (now holding) (now file) (now places) (now tags) (state .count) ⌝ }
+    requires { ⌜ Ready (now holding) (now file) (now places) room state × T (fine scottish (recordOf (now holding) (now file) entry)) × Tagged (now holding) (now file) (now places) (now tags) (state .count) ⌝ }
     ensures { λ r. ⌜ Judges (now (holding .entry)) (now (file .entry)) (now (places .entry)) room (change upd (recordOf (now (holding .entry)) (now (file .entry)) entry)) state r ⌝ }
 {
     let count = state.count;
@@ -154,7 +155,7 @@ pub fn judge_delete(
     state: State,
     room: usize,
 ) -> Judged
-    requires { ⌜ Ready (now holding) (now file) (now places) room state × Counted (now holding) (now file) (now places) (now counts) (state .count) × T (fine (recordOf (now holding) (now file) entry)) × Tagged (now holding) (now file) (now places) (now tags) (state .count) ⌝ }
+    requires { ⌜ Ready (now holding) (now file) (now places) room state × Counted (now holding) (now file) (now places) (now counts) (state .count) × T (fine scottish (recordOf (now holding) (now file) entry)) × Tagged (now holding) (now file) (now places) (now tags) (state .count) ⌝ }
     ensures { λ r. ⌜ Judges (now (holding .entry)) (now (file .entry)) (now (places .entry)) room (change del (recordOf (now (holding .entry)) (now (file .entry)) entry)) state r ⌝ }
 {
     let count = state.count;

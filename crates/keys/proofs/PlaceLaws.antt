@@ -20,7 +20,8 @@ use Rattle.text.proofs.NumberLaws.{worth-turn, worth-fits, ten-fits}
 use Rattle.theory.specs.Decimal.{value, valueF}
 use Rattle.meaning.specs.Lines.{fieldsOf}
 use Rattle.meaning.specs.Forms.{Form, number, isTextual, isEmpty}
-use Rattle.meaning.specs.Table.{Kind, fields}
+use Rattle.meaning.specs.Kinds.{Kind}
+use Rattle.meaning.specs.Table.{fields}
 use Rattle.layout.specs.declared.records.Layout.{Layout}
 use Rattle.layout.specs.Rows.{Row, bare, noRow, rowOf, decoded, formDecoded, laidOut}
 use Rattle.layout.proofs.CheckLaws.{count-there}

@@ -19,7 +19,9 @@ use Rattle.theory.specs.LexLaws.{is-cmpN, cmpN-is}
 use Rattle.theory.specs.Decimal.{value}
 use Rattle.meaning.specs.Lines.{fieldsOf}
 use Rattle.meaning.specs.Forms.{isEmpty}
-use Rattle.meaning.specs.Table.{Kind, Field, kinds, ident, fields, keyNames, refersTo, placeFrom, named, formNamed}
+use Rattle.meaning.specs.Kinds.{Kind, kinds, ident}
+use Rattle.meaning.specs.Format.{Field, placeFrom, named, formNamed}
+use Rattle.meaning.specs.Table.{fields, keyNames, refersTo, scottish}
 use Rattle.meaning.specs.Records.{ownFields, emptyNamed}
 use Rattle.laws.specs.Kinds.{every}
 use Rattle.layout.specs.declared.records.Layout.{Layout}
@@ -99,22 +101,22 @@ module _ (k : Kind) (c : List ℕ) (s : String) (o : T (own k s)) where
   high : 4 ≤ placeFrom 1 s (fields k)
   high = leb→le 4 (placeFrom 1 s (fields k)) o
 
-  moved : placeFrom 1 s (fields k) ≡ placeFrom 4 s (ownFields k)
+  moved : placeFrom 1 s (fields k) ≡ placeFrom 4 s (ownFields scottish k)
   unfolding ownFields
   moved = place-drop 3 0 s (fields k) high
 
   -- a name's field is the one at its place
-  name-field : named s (ownFields k) (fieldsOf c) ≡ fieldAt c (placeFrom 1 s (fields k))
+  name-field : named s (ownFields scottish k) (fieldsOf c) ≡ fieldAt c (placeFrom 1 s (fields k))
   unfolding fieldAt
-  name-field = named-at 3 s (ownFields k) (fieldsOf c) (λ z. absurd (omega (arith, high, moved))) ∙ rw moved
+  name-field = named-at 3 s (ownFields scottish k) (fieldsOf c) (λ z. absurd (omega (arith, high, moved))) ∙ rw moved
 
   -- and its form
-  name-form : formNamed s (ownFields k) ≡ rowOf k (placeFrom 1 s (fields k) - 1) .0
+  name-form : formNamed s (ownFields scottish k) ≡ rowOf k (placeFrom 1 s (fields k) - 1) .0
   unfolding rowOf ownFields
   name-form =
-      let z : 3 + (placeFrom 4 s (ownFields k) - 4) ≡ placeFrom 1 s (fields k) - 1 = omega (arith, high, moved) in
-      form-at 3 s (ownFields k) (λ z. absurd (omega (arith, high, moved)))
-      ∙ ap (λ r. r .0) (row-drop 3 (fields k) (placeFrom 4 s (ownFields k) - 4))
+      let z : 3 + (placeFrom 4 s (ownFields scottish k) - 4) ≡ placeFrom 1 s (fields k) - 1 = omega (arith, high, moved) in
+      form-at 3 s (ownFields scottish k) (λ z. absurd (omega (arith, high, moved)))
+      ∙ ap (λ r. r .0) (row-drop 3 (fields k) (placeFrom 4 s (ownFields scottish k) - 4))
       ∙ ap (λ i. getD (map bare (fields k)) i noRow .0) z
 
   -- so is its number
@@ -123,7 +125,7 @@ module _ (k : Kind) (c : List ℕ) (s : String) (o : T (own k s)) where
   name-number = rw (le-ltb (placeFrom 1 s (fields k)) 4 high, name-field, name-form)
 
   -- and whether it is empty
-  name-empty : emptyAt k c (placeFrom 1 s (fields k)) ≡ emptyNamed (record { kind = k; content = c }) (s ∷ [])
+  name-empty : emptyAt k c (placeFrom 1 s (fields k)) ≡ emptyNamed scottish (record { kind = k; content = c }) (s ∷ [])
   unfolding emptyAt emptyNamed
   name-empty = rw (le-ltb (placeFrom 1 s (fields k)) 4 high, name-field, name-form) (sym (or-false (isEmpty (rowOf k (placeFrom 1 s (fields k) - 1) .0) (fieldAt c (placeFrom 1 s (fields k))))))
     where

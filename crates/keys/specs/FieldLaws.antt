@@ -19,10 +19,12 @@ use Rattle.theory.specs.LexLaws.{is-cmpN}
 use Rattle.theory.specs.Decimal.{value}
 use Rattle.meaning.specs.Lines.{fieldsOf, oddQuotes, hasFields, plain}
 use Rattle.meaning.specs.Forms.{Form, number, atLeast1, decimal, date, time, text, changeType, xrefType, fileType, keyText, isDigit, isNumber, digits, inside, isText, oneOf, isKey, hasForm, isTextual, isEmpty, soundAs, valueOf}
-use Rattle.meaning.specs.Table.{Kind, Field, role, named, formNamed}
+use Rattle.meaning.specs.Kinds.{Kind}
+use Rattle.meaning.specs.Format.{Field, named, formNamed}
+use Rattle.meaning.specs.Table.{scottish}
 use Rattle.meaning.specs.Sound.{Fault, soundField, forms, fieldFault}
 use Rattle.meaning.specs.Records.{Rec, ownFields, valueNamed, valuesNamed}
-use Rattle.meaning.specs.Holding.{isHeld}
+use Rattle.laws.specs.Regular.{holds}
 use Rattle.laws.specs.Body.{contentFault, fine, sound-none}
 use Rattle.layout.specs.Rows.{padded}
 use Rattle.keys.specs.Numbers.{digitsIn, numberOf, numberNamed, numbersNamed}
@@ -36,38 +38,38 @@ filledNamed s [] = false
 filledNamed s (d ∷ ds) = pick (eqt s (d .name)) (d .filled) (filledNamed s ds)
 
 -- a field is sound where all are
-named-sound : (n : ℕ) (s : String) (ds : List Field) (fs : List (List ℕ)) (x : Option Fault) → forms n ds fs x ≡ none → length fs ≡ length ds
-    → T (soundAs (formNamed s ds) (filledNamed s ds) (named s ds fs))
+named-sound : (n : ℕ) (s : String) (ds : List Field) (fs : List (List ℕ)) (x : Option Fault) → forms scottish n ds fs x ≡ none → length fs ≡ length ds
+    → T (soundAs (scottish .textRule) (formNamed s ds) (filledNamed s ds) (named s ds fs))
 unfolding forms formNamed filledNamed named soundField
 named-sound n s [] fs x e h = unfold soundAs isEmpty isTextual same in tt
 named-sound n s (d ∷ ds) [] x e h = absurd (omega arith)
 named-sound n s (d ∷ ds) (f ∷ fs) x e h =
-    let a = ok-ask (soundAs (d .form) (d .filled) f) (5, n) (forms (suc n) ds fs x) e in
+    let a = ok-ask (soundAs (scottish .textRule) (d .form) (d .filled) f) (5, n) (forms scottish (suc n) ds fs x) e in
     go (eqt s (d .name)) (a .0) (named-sound (suc n) s ds fs x (a .1) (omega arith))
   where
-    go : (b : Bool) → T (soundAs (d .form) (d .filled) f) → T (soundAs (formNamed s ds) (filledNamed s ds) (named s ds fs))
-        → T (soundAs (pick b (d .form) (formNamed s ds)) (pick b (d .filled) (filledNamed s ds)) (pick b f (named s ds fs)))
+    go : (b : Bool) → T (soundAs (scottish .textRule) (d .form) (d .filled) f) → T (soundAs (scottish .textRule) (formNamed s ds) (filledNamed s ds) (named s ds fs))
+        → T (soundAs (scottish .textRule) (pick b (d .form) (formNamed s ds)) (pick b (d .filled) (filledNamed s ds)) (pick b f (named s ds fs)))
     go true p q = p
     go false p q = q
 
 -- the form, the status and the bytes of a record's field of that name
 abbrev formIn : Rec → String → Form
-formIn r s = formNamed s (ownFields (r .kind))
+formIn r s = formNamed s (ownFields scottish (r .kind))
 
 abbrev filledIn : Rec → String → Bool
-filledIn r s = filledNamed s (ownFields (r .kind))
+filledIn r s = filledNamed s (ownFields scottish (r .kind))
 
 abbrev fieldIn : Rec → String → List ℕ
-fieldIn r s = named s (ownFields (r .kind)) (fieldsOf (r .content))
+fieldIn r s = named s (ownFields scottish (r .kind)) (fieldsOf (r .content))
 
 -- each field of a sound record is sound
-pub fine-field : (r : Rec) (s : String) → T (fine r) → T (soundAs (formNamed s (ownFields (r .kind))) (filledNamed s (ownFields (r .kind))) (named s (ownFields (r .kind)) (fieldsOf (r .content))))
+pub fine-field : (r : Rec) (s : String) → T (fine scottish r) → T (soundAs (scottish .textRule) (formNamed s (ownFields scottish (r .kind))) (filledNamed s (ownFields scottish (r .kind))) (named s (ownFields scottish (r .kind)) (fieldsOf (r .content))))
 unfolding fine contentFault hasFields fieldFault
 fine-field r s f =
     let c = r .content in
-    let ds = ownFields (r .kind) in
-    let q : contentFault (r .kind) c ≡ none = sound-none (contentFault (r .kind) c) (and-r (all plain c) _ (and-r (isHeld (role (r .kind))) _ f)) in
-    let a = ok-ask (not (oddQuotes c) && eqb (length (fieldsOf c)) (length ds)) (4, 0) (fieldFault 4 ds (fieldsOf c) none) q in
+    let ds = ownFields scottish (r .kind) in
+    let q : contentFault scottish (r .kind) c ≡ none = sound-none (contentFault scottish (r .kind) c) (and-r (all plain c) _ (and-r (holds scottish (r .kind)) _ f)) in
+    let a = ok-ask (not (oddQuotes c) && eqb (length (fieldsOf c)) (length ds)) (4, 0) (fieldFault scottish 4 ds (fieldsOf c) none) q in
     named-sound 4 s ds (fieldsOf c) _ (a .1) (eqb→eq (length (fieldsOf c)) (length ds) (and-r (not (oddQuotes c)) (eqb (length (fieldsOf c)) (length ds)) (a .0)))
 
 -- ---- numbers
@@ -91,7 +93,7 @@ number-short w f n t =
     omega (arith, leb→le w 16 n, leb→le (length f) w (and-l (leb (length f) w) (all isDigit f) (and-r (leb 1 (length f)) (leb (length f) w && all isDigit f) t)))
 
 -- a field that has the form of one has no more bytes
-form-short : (m : Form) (f : List ℕ) → T (narrow m) → T (hasForm m f) → length f ≤ 16
+form-short : (m : Form) (f : List ℕ) → T (narrow m) → T (hasForm (scottish .textRule) m f) → length f ≤ 16
 unfolding narrow hasForm
 form-short (number w) f n t = number-short w f n t
 form-short (atLeast1 w) f n t = number-short w f n (and-l (isNumber w f) (leb 1 (value f)) t)
@@ -124,26 +126,26 @@ narrow-plain fileType n = absurd n
 narrow-plain (keyText letter) n = absurd n
 
 -- nor has one that is sound, if only because it is empty
-sound-short : (m : Form) (b : Bool) (f : List ℕ) → T (narrow m) → T (soundAs m b f) → length f ≤ 16
+sound-short : (m : Form) (b : Bool) (f : List ℕ) → T (narrow m) → T (soundAs (scottish .textRule) m b f) → length f ≤ 16
 unfolding soundAs isEmpty
 sound-short m b f n t = go (same f (pick (isTextual m) (34 ∷ 34 ∷ []) [])) refl t
   where
-    go : (e : Bool) → same f (pick (isTextual m) (34 ∷ 34 ∷ []) []) ≡ e → T (pick e (not b) (hasForm m f)) → length f ≤ 16
+    go : (e : Bool) → same f (pick (isTextual m) (34 ∷ 34 ∷ []) []) ≡ e → T (pick e (not b) (hasForm (scottish .textRule) m f)) → length f ≤ 16
     go true p t = let none-there : same f [] ≡ true = rw (narrow-plain m n) at p in rw (same-eq f [] (rw none-there tt)) (omega arith)
     go false p t = form-short m f n t
 
 -- so its value is its number
-narrow-value : (m : Form) (b : Bool) (f : List ℕ) → T (narrow m) → T (soundAs m b f) → valueOf m f ≡ numberOf m f ∷ []
+narrow-value : (m : Form) (b : Bool) (f : List ℕ) → T (narrow m) → T (soundAs (scottish .textRule) m b f) → valueOf m f ≡ numberOf m f ∷ []
 unfolding valueOf numberOf
 narrow-value m b f n t = rw (narrow-plain m n, take-all 16 f (sound-short m b f n t))
 
 -- these fields of a kind are numbers
 unfoldable pub numbersIn : Kind → List String → Bool
 numbersIn k [] = true
-numbersIn k (s ∷ ss) = narrow (formNamed s (ownFields k)) && numbersIn k ss
+numbersIn k (s ∷ ss) = narrow (formNamed s (ownFields scottish k)) && numbersIn k ss
 
 -- fields that are numbers have their numbers for values
-pub numbers-values : (r : Rec) → T (fine r) → (ss : List String) → T (numbersIn (r .kind) ss) → valuesNamed r ss ≡ numbersNamed r ss
+pub numbers-values : (r : Rec) → T (fine scottish r) → (ss : List String) → T (numbersIn (r .kind) ss) → valuesNamed scottish r ss ≡ numbersNamed r ss
 unfolding valuesNamed numbersNamed valueNamed numberNamed numbersIn
 numbers-values r f [] t = refl
 numbers-values r f (s ∷ ss) t =
@@ -158,10 +160,10 @@ length-numbers r (s ∷ ss) = ap suc (length-numbers r ss)
 
 -- the numbers of these fields stand in the order of their values
 abbrev pub Ordered : Rec → List String → Rec → List String → Type 0
-Ordered r ss x us = lex (padded 3 (numbersNamed r ss)) (padded 3 (numbersNamed x us)) ≡ lex (valuesNamed r ss) (valuesNamed x us)
+Ordered r ss x us = lex (padded 3 (numbersNamed r ss)) (padded 3 (numbersNamed x us)) ≡ lex (valuesNamed scottish r ss) (valuesNamed scottish x us)
 
 -- as many numbers on both sides, three at most, do
-pub numbers-agree : (r x : Rec) → T (fine r) → T (fine x) → (ss us : List String) → T (numbersIn (r .kind) ss) → T (numbersIn (x .kind) us) → length ss ≡ length us → length ss ≤ 3
+pub numbers-agree : (r x : Rec) → T (fine scottish r) → T (fine scottish x) → (ss us : List String) → T (numbersIn (r .kind) ss) → T (numbersIn (x .kind) us) → length ss ≡ length us → length ss ≤ 3
     → Ordered r ss x us
 numbers-agree r x f g ss us t u e h =
     rw (numbers-values r f ss t, numbers-values x g us u)
@@ -198,10 +200,10 @@ record Keyish (letter : ℕ) (f : List ℕ) : Type 0 where
   ones : T (all isDigit (part f 1 5))
   others : T (all isDigit (part f 6 15))
 
-key-made : (letter : ℕ) (f : List ℕ) → T (isKey letter f) → Keyish letter f
+key-made : (letter : ℕ) (f : List ℕ) → T (isKey (scottish .textRule) letter f) → Keyish letter f
 unfolding isKey digits inside
 key-made letter f t =
-    let a = and-r (isText 14 f) _ t in
+    let a = and-r (isText (scottish .textRule) 14 f) _ t in
     let size : length f ≡ 16 = eqb→eq (length f) 16 (and-l (eqb (length f) 16) _ a) in
     let b = and-r (eqb (length f) 16) _ a in
     let p = and-l (digits 4 (part f 1 5)) _ b in
@@ -228,16 +230,16 @@ key-digits letter f g p q =
     ∙ sym (rw (p .between, q .between) (lex-append (part f 1 5) (part g 1 5) (letter ∷ part f 6 15) (letter ∷ part g 6 15) same-front ∙ rw (is-cmpN letter letter eq refl)))
 
 -- a text that must be filled has its form
-text-form : (m : Form) (f : List ℕ) → T (soundAs m true f) → T (hasForm m f)
+text-form : (m : Form) (f : List ℕ) → T (soundAs (scottish .textRule) m true f) → T (hasForm (scottish .textRule) m f)
 unfolding soundAs
 text-form m f t = go (isEmpty m f) t
   where
-    go : (e : Bool) → T (pick e false (hasForm m f)) → T (hasForm m f)
+    go : (e : Bool) → T (pick e false (hasForm (scottish .textRule) m f)) → T (hasForm (scottish .textRule) m f)
     go true t = absurd t
     go false t = t
 
 -- so its number stands for its value
-pub text-agree : (m : Form) (f g : List ℕ) → T (lettered m) → T (soundAs m true f) → T (soundAs m true g) → cmpN (numberOf m f) (numberOf m g) ≡ lex (valueOf m f) (valueOf m g)
+pub text-agree : (m : Form) (f g : List ℕ) → T (lettered m) → T (soundAs (scottish .textRule) m true f) → T (soundAs (scottish .textRule) m true g) → cmpN (numberOf m f) (numberOf m g) ≡ lex (valueOf m f) (valueOf m g)
 unfolding lettered
 text-agree (number w) f g n t u = absurd n
 text-agree (atLeast1 w) f g n t u = absurd n

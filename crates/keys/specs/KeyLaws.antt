@@ -20,7 +20,9 @@ use Rattle.theory.specs.AgreeLaws.{get-agree, put-agree, rank-agree, asc-agree}
 use Rattle.theory.specs.Refs.{apart, has, meets, clear}
 use Rattle.meaning.specs.Lines.{fieldsOf}
 use Rattle.meaning.specs.Forms.{soundAs, valueOf}
-use Rattle.meaning.specs.Table.{Kind, header, street, streetXref, blpu, appXref, lpi, metadata, trailer, kinds, ident, fields, keyNames, refersTo, numberedAmong, named, formNamed}
+use Rattle.meaning.specs.Kinds.{Kind, header, street, streetXref, blpu, appXref, lpi, metadata, trailer, kinds, ident, numberedAmong}
+use Rattle.meaning.specs.Format.{named, formNamed}
+use Rattle.meaning.specs.Table.{fields, keyNames, refersTo, scottish}
 use Rattle.meaning.specs.Records.{Rec, ownFields, valueNamed, valuesNamed, emptyNamed, keyOf, refsFrom, refsOf, keyed}
 use Rattle.laws.specs.Kinds.{every}
 use Rattle.laws.specs.Body.{fine}
@@ -63,7 +65,7 @@ kind-told j k e = ap (found j) (sym (number-in j) ∙ ap (numberedAmong kinds) e
 -- this one field of a kind is a key's text, and must be filled
 unfoldable pub textIn : Kind → List String → Bool
 textIn k [] = false
-textIn k (s ∷ []) = lettered (formNamed s (ownFields k)) && filledNamed s (ownFields k)
+textIn k (s ∷ []) = lettered (formNamed s (ownFields scottish k)) && filledNamed s (ownFields scottish k)
 textIn k (s ∷ (t ∷ ss)) = false
 
 -- no key has more than three fields
@@ -76,22 +78,22 @@ keys-fit : (k : Kind) → T (numbersIn k (keyNames k) || textIn k (keyNames k))
 unfolding kinds keyNames fields ownFields formNamed filledNamed narrow lettered numbersIn textIn
 keys-fit k = every (λ k. numbersIn k (keyNames k) || textIn k (keyNames k)) tt k
 
-module _ (k : Kind) (c d : List ℕ) (f : T (fine (record { kind = k; content = c }))) (g : T (fine (record { kind = k; content = d }))) where
+module _ (k : Kind) (c d : List ℕ) (f : T (fine scottish (record { kind = k; content = c }))) (g : T (fine scottish (record { kind = k; content = d }))) where
   -- two keys of one text
   text-key : (ss : List String) → T (textIn k ss) → Ordered (record { kind = k; content = c }) ss (record { kind = k; content = d }) ss
   unfolding textIn numbersNamed numberNamed valuesNamed valueNamed
   text-key [] t = absurd t
   text-key (s ∷ (u ∷ ss)) t = absurd t
   text-key (s ∷ []) t =
-      let m = formNamed s (ownFields k) in
-      let a = named s (ownFields k) (fieldsOf c) in
-      let b = named s (ownFields k) (fieldsOf d) in
-      let full : filledNamed s (ownFields k) ≡ true = T-true (filledNamed s (ownFields k)) (and-r (lettered m) (filledNamed s (ownFields k)) t) in
-      let p : T (soundAs m true a) = subst (λ b. T (soundAs m b a)) full (fine-field (record { kind = k; content = c }) s f) in
-      let q : T (soundAs m true b) = subst (λ e. T (soundAs m e b)) full (fine-field (record { kind = k; content = d }) s g) in
+      let m = formNamed s (ownFields scottish k) in
+      let a = named s (ownFields scottish k) (fieldsOf c) in
+      let b = named s (ownFields scottish k) (fieldsOf d) in
+      let full : filledNamed s (ownFields scottish k) ≡ true = T-true (filledNamed s (ownFields scottish k)) (and-r (lettered m) (filledNamed s (ownFields scottish k)) t) in
+      let p : T (soundAs (scottish .textRule) m true a) = subst (λ b. T (soundAs (scottish .textRule) m b a)) full (fine-field (record { kind = k; content = c }) s f) in
+      let q : T (soundAs (scottish .textRule) m true b) = subst (λ e. T (soundAs (scottish .textRule) m e b)) full (fine-field (record { kind = k; content = d }) s g) in
       lex-padded 3 (numberOf m a ∷ []) (numberOf m b ∷ []) refl (omega arith)
       ∙ lex-one (numberOf m a) (numberOf m b)
-      ∙ text-agree m a b (and-l (lettered m) (filledNamed s (ownFields k)) t) p q
+      ∙ text-agree m a b (and-l (lettered m) (filledNamed s (ownFields scottish k)) t) p q
       ∙ sym (rw (append-nil (valueOf m a), append-nil (valueOf m b)))
 
   -- two keys of one kind
@@ -105,19 +107,19 @@ module _ (k : Kind) (c d : List ℕ) (f : T (fine (record { kind = k; content = 
       go false e t = text-key (keyNames k) t
 
 -- keys as numbers stand in the order of keys
-pub key-agrees : (r x : Rec) → T (fine r) → T (fine x) → lex (keyNumbers r) (keyNumbers x) ≡ lex (keyOf r) (keyOf x)
+pub key-agrees : (r x : Rec) → T (fine scottish r) → T (fine scottish x) → lex (keyNumbers r) (keyNumbers x) ≡ lex (keyOf scottish r) (keyOf scottish x)
 unfolding keyNumbers keyOf
 key-agrees r x f g =
-    first-agree (value (ident (r .kind))) (value (ident (x .kind))) (padded 3 (numbersNamed r (keyNames (r .kind)))) (padded 3 (numbersNamed x (keyNames (x .kind)))) (valuesNamed r (keyNames (r .kind)))
-    (valuesNamed x (keyNames (x .kind)))
-    (λ e. subst (λ k. (d : List ℕ) → T (fine (record { kind = k; content = d })) → Ordered r (keyNames (r .kind)) (record { kind = k; content = d }) (keyNames k)) (kind-told (r .kind) (x .kind) e)
+    first-agree (value (ident (r .kind))) (value (ident (x .kind))) (padded 3 (numbersNamed r (keyNames (r .kind)))) (padded 3 (numbersNamed x (keyNames (x .kind)))) (valuesNamed scottish r (keyNames (r .kind)))
+    (valuesNamed scottish x (keyNames (x .kind)))
+    (λ e. subst (λ k. (d : List ℕ) → T (fine scottish (record { kind = k; content = d })) → Ordered r (keyNames (r .kind)) (record { kind = k; content = d }) (keyNames k)) (kind-told (r .kind) (x .kind) e)
     (λ d h. same-kind (r .kind) (r .content) d f h) (x .content) g)
 
 -- ---- references
 
 -- a key as numbers and a key are alike: they are compared alike with the key of every sound record
 abbrev pub Agree : List ℕ → List ℕ → Type 0
-Agree a b = (x : Rec) → T (fine x) → lex a (keyNumbers x) ≡ lex b (keyOf x)
+Agree a b = (x : Rec) → T (fine scottish x) → lex a (keyNumbers x) ≡ lex b (keyOf scottish x)
 
 -- keys that are alike, one by one
 abbrev pub Alike : List (List ℕ) → List (List ℕ) → Type 0
@@ -135,30 +137,30 @@ rows-fit : (k : Kind) → T (all (rowFits k) (refersTo k))
 unfolding kinds refersTo keyNames fields ownFields formNamed narrow numbersIn rowFits
 rows-fit k = every (λ k. all (rowFits k) (refersTo k)) tt k
 
-row-agrees : (r : Rec) → T (fine r) → (p : Kind × List String) → T (rowFits (r .kind) p) → Agree (refKey r p) (value (ident (p .0)) ∷ valuesNamed r (p .1))
+row-agrees : (r : Rec) → T (fine scottish r) → (p : Kind × List String) → T (rowFits (r .kind) p) → Agree (refKey r p) (value (ident (p .0)) ∷ valuesNamed scottish r (p .1))
 unfolding refKey keyNumbers keyOf rowFits
 row-agrees r f p t x g =
     let a = and-l (numbersIn (r .kind) (p .1)) _ t in
     let b = and-r (numbersIn (r .kind) (p .1)) _ t in
     let n = and-l (numbersIn (p .0) (keyNames (p .0))) _ b in
     let l : length (p .1) ≡ length (keyNames (p .0)) = eqb→eq (length (p .1)) (length (keyNames (p .0))) (and-r (numbersIn (p .0) (keyNames (p .0))) _ b) in
-    first-agree (value (ident (p .0))) (value (ident (x .kind))) (padded 3 (numbersNamed r (p .1))) (padded 3 (numbersNamed x (keyNames (x .kind)))) (valuesNamed r (p .1)) (valuesNamed x (keyNames (x .kind)))
+    first-agree (value (ident (p .0))) (value (ident (x .kind))) (padded 3 (numbersNamed r (p .1))) (padded 3 (numbersNamed x (keyNames (x .kind)))) (valuesNamed scottish r (p .1)) (valuesNamed scottish x (keyNames (x .kind)))
     (λ e. let k = kind-told (p .0) (x .kind) e in
     numbers-agree r x f g (p .1) (keyNames (x .kind)) a (subst (λ k. T (numbersIn k (keyNames k))) k n) (subst (λ k. length (p .1) ≡ length (keyNames k)) k l) (omega (arith, few-names (p .0))))
 
-rows-alike : (r : Rec) → T (fine r) → (ps : List (Kind × List String)) → T (all (rowFits (r .kind)) ps) → Alike (refNumbersFrom r ps) (refsFrom r ps)
+rows-alike : (r : Rec) → T (fine scottish r) → (ps : List (Kind × List String)) → T (all (rowFits (r .kind)) ps) → Alike (refNumbersFrom r ps) (refsFrom scottish r ps)
 unfolding refNumbersFrom refsFrom
 rows-alike r f [] t = tt
 rows-alike r f (p ∷ ps) t =
-    go (emptyNamed r (p .1)) (row-agrees r f p (and-l (rowFits (r .kind) p) (all (rowFits (r .kind)) ps) t)) (rows-alike r f ps (and-r (rowFits (r .kind) p) (all (rowFits (r .kind)) ps) t))
+    go (emptyNamed scottish r (p .1)) (row-agrees r f p (and-l (rowFits (r .kind) p) (all (rowFits (r .kind)) ps) t)) (rows-alike r f ps (and-r (rowFits (r .kind) p) (all (rowFits (r .kind)) ps) t))
   where
-    go : (b : Bool) → Agree (refKey r p) (value (ident (p .0)) ∷ valuesNamed r (p .1)) → Alike (refNumbersFrom r ps) (refsFrom r ps)
-        → Alike (pick b (refNumbersFrom r ps) (refKey r p ∷ refNumbersFrom r ps)) (pick b (refsFrom r ps) ((value (ident (p .0)) ∷ valuesNamed r (p .1)) ∷ refsFrom r ps))
+    go : (b : Bool) → Agree (refKey r p) (value (ident (p .0)) ∷ valuesNamed scottish r (p .1)) → Alike (refNumbersFrom r ps) (refsFrom scottish r ps)
+        → Alike (pick b (refNumbersFrom r ps) (refKey r p ∷ refNumbersFrom r ps)) (pick b (refsFrom scottish r ps) ((value (ident (p .0)) ∷ valuesNamed scottish r (p .1)) ∷ refsFrom scottish r ps))
     go true h k = k
     go false h k = (h, k)
 
 -- what a sound record refers to, as numbers and as keys, is alike
-pub refs-alike : (r : Rec) → T (fine r) → Alike (refNumbers r) (refsOf r)
+pub refs-alike : (r : Rec) → T (fine scottish r) → Alike (refNumbers r) (refsOf scottish r)
 unfolding refNumbers refsOf
 refs-alike r f = rows-alike r f (refersTo (r .kind)) (rows-fit (r .kind))
 
@@ -166,7 +168,7 @@ refs-alike r f = rows-alike r f (refersTo (r .kind)) (rows-fit (r .kind))
 pub number-agrees : (k : Kind) (n : ℕ) → T (numbersIn k (keyNames k)) → length (keyNames k) ≡ 1 → Agree (value (ident k) ∷ padded 3 (n ∷ [])) (value (ident k) ∷ n ∷ [])
 unfolding keyNumbers keyOf
 number-agrees k n t l x g =
-    first-agree (value (ident k)) (value (ident (x .kind))) (padded 3 (n ∷ [])) (padded 3 (numbersNamed x (keyNames (x .kind)))) (n ∷ []) (valuesNamed x (keyNames (x .kind)))
+    first-agree (value (ident k)) (value (ident (x .kind))) (padded 3 (n ∷ [])) (padded 3 (numbersNamed x (keyNames (x .kind)))) (n ∷ []) (valuesNamed scottish x (keyNames (x .kind)))
     (λ e. let j = kind-told k (x .kind) e in
     let u : length (keyNames (x .kind)) ≡ 1 = subst (λ k. length (keyNames k) ≡ 1) j l in
     rw (numbers-values x g (keyNames (x .kind)) (subst (λ k. T (numbersIn k (keyNames k))) j t))
@@ -188,46 +190,46 @@ alike-all p q f (a ∷ ns) [] h = absurd h
 alike-all p q f (a ∷ ns) (b ∷ bs) h = rw (f a b (h .0), alike-all p q f ns bs (h .1))
 
 -- the references of a sound record, place by place
-pub refs-agree : (r : Rec) → T (fine r) → (j : ℕ) → j < length (refsOf r) → Agree (getD (refNumbers r) j []) (getD (refsOf r) j [])
-refs-agree r f j h = alike-at (refNumbers r) (refsOf r) (refs-alike r f) j h
+pub refs-agree : (r : Rec) → T (fine scottish r) → (j : ℕ) → j < length (refsOf scottish r) → Agree (getD (refNumbers r) j []) (getD (refsOf scottish r) j [])
+refs-agree r f j h = alike-at (refNumbers r) (refsOf scottish r) (refs-alike r f) j h
 
 -- keys that are alike are apart from the key of the same sound records
-pub agree-apart : (a b : List ℕ) → Agree a b → (x : Rec) → T (fine x) → apart numbered a (keyNumbers x) ≡ apart keyed b (keyOf x)
+pub agree-apart : (a b : List ℕ) → Agree a b → (x : Rec) → T (fine scottish x) → apart numbered a (keyNumbers x) ≡ apart (keyed scottish) b (keyOf scottish x)
 unfolding apart
 agree-apart a b h x g = rw (h x g)
 
 -- a sound record's own key is alike
-pub own-agrees : (r : Rec) → T (fine r) → Agree (keyNumbers r) (keyOf r)
+pub own-agrees : (r : Rec) → T (fine scottish r) → Agree (keyNumbers r) (keyOf scottish r)
 own-agrees r f x g = key-agrees r x f g
 
 -- ---- states of sound records
 
-module _ (st : List Rec) (h : T (all fine st)) where
+module _ (st : List Rec) (h : T (all (fine scottish) st)) where
   -- keys that are alike find the same record
-  pub get-alike : (a b : List ℕ) → Agree a b → get numbered a st ≡ get keyed b st
-  get-alike a b e = get-agree numbered (List ℕ) lex lex-order keyOf fine a b e st h
+  pub get-alike : (a b : List ℕ) → Agree a b → get numbered a st ≡ get (keyed scottish) b st
+  get-alike a b e = get-agree numbered (List ℕ) lex lex-order (keyOf scottish) (fine scottish) a b e st h
 
   -- they write at the same place
-  pub put-alike : (a b : List ℕ) → Agree a b → (o : Option Rec) → put numbered a o st ≡ put keyed b o st
-  put-alike a b e o = put-agree numbered (List ℕ) lex lex-order keyOf fine a b e o st h
+  pub put-alike : (a b : List ℕ) → Agree a b → (o : Option Rec) → put numbered a o st ≡ put (keyed scottish) b o st
+  put-alike a b e o = put-agree numbered (List ℕ) lex lex-order (keyOf scottish) (fine scottish) a b e o st h
 
   -- and as many records stand before them
-  pub rank-alike : (a b : List ℕ) → Agree a b → rank numbered a st ≡ rank keyed b st
-  rank-alike a b e = rank-agree numbered (List ℕ) lex lex-order keyOf fine a b e st h
+  pub rank-alike : (a b : List ℕ) → Agree a b → rank numbered a st ≡ rank (keyed scottish) b st
+  rank-alike a b e = rank-agree numbered (List ℕ) lex lex-order (keyOf scottish) (fine scottish) a b e st h
 
   -- keys ascend by their numbers
-  pub asc-numbered : Asc keyed st → Asc numbered st
-  asc-numbered a = asc-agree keyed (List ℕ) lex lex-order keyNumbers fine (λ x y f g. sym (key-agrees x y f g)) st h a
+  pub asc-numbered : Asc (keyed scottish) st → Asc numbered st
+  asc-numbered a = asc-agree (keyed scottish) (List ℕ) lex lex-order keyNumbers (fine scottish) (λ x y f g. sym (key-agrees x y f g)) st h a
 
   -- a record's references are met by their numbers where they are met
-  pub meets-agree : (r : Rec) → T (fine r) → meets numbered refNumbers st r ≡ meets keyed refsOf st r
+  pub meets-agree : (r : Rec) → T (fine scottish r) → meets numbered refNumbers st r ≡ meets (keyed scottish) (refsOf scottish) st r
   unfolding meets has
-  meets-agree r f = alike-all _ _ (λ a b e. rw (agree-apart a b e r f, get-alike a b e)) (refNumbers r) (refsOf r) (refs-alike r f)
+  meets-agree r f = alike-all _ _ (λ a b e. rw (agree-apart a b e r f, get-alike a b e)) (refNumbers r) (refsOf scottish r) (refs-alike r f)
 
 -- a record does not refer to a sound one by its number where it does not
-pub clear-agree : (r x : Rec) → T (fine r) → T (fine x) → clear numbered refNumbers (keyNumbers x) r ≡ clear keyed refsOf (keyOf x) r
+pub clear-agree : (r x : Rec) → T (fine scottish r) → T (fine scottish x) → clear numbered refNumbers (keyNumbers x) r ≡ clear (keyed scottish) (refsOf scottish) (keyOf scottish x) r
 unfolding clear
-clear-agree r x f g = alike-all _ _ (λ a b e. agree-apart a b e x g) (refNumbers r) (refsOf r) (refs-alike r f)
+clear-agree r x f g = alike-all _ _ (λ a b e. agree-apart a b e x g) (refNumbers r) (refsOf scottish r) (refs-alike r f)
 
 -- ---- rows one by one
 
@@ -242,7 +244,7 @@ unfolding refNumbers refAt
 refs-are r = two (refersTo (r .kind)) (rows-few (r .kind))
   where
     first : (p : Kind × List String) (ps : List (Kind × List String)) (l : List (List ℕ)) → refNumbersFrom r ps ≡ l → refNumbersFrom r (p ∷ ps) ≡ cons? (refFirst r (p ∷ ps)) l
-    first p ps l e = unfold refNumbersFrom refFirst in (go (emptyNamed r (p .1)))
+    first p ps l e = unfold refNumbersFrom refFirst in (go (emptyNamed scottish r (p .1)))
       where
         go : (b : Bool) → pick b (refNumbersFrom r ps) (refKey r p ∷ refNumbersFrom r ps) ≡ cons? (pick b none (some (refKey r p))) l
         go true = e

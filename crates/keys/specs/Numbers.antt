@@ -11,7 +11,9 @@ use Rattle.theory.specs.LexLaws.{lex-order}
 use Rattle.theory.specs.Keyed.{Keyed}
 use Rattle.meaning.specs.Lines.{fieldsOf}
 use Rattle.meaning.specs.Forms.{Form, isTextual}
-use Rattle.meaning.specs.Table.{Kind, ident, keyNames, refersTo, named, formNamed}
+use Rattle.meaning.specs.Kinds.{Kind, ident}
+use Rattle.meaning.specs.Format.{named, formNamed}
+use Rattle.meaning.specs.Table.{keyNames, refersTo, scottish}
 use Rattle.meaning.specs.Records.{Rec, ownFields, emptyNamed}
 use Rattle.layout.specs.Rows.{padded}
 use Rattle.keys.specs.declared.Key.{Key}
@@ -30,7 +32,7 @@ numberOf m f = pick (isTextual m) (value (digitsIn f)) (value (take 16 f))
 
 -- the number of a record's field of that name
 unfoldable pub numberNamed : Rec → String → ℕ
-numberNamed r s = numberOf (formNamed s (ownFields (r .kind))) (named s (ownFields (r .kind)) (fieldsOf (r .content)))
+numberNamed r s = numberOf (formNamed s (ownFields scottish (r .kind))) (named s (ownFields scottish (r .kind)) (fieldsOf (r .content)))
 
 -- the numbers of several fields, one after another
 unfoldable pub numbersNamed : Rec → List String → List ℕ
@@ -50,7 +52,7 @@ refKey r p = value (ident (p .0)) ∷ padded 3 (numbersNamed r (p .1))
 -- the keys that a record refers to: an empty field refers to nothing
 unfoldable pub refNumbersFrom : Rec → List (Kind × List String) → List (List ℕ)
 refNumbersFrom r [] = []
-refNumbersFrom r (p ∷ ps) = pick (emptyNamed r (p .1)) (refNumbersFrom r ps) (refKey r p ∷ refNumbersFrom r ps)
+refNumbersFrom r (p ∷ ps) = pick (emptyNamed scottish r (p .1)) (refNumbersFrom r ps) (refKey r p ∷ refNumbersFrom r ps)
 
 -- the keys that a record's kind makes it refer to
 unfoldable pub refNumbers : Rec → List (List ℕ)
@@ -59,7 +61,7 @@ refNumbers r = refNumbersFrom r (refersTo (r .kind))
 -- what the first of some rows gives: an empty field refers to nothing
 unfoldable pub refFirst : Rec → List (Kind × List String) → Option (List ℕ)
 refFirst r [] = none
-refFirst r (p ∷ ps) = pick (emptyNamed r (p .1)) none (some (refKey r p))
+refFirst r (p ∷ ps) = pick (emptyNamed scottish r (p .1)) none (some (refKey r p))
 
 -- what a kind's row j gives, counted from 0: the key that a content refers to by it
 unfoldable pub refAt : Kind → List ℕ → ℕ → Option (List ℕ)

@@ -7,7 +7,7 @@ use lib.ListN.{getD}
 use Rattle.base.specs.Lists.{pick}
 use Rattle.meaning.specs.Lines.{fieldsOf}
 use Rattle.meaning.specs.Forms.{isEmpty}
-use Rattle.meaning.specs.Table.{Kind}
+use Rattle.meaning.specs.Kinds.{Kind}
 use Rattle.layout.specs.Rows.{rowOf}
 use Rattle.keys.specs.Numbers.{numberOf}
 

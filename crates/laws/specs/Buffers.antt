@@ -8,54 +8,58 @@ use lib.Dec.{T, leb}
 use lib.ListN.{length}
 use Rattle.base.specs.Lists.{pick, zeros}
 use Rattle.theory.specs.Answer.{Answer, took, refused}
+use Rattle.meaning.specs.Format.{Format}
 use Rattle.meaning.specs.Load.{load, undoBytes, filled, Undone, undone, undoFile}
+use Rattle.laws.specs.Regular.{Regular}
 use Rattle.laws.specs.FileRefusals.{among}
 use Rattle.laws.specs.LoadRefusals.{loadCodes, AnswerIn, load-in}
-
--- the work buffer is all zeros afterwards, whatever happens
-pub work-zeros : (old b : List ℕ) (out space : ℕ) → undoFile old b out space .work ≡ zeros space
-unfolding undoFile undone
-work-zeros old b out space = go (load space old b)
-  where
-    either : (c : Bool) (x y : Undone) → x .work ≡ zeros space → y .work ≡ zeros space → pick c x y .work ≡ zeros space
-    either true x y p q = p
-    either false x y p q = q
-
-    go : (x : Answer) → undone out space (undoBytes old b) x .work ≡ zeros space
-    go (took n i u d) = either (leb (length (undoBytes old b)) out) _ _ refl refl
-    go (refused c l f) = refl
-
--- where undo answers 0 its output is the undo's bytes, then zeros
-pub undo-output : (old b : List ℕ) (out space : ℕ) → undoFile old b out space .answer .code ≡ 0 → undoFile old b out space .output ≡ filled out (undoBytes old b)
-unfolding undoFile undone
-undo-output old b out space e = go (load space old b) (load-in space old b) e
-  where
-    fit : (c : Bool) (x y : Undone) (w : List ℕ) → x .output ≡ w → y .answer .code ≡ 17 → pick c x y .answer .code ≡ 0 → pick c x y .output ≡ w
-    fit true x y w p q e = p
-    fit false x y w p q e = absurd (omega (arith, e, q))
-
-    go : (x : Answer) → AnswerIn x → undone out space (undoBytes old b) x .answer .code ≡ 0 → undone out space (undoBytes old b) x .output ≡ filled out (undoBytes old b)
-    go (took new i u d) n e = fit (leb (length (undoBytes old b)) out) _ _ _ refl refl e
-    go (refused c l f) n e = absurd (unfold among in subst (λ z. T (among z loadCodes)) e n)
-
--- a refusal of undo leaves zeros, and the three counts are 0
-pub undo-refused-zeros : (old b : List ℕ) (out space : ℕ) → (undoFile old b out space .answer .code ≡ 0 → ⊥)
-    → (undoFile old b out space .output ≡ zeros out) × (undoFile old b out space .answer .inserts ≡ 0) × (undoFile old b out space .answer .updates ≡ 0)
-    × (undoFile old b out space .answer .deletes ≡ 0)
-unfolding undoFile undone
-undo-refused-zeros old b out space n = go (load space old b) n
-  where
-    Left : Undone → Type 0
-    Left x = (x .answer .code ≡ 0 → ⊥) → (x .output ≡ zeros out) × (x .answer .inserts ≡ 0) × (x .answer .updates ≡ 0) × (x .answer .deletes ≡ 0)
-
-    either : (c : Bool) (x y : Undone) → Left x → Left y → Left (pick c x y)
-    either true x y p q = p
-    either false x y p q = q
-
-    go : (x : Answer) → Left (undone out space (undoBytes old b) x)
-    go (took new i u d) = either (leb (length (undoBytes old b)) out) _ _ (λ n. absurd (n refl)) (λ n. (refl, refl, refl, refl))
-    go (refused c l f) = λ n. (refl, refl, refl, refl)
 
 -- any two outcomes that meet a statement are equal
 pub one-outcome : {X : Type 0} (f x y : X) → x ≡ f → y ≡ f → x ≡ y
 one-outcome f x y p q = p ∙ sym q
+
+module _ (F : Format) where
+  -- the work buffer is all zeros afterwards, whatever happens
+  pub work-zeros : (old b : List ℕ) (out space : ℕ) → undoFile F old b out space .work ≡ zeros space
+  unfolding undoFile undone
+  work-zeros old b out space = go (load F space old b)
+    where
+      either : (c : Bool) (x y : Undone) → x .work ≡ zeros space → y .work ≡ zeros space → pick c x y .work ≡ zeros space
+      either true x y p q = p
+      either false x y p q = q
+
+      go : (x : Answer) → undone out space (undoBytes F old b) x .work ≡ zeros space
+      go (took n i u d) = either (leb (length (undoBytes F old b)) out) _ _ refl refl
+      go (refused c l f) = refl
+
+  -- a refusal of undo leaves zeros, and the three counts are 0
+  pub undo-refused-zeros : (old b : List ℕ) (out space : ℕ) → (undoFile F old b out space .answer .code ≡ 0 → ⊥)
+      → (undoFile F old b out space .output ≡ zeros out) × (undoFile F old b out space .answer .inserts ≡ 0) × (undoFile F old b out space .answer .updates ≡ 0)
+      × (undoFile F old b out space .answer .deletes ≡ 0)
+  unfolding undoFile undone
+  undo-refused-zeros old b out space n = go (load F space old b) n
+    where
+      Left : Undone → Type 0
+      Left x = (x .answer .code ≡ 0 → ⊥) → (x .output ≡ zeros out) × (x .answer .inserts ≡ 0) × (x .answer .updates ≡ 0) × (x .answer .deletes ≡ 0)
+
+      either : (c : Bool) (x y : Undone) → Left x → Left y → Left (pick c x y)
+      either true x y p q = p
+      either false x y p q = q
+
+      go : (x : Answer) → Left (undone out space (undoBytes F old b) x)
+      go (took new i u d) = either (leb (length (undoBytes F old b)) out) _ _ (λ n. absurd (n refl)) (λ n. (refl, refl, refl, refl))
+      go (refused c l f) = λ n. (refl, refl, refl, refl)
+
+  module _ (regular : Regular F) where
+    -- where undo answers 0 its output is the undo's bytes, then zeros
+    pub undo-output : (old b : List ℕ) (out space : ℕ) → undoFile F old b out space .answer .code ≡ 0 → undoFile F old b out space .output ≡ filled out (undoBytes F old b)
+    unfolding undoFile undone
+    undo-output old b out space e = go (load F space old b) (load-in F regular space old b) e
+      where
+        fit : (c : Bool) (x y : Undone) (w : List ℕ) → x .output ≡ w → y .answer .code ≡ 17 → pick c x y .answer .code ≡ 0 → pick c x y .output ≡ w
+        fit true x y w p q e = p
+        fit false x y w p q e = absurd (omega (arith, e, q))
+
+        go : (x : Answer) → AnswerIn x → undone out space (undoBytes F old b) x .answer .code ≡ 0 → undone out space (undoBytes F old b) x .output ≡ filled out (undoBytes F old b)
+        go (took new i u d) n e = fit (leb (length (undoBytes F old b)) out) _ _ _ refl refl e
+        go (refused c l f) n e = absurd (unfold among in subst (λ z. T (among z loadCodes)) e n)

@@ -14,7 +14,7 @@ use Rattle.theory.specs.Step.{Op, ins, upd, del}
 use Rattle.theory.specs.DecimalLaws.{length-dec, width-pos, dec-all, width-four}
 use Rattle.meaning.specs.Lines.{plain, turned, isSep, addByte, fieldsFrom, quoteAfter, afterField}
 use Rattle.meaning.specs.Forms.{number, hasForm, isEmpty, soundAs, isNumber, isDigit, isTextual, oneOf, changeType}
-use Rattle.meaning.specs.Table.{man}
+use Rattle.meaning.specs.Format.{Format, man}
 use Rattle.meaning.specs.Sound.{soundField}
 use Rattle.meaning.specs.Records.{letter, opOf}
 use Rattle.laws.specs.LinesAndFields.{quiet, Leads, leads}
@@ -34,13 +34,6 @@ unfolding letter bytes plain
 letter-plain ins = tt
 letter-plain upd = tt
 letter-plain del = tt
-
--- it is a sound second field
-pub letter-sound : (o : Op) → T (soundField (man "CHANGE_TYPE" changeType) (letter o))
-unfolding letter bytes soundField soundAs isEmpty hasForm oneOf isTextual same
-letter-sound ins = tt
-letter-sound upd = tt
-letter-sound del = tt
 
 -- it is read as what was written
 pub op-letter : (o : Op) → opOf (letter o) ≡ o
@@ -76,11 +69,21 @@ unfolding same
 not-empty [] h = absurd (omega arith)
 not-empty (x ∷ f) h = refl
 
--- a number of at most four digits is a sound third field
-pub dec-sound : (n : ℕ) → n < 10000 → T (soundField (man "PRO_ORDER" (number 16)) (dec n))
-unfolding soundField soundAs isEmpty hasForm isTextual isNumber
-dec-sound n h =
-    let a : T (leb 1 (length (dec n))) = le→leb 1 (length (dec n)) (omega (arith, length-dec n, width-pos n)) in
-    let b : T (leb (length (dec n)) 16) = le→leb (length (dec n)) 16 (omega (arith, length-dec n, width-four n h)) in
-    let d : T (all isDigit (dec n)) = dec-all isDigit digit-is n in
-    rw (not-empty (dec n) (omega (arith, length-dec n, width-pos n))) (search bools)
+-- ---- both as fields
+
+module _ (F : Format) where
+  -- a written CHANGE_TYPE is a sound second field
+  pub letter-sound : (o : Op) → T (soundField F (man "CHANGE_TYPE" changeType) (letter o))
+  unfolding letter bytes soundField soundAs isEmpty hasForm oneOf isTextual same
+  letter-sound ins = tt
+  letter-sound upd = tt
+  letter-sound del = tt
+
+  -- a written number of at most four digits is a sound third field
+  pub dec-sound : (n : ℕ) → n < 10000 → T (soundField F (man "PRO_ORDER" (number 16)) (dec n))
+  unfolding soundField soundAs isEmpty hasForm isTextual isNumber
+  dec-sound n h =
+      let a : T (leb 1 (length (dec n))) = le→leb 1 (length (dec n)) (omega (arith, length-dec n, width-pos n)) in
+      let b : T (leb (length (dec n)) 16) = le→leb (length (dec n)) 16 (omega (arith, length-dec n, width-four n h)) in
+      let d : T (all isDigit (dec n)) = dec-all isDigit digit-is n in
+      rw (not-empty (dec n) (omega (arith, length-dec n, width-pos n))) (search bools)

@@ -19,10 +19,12 @@ use Rattle.theory.specs.Limits.{few}
 use Rattle.theory.specs.Answer.{Answer, took, refused, count}
 use Rattle.theory.specs.StepLaws.{judge-ok, ok-judge}
 use Rattle.theory.specs.RunLaws.{frame, get-final, good-through}
+use Rattle.meaning.specs.Format.{Format}
 use Rattle.meaning.specs.Records.{Rec, keyed, refsOf}
 use Rattle.meaning.specs.File.{Frame}
 use Rattle.meaning.specs.Holding.{readHolding, written}
 use Rattle.meaning.specs.Load.{fits, load, six, filled, applied, apply}
+use Rattle.laws.specs.Regular.{Regular}
 use Rattle.laws.specs.HoldingReadBack.{always, heldRecords}
 use Rattle.laws.specs.SoundHolding.{SoundHolding, held-sound, sound-held, held-is-sound}
 use Rattle.laws.specs.SoundFile.{SoundFile, sound-read, read-sound}
@@ -31,252 +33,259 @@ use Rattle.laws.specs.Checks.{held-only}
 use Rattle.laws.specs.LoadRefusals.{loadCodes, AnswerIn, load-in}
 use Rattle.laws.specs.Takes.{late, Takes, taken, TookSays, took-takes, good-old, new-held}
 
--- ---- steps, without running them
-
--- a step is lawful: insert needs its key absent, update and delete need it present; and afterwards there are at most 8,192 records and every reference is met
-pub record StepLawful (st : List Rec) (c : Change Rec) : Type 0 where
-  pub keyed? : T (allowed (c .op) (get keyed (at keyed c) st))
-  pub fewRecords : T (few (after keyed st c))
-  pub references : T (met keyed refsOf (after keyed st c))
-
--- a step is allowed: it is lawful, and afterwards the holding is not longer than its buffer
-pub record StepAllowed (room : ℕ) (st : List Rec) (c : Change Rec) : Type 0 where
-  pub lawful : StepLawful st c
-  pub roomy : T (fits room (after keyed st c))
-
--- each step is allowed where the steps before it lead
-abbrev pub StepsAllowed : ℕ → List Rec → List (Change Rec) → Type 0
-StepsAllowed room = Each (after keyed) (StepAllowed room)
-
-allowed-ok : (room : ℕ) (st : List Rec) (c : Change Rec) → StepAllowed room st c → judge keyed (always ++ late room) st c ≡ none
-unfolding fits
-allowed-ok room st c s =
-    let st2 = after keyed st c in
-    let r = and-in (leb (length (written st2)) room) true (s .roomy) tt in
-    let l = s .lawful in
-    judge-ok keyed (always ++ late room) st c (l .keyed?) (and-in (few st2) _ (l .fewRecords) (and-in (met keyed refsOf st2) _ (l .references) r))
-
-ok-allowed : (room : ℕ) (st : List Rec) (c : Change Rec) → judge keyed (always ++ late room) st c ≡ none → StepAllowed room st c
-unfolding fits
-ok-allowed room st c e =
-    let st2 = after keyed st c in
-    let a = ok-judge keyed (always ++ late room) st c e in
-    let q = and-r (few st2) _ (a .1) in
-    let r = and-r (met keyed refsOf st2) _ q in
-    record {
-      lawful = record { keyed? = a .0; fewRecords = and-l (few st2) _ (a .1); references = and-l (met keyed refsOf st2) _ q };
-      roomy = and-l (leb (length (written st2)) room) true r;
-    }
-
-steps-ok : (room : ℕ) (st : List Rec) (cs : List (Change Rec)) → StepsAllowed room st cs → Taken keyed (always ++ late room) st cs
-steps-ok room st [] s = tt
-steps-ok room st (c ∷ cs) s = (allowed-ok room st c (s .0), steps-ok room (after keyed st c) cs (s .1))
-
-ok-steps : (room : ℕ) (st : List Rec) (cs : List (Change Rec)) → Taken keyed (always ++ late room) st cs → StepsAllowed room st cs
-ok-steps room st [] s = tt
-ok-steps room st (c ∷ cs) s = (ok-allowed room st c (s .0), ok-steps room (after keyed st c) cs (s .1))
-
--- ---- taken exactly if all is allowed
-
--- everything is allowed: the holding is sound, every line of the file is allowed at its place, there is room at the start, and every step is allowed
-pub record Allowed (old b : List ℕ) (room : ℕ) : Type 0 where
-  pub st : List Rec
-  pub fr : Frame
-  pub cs : List (Change Rec)
-  pub held : SoundHolding old st
-  pub lines : SoundFile b fr cs
-  pub starts : T (fits room st)
-  pub steps : StepsAllowed room st cs
-
--- the records afterwards
-abbrev pub afterAll : {old b : List ℕ} {room : ℕ} → Allowed old b room → List Rec
-afterAll a = final (after keyed) (a .st) (a .cs)
-
--- where all is allowed the file is taken
-pub allowed-takes : (old b : List ℕ) (room : ℕ) (a : Allowed old b room) → Takes room old b (written (afterAll a))
-unfolding heldRecords fits
-allowed-takes old b room a = record {
-  st = a .st;
-  fr = a .fr;
-  cs = a .cs;
-  held = ap heldRecords (sound-held old (a .st) (a .held));
-  read = sound-read b (a .fr) (a .cs) (a .lines);
-  starts = and-in (leb (length (written (a .st))) room) true (a .starts) tt;
-  takes = steps-ok room (a .st) (a .cs) (a .steps);
-  made = refl;
-}
-
--- and where the file is taken all is allowed
-pub takes-allowed : (old b new : List ℕ) (room : ℕ) → Takes room old b new → Allowed old b room
-unfolding fits
-takes-allowed old b new room a = record {
-  st = a .st;
-  fr = a .fr;
-  cs = a .cs;
-  held = held-is-sound old (a .st) (held-sound old (a .st) (readHolding old) (a .held));
-  lines = read-sound b (a .fr) (a .cs) (a .read);
-  starts = and-l (leb (length (written (a .st))) room) true (a .starts);
-  steps = ok-steps room (a .st) (a .cs) (a .takes);
-}
-
--- where all is allowed: 0, the counts of the body lines, and the new holding, then zeros
-pub allowed-done : (old b : List ℕ) (room : ℕ) (a : Allowed old b room)
-    → apply old b room ≡ record { answer = six 0 0 0 (count ins (a .cs)) (count upd (a .cs)) (count del (a .cs)); output = filled room (written (afterAll a)) }
-unfolding allowed-takes
-allowed-done old b room a = taken room old b (written (afterAll a)) (allowed-takes old b room a)
-
--- the answer is 0 only where all is allowed
-pub done-allowed : (old b : List ℕ) (room : ℕ) → apply old b room .answer .code ≡ 0 → Allowed old b room
-unfolding apply applied
-done-allowed old b room e = go (load room old b) (took-takes room old b) (load-in room old b) e
-  where
-    go : (x : Answer) → TookSays room old b x → AnswerIn x → applied room x .answer .code ≡ 0 → Allowed old b room
-    go (took new i u d) t n e = takes-allowed old b new room t
-    go (refused c l f) t n e = absurd (unfold among in subst (λ z. T (among z loadCodes)) e n)
-
--- a file is taken exactly if every line is allowed at its place and every step is allowed
-pub taken-exactly : (old b : List ℕ) (room : ℕ) → (apply old b room .answer .code ≡ 0 → Allowed old b room) × (Allowed old b room → apply old b room .answer .code ≡ 0)
-taken-exactly old b room = (done-allowed old b room, λ a. ap (λ x. x .answer .code) (allowed-done old b room a))
-
--- ---- a sound holding and buffers with room at every step are given
-
--- every line of the file is allowed at its place, and every step is lawful over the records st
-pub record Lawful (st : List Rec) (b : List ℕ) : Type 0 where
-  pub fr : Frame
-  pub cs : List (Change Rec)
-  pub lines : SoundFile b fr cs
-  pub steps : Each (after keyed) StepLawful st cs
-
--- there is room before the first step and after each
-abbrev pub Roomy : ℕ → List Rec → List ℕ → Type 0
-Roomy room st b = (fr : Frame) (cs : List (Change Rec)) → SoundFile b fr cs → Through (after keyed) (λ s. T (fits room s)) st cs
-
-steps-lawful : (room : ℕ) (st : List Rec) (cs : List (Change Rec)) → StepsAllowed room st cs → Each (after keyed) StepLawful st cs
-steps-lawful room st [] s = tt
-steps-lawful room st (c ∷ cs) s = (s .0 .lawful, steps-lawful room (after keyed st c) cs (s .1))
-
-through-first : (room : ℕ) (st : List Rec) (cs : List (Change Rec)) → Through (after keyed) (λ s. T (fits room s)) st cs → T (fits room st)
-through-first room st [] r = r
-through-first room st (c ∷ cs) r = r .0
-
-lawful-steps : (room : ℕ) (st : List Rec) (cs : List (Change Rec)) → Each (after keyed) StepLawful st cs → Through (after keyed) (λ s. T (fits room s)) st cs
-    → StepsAllowed room st cs
-lawful-steps room st [] s r = tt
-lawful-steps room st (c ∷ cs) s r =
-    let st2 = after keyed st c in
-    (record { lawful = s .0; roomy = through-first room st2 cs (r .1) }, lawful-steps room st2 cs (s .1) (r .1))
-
--- then a file is taken exactly if every line and every step is lawful
-pub lawful-exactly : (old b : List ℕ) (room : ℕ) (st : List Rec) → SoundHolding old st → Roomy room st b → (apply old b room .answer .code ≡ 0) ↔ Lawful st b
-lawful-exactly old b room st h r = (
-  λ e.
-      let a = done-allowed old b room e in
-      let q = subst (λ s. StepsAllowed room s (a .cs)) (held-only old (a .st) st (a .held) h) (a .steps) in
-      record { fr = a .fr; cs = a .cs; lines = a .lines; steps = steps-lawful room st (a .cs) q },
-  λ l.
-      let t = r (l .fr) (l .cs) (l .lines) in
-      taken-exactly old b room .1
-      (record {
-        st = st;
-        fr = l .fr;
-        cs = l .cs;
-        held = h;
-        lines = l .lines;
-        starts = through-first room st (l .cs) t;
-        steps = lawful-steps room st (l .cs) (l .steps) t;
-      }),
-)
-
--- ---- a longer buffer
-
+-- what fits a buffer fits a longer one
 fits-more : (room space : ℕ) (st : List Rec) → room ≤ space → T (fits room st) → T (fits space st)
 unfolding fits
 fits-more room space st h t = le→leb (length (written st)) space (omega (arith, h, leb→le (length (written st)) room t))
 
-steps-more : (room space : ℕ) (st : List Rec) (cs : List (Change Rec)) → room ≤ space → StepsAllowed room st cs → StepsAllowed space st cs
-steps-more room space st [] h s = tt
-steps-more room space st (c ∷ cs) h s =
-    let st2 = after keyed st c in
-    (record { lawful = s .0 .lawful; roomy = fits-more room space st2 h (s .0 .roomy) }, steps-more room space st2 cs h (s .1))
+module _ (F : Format) where
+  -- ---- steps, without running them
 
--- what is allowed is allowed with a longer buffer, and comes to the same records
-pub allowed-more : (old b : List ℕ) (room space : ℕ) → room ≤ space → Allowed old b room → Allowed old b space
-allowed-more old b room space h a = record {
-  st = a .st;
-  fr = a .fr;
-  cs = a .cs;
-  held = a .held;
-  lines = a .lines;
-  starts = fits-more room space (a .st) h (a .starts);
-  steps = steps-more room space (a .st) (a .cs) h (a .steps);
-}
+  -- a step is lawful: insert needs its key absent, update and delete need it present; and afterwards there are at most 8,192 records and every reference is met
+  pub record StepLawful (st : List Rec) (c : Change Rec) : Type 0 where
+    pub keyed? : T (allowed (c .op) (get (keyed F) (at (keyed F) c) st))
+    pub fewRecords : T (few (after (keyed F) st c))
+    pub references : T (met (keyed F) (refsOf F) (after (keyed F) st c))
 
--- a file that is taken is taken with a longer buffer, and gives the same holding
-pub takes-more : (old b new : List ℕ) (room space : ℕ) → room ≤ space → Takes room old b new → Takes space old b new
-unfolding takes-allowed allowed-more
-takes-more old b new room space h a =
-    subst (Takes space old b) (sym (a .made)) (allowed-takes old b space (allowed-more old b room space h (takes-allowed old b new room a)))
+  -- a step is allowed: it is lawful, and afterwards the holding is not longer than its buffer
+  pub record StepAllowed (room : ℕ) (st : List Rec) (c : Change Rec) : Type 0 where
+    pub lawful : StepLawful st c
+    pub roomy : T (fits room (after (keyed F) st c))
 
--- ---- a refusal
+  -- each step is allowed where the steps before it lead
+  abbrev pub StepsAllowed : ℕ → List Rec → List (Change Rec) → Type 0
+  StepsAllowed room = Each (after (keyed F)) (StepAllowed room)
 
--- a refusal leaves zeros, and the three counts are 0
-pub refused-zeros : (old b : List ℕ) (room : ℕ) → (apply old b room .answer .code ≡ 0 → ⊥)
-    → (apply old b room .output ≡ zeros room) × (apply old b room .answer .inserts ≡ 0) × (apply old b room .answer .updates ≡ 0) × (apply old b room .answer .deletes ≡ 0)
-unfolding apply applied
-refused-zeros old b room n = go (load room old b) n
-  where
-    go : (x : Answer) → (applied room x .answer .code ≡ 0 → ⊥)
-        → (applied room x .output ≡ zeros room) × (applied room x .answer .inserts ≡ 0) × (applied room x .answer .updates ≡ 0) × (applied room x .answer .deletes ≡ 0)
-    go (took new i u d) n = absurd (n refl)
-    go (refused c l f) n = (refl, refl, refl, refl)
+  allowed-ok : (room : ℕ) (st : List Rec) (c : Change Rec) → StepAllowed room st c → judge (keyed F) (always F ++ late room) st c ≡ none
+  unfolding fits
+  allowed-ok room st c s =
+      let st2 = after (keyed F) st c in
+      let r = and-in (leb (length (written st2)) room) true (s .roomy) tt in
+      let l = s .lawful in
+      judge-ok (keyed F) (always F ++ late room) st c (l .keyed?) (and-in (few st2) _ (l .fewRecords) (and-in (met (keyed F) (refsOf F) st2) _ (l .references) r))
 
--- ---- what follows for the new holding
+  ok-allowed : (room : ℕ) (st : List Rec) (c : Change Rec) → judge (keyed F) (always F ++ late room) st c ≡ none → StepAllowed room st c
+  unfolding fits
+  ok-allowed room st c e =
+      let st2 = after (keyed F) st c in
+      let a = ok-judge (keyed F) (always F ++ late room) st c e in
+      let q = and-r (few st2) _ (a .1) in
+      let r = and-r (met (keyed F) (refsOf F) st2) _ q in
+      record {
+        lawful = record { keyed? = a .0; fewRecords = and-l (few st2) _ (a .1); references = and-l (met (keyed F) (refsOf F) st2) _ q };
+        roomy = and-l (leb (length (written st2)) room) true r;
+      }
 
--- records that may stand at any time: each key once and in order, every reference met, at most 8,192, and not longer than the buffer
-pub record Whole (room : ℕ) (st : List Rec) : Type 0 where
-  pub ascending : Asc keyed st
-  pub references : T (met keyed refsOf st)
-  pub fewRecords : T (few st)
-  pub roomy : T (fits room st)
+  steps-ok : (room : ℕ) (st : List Rec) (cs : List (Change Rec)) → StepsAllowed room st cs → Taken (keyed F) (always F ++ late room) st cs
+  steps-ok room st [] s = tt
+  steps-ok room st (c ∷ cs) s = (allowed-ok room st c (s .0), steps-ok room (after (keyed F) st c) cs (s .1))
 
-good-whole : (room : ℕ) (st : List Rec) → Good keyed (always ++ late room) st → Whole room st
-unfolding fits
-good-whole room st g =
-    let q = and-r (few st) _ (g .pass) in
-    record {
-      ascending = g .asc;
-      references = and-l (met keyed refsOf st) _ q;
-      fewRecords = and-l (few st) _ (g .pass);
-      roomy = and-l (leb (length (written st)) room) true (and-r (met keyed refsOf st) _ q);
+  ok-steps : (room : ℕ) (st : List Rec) (cs : List (Change Rec)) → Taken (keyed F) (always F ++ late room) st cs → StepsAllowed room st cs
+  ok-steps room st [] s = tt
+  ok-steps room st (c ∷ cs) s = (ok-allowed room st c (s .0), ok-steps room (after (keyed F) st c) cs (s .1))
+
+  -- ---- all is allowed
+
+  -- everything is allowed: the holding is sound, every line of the file is allowed at its place, there is room at the start, and every step is allowed
+  pub record Allowed (old b : List ℕ) (room : ℕ) : Type 0 where
+    pub st : List Rec
+    pub fr : Frame
+    pub cs : List (Change Rec)
+    pub held : SoundHolding F old st
+    pub lines : SoundFile F b fr cs
+    pub starts : T (fits room st)
+    pub steps : StepsAllowed room st cs
+
+  -- the records afterwards
+  abbrev pub afterAll : {old b : List ℕ} {room : ℕ} → Allowed old b room → List Rec
+  afterAll a = final (after (keyed F)) (a .st) (a .cs)
+
+  -- ---- all is lawful, where a sound holding and buffers with room at every step are given
+
+  -- every line of the file is allowed at its place, and every step is lawful over the records st
+  pub record Lawful (st : List Rec) (b : List ℕ) : Type 0 where
+    pub fr : Frame
+    pub cs : List (Change Rec)
+    pub lines : SoundFile F b fr cs
+    pub steps : Each (after (keyed F)) StepLawful st cs
+
+  -- there is room before the first step and after each
+  abbrev pub Roomy : ℕ → List Rec → List ℕ → Type 0
+  Roomy room st b = (fr : Frame) (cs : List (Change Rec)) → SoundFile F b fr cs → Through (after (keyed F)) (λ s. T (fits room s)) st cs
+
+  steps-lawful : (room : ℕ) (st : List Rec) (cs : List (Change Rec)) → StepsAllowed room st cs → Each (after (keyed F)) StepLawful st cs
+  steps-lawful room st [] s = tt
+  steps-lawful room st (c ∷ cs) s = (s .0 .lawful, steps-lawful room (after (keyed F) st c) cs (s .1))
+
+  through-first : (room : ℕ) (st : List Rec) (cs : List (Change Rec)) → Through (after (keyed F)) (λ s. T (fits room s)) st cs → T (fits room st)
+  through-first room st [] r = r
+  through-first room st (c ∷ cs) r = r .0
+
+  lawful-steps : (room : ℕ) (st : List Rec) (cs : List (Change Rec)) → Each (after (keyed F)) StepLawful st cs → Through (after (keyed F)) (λ s. T (fits room s)) st cs
+      → StepsAllowed room st cs
+  lawful-steps room st [] s r = tt
+  lawful-steps room st (c ∷ cs) s r =
+      let st2 = after (keyed F) st c in
+      (record { lawful = s .0; roomy = through-first room st2 cs (r .1) }, lawful-steps room st2 cs (s .1) (r .1))
+
+  -- ---- a longer buffer
+
+  steps-more : (room space : ℕ) (st : List Rec) (cs : List (Change Rec)) → room ≤ space → StepsAllowed room st cs → StepsAllowed space st cs
+  steps-more room space st [] h s = tt
+  steps-more room space st (c ∷ cs) h s =
+      let st2 = after (keyed F) st c in
+      (record { lawful = s .0 .lawful; roomy = fits-more room space st2 h (s .0 .roomy) }, steps-more room space st2 cs h (s .1))
+
+  -- what is allowed is allowed with a longer buffer, and comes to the same records
+  pub allowed-more : (old b : List ℕ) (room space : ℕ) → room ≤ space → Allowed old b room → Allowed old b space
+  allowed-more old b room space h a = record {
+    st = a .st;
+    fr = a .fr;
+    cs = a .cs;
+    held = a .held;
+    lines = a .lines;
+    starts = fits-more room space (a .st) h (a .starts);
+    steps = steps-more room space (a .st) (a .cs) h (a .steps);
+  }
+
+  -- ---- a refusal
+
+  -- a refusal leaves zeros, and the three counts are 0
+  pub refused-zeros : (old b : List ℕ) (room : ℕ) → (apply F old b room .answer .code ≡ 0 → ⊥)
+      → (apply F old b room .output ≡ zeros room) × (apply F old b room .answer .inserts ≡ 0) × (apply F old b room .answer .updates ≡ 0) × (apply F old b room .answer .deletes ≡ 0)
+  unfolding apply applied
+  refused-zeros old b room n = go (load F room old b) n
+    where
+      go : (x : Answer) → (applied room x .answer .code ≡ 0 → ⊥)
+          → (applied room x .output ≡ zeros room) × (applied room x .answer .inserts ≡ 0) × (applied room x .answer .updates ≡ 0) × (applied room x .answer .deletes ≡ 0)
+      go (took new i u d) n = absurd (n refl)
+      go (refused c l f) n = (refl, refl, refl, refl)
+
+  -- ---- the states of a run
+
+  -- records that may stand at any time: each key once and in order, every reference met, at most 8,192, and not longer than the buffer
+  pub record Whole (room : ℕ) (st : List Rec) : Type 0 where
+    pub ascending : Asc (keyed F) st
+    pub references : T (met (keyed F) (refsOf F) st)
+    pub fewRecords : T (few st)
+    pub roomy : T (fits room st)
+
+  good-whole : (room : ℕ) (st : List Rec) → Good (keyed F) (always F ++ late room) st → Whole room st
+  unfolding fits
+  good-whole room st g =
+      let q = and-r (few st) _ (g .pass) in
+      record {
+        ascending = g .asc;
+        references = and-l (met (keyed F) (refsOf F) st) _ q;
+        fewRecords = and-l (few st) _ (g .pass);
+        roomy = and-l (leb (length (written st)) room) true (and-r (met (keyed F) (refsOf F) st) _ q);
+      }
+
+  through-map : (P Q : List Rec → Type 0) → ((s : List Rec) → P s → Q s) → (st : List Rec) (cs : List (Change Rec)) → Through (after (keyed F)) P st cs → Through (after (keyed F)) Q st cs
+  through-map P Q f st [] t = f st t
+  through-map P Q f st (c ∷ cs) t = (f st (t .0), through-map P Q f (after (keyed F) st c) cs (t .1))
+
+  module _ (regular : Regular F) where
+    -- ---- taken exactly if all is allowed
+
+    -- where all is allowed the file is taken
+    pub allowed-takes : (old b : List ℕ) (room : ℕ) (a : Allowed old b room) → Takes F regular room old b (written (afterAll a))
+    unfolding heldRecords fits
+    allowed-takes old b room a = record {
+      st = a .st;
+      fr = a .fr;
+      cs = a .cs;
+      held = ap heldRecords (sound-held F regular old (a .st) (a .held));
+      read = sound-read F b (a .fr) (a .cs) (a .lines);
+      starts = and-in (leb (length (written (a .st))) room) true (a .starts) tt;
+      takes = steps-ok room (a .st) (a .cs) (a .steps);
+      made = refl;
     }
 
-through-map : (P Q : List Rec → Type 0) → ((s : List Rec) → P s → Q s) → (st : List Rec) (cs : List (Change Rec)) → Through (after keyed) P st cs → Through (after keyed) Q st cs
-through-map P Q f st [] t = f st t
-through-map P Q f st (c ∷ cs) t = (f st (t .0), through-map P Q f (after keyed st c) cs (t .1))
+    -- and where the file is taken all is allowed
+    pub takes-allowed : (old b new : List ℕ) (room : ℕ) → Takes F regular room old b new → Allowed old b room
+    unfolding fits
+    takes-allowed old b new room a = record {
+      st = a .st;
+      fr = a .fr;
+      cs = a .cs;
+      held = held-is-sound F regular old (a .st) (held-sound old (a .st) (readHolding F old) (a .held));
+      lines = read-sound F b (a .fr) (a .cs) (a .read);
+      starts = and-l (leb (length (written (a .st))) room) true (a .starts);
+      steps = ok-steps room (a .st) (a .cs) (a .takes);
+    }
 
-module _ (old b : List ℕ) (room : ℕ) (a : Allowed old b room) where
-  -- the file is taken
-  abbrev pub takes : Takes room old b (written (afterAll a))
-  takes = allowed-takes old b room a
+    -- where all is allowed: 0, the counts of the body lines, and the new holding, then zeros
+    pub allowed-done : (old b : List ℕ) (room : ℕ) (a : Allowed old b room)
+        → apply F old b room ≡ record { answer = six 0 0 0 (count ins (a .cs)) (count upd (a .cs)) (count del (a .cs)); output = filled room (written (afterAll a)) }
+    unfolding allowed-takes
+    allowed-done old b room a = taken F regular room old b (written (afterAll a)) (allowed-takes old b room a)
 
-  -- at every state of the run each key stands once and in order, every reference is met, and there is room
-  pub at-every-state : Through (after keyed) (Whole room) (a .st) (a .cs)
-  unfolding allowed-takes
-  at-every-state =
-      through-map (Good keyed (always ++ late room)) (Whole room) (good-whole room) (a .st) (a .cs)
-      (good-through keyed (always ++ late room) (a .st) (a .cs) (good-old room old b (written (afterAll a)) takes) (takes .takes))
+    -- the answer is 0 only where all is allowed
+    pub done-allowed : (old b : List ℕ) (room : ℕ) → apply F old b room .answer .code ≡ 0 → Allowed old b room
+    unfolding apply applied
+    done-allowed old b room e = go (load F room old b) (took-takes F regular room old b) (load-in F regular room old b) e
+      where
+        go : (x : Answer) → TookSays F regular room old b x → AnswerIn x → applied room x .answer .code ≡ 0 → Allowed old b room
+        go (took new i u d) t n e = takes-allowed old b new room t
+        go (refused c l f) t n e = absurd (unfold among in subst (λ z. T (among z loadCodes)) e n)
 
-  -- at a key stands what the last line naming it says
-  pub last-line : (k : List ℕ) → get keyed k (afterAll a) ≡ last keyed k (a .cs) (get keyed k (a .st))
-  last-line k = get-final keyed k (a .st) (a .cs) (a .held .ascending)
+    -- a file is taken exactly if every line is allowed at its place and every step is allowed
+    pub taken-exactly : (old b : List ℕ) (room : ℕ) → (apply F old b room .answer .code ≡ 0 → Allowed old b room) × (Allowed old b room → apply F old b room .answer .code ≡ 0)
+    taken-exactly old b room = (done-allowed old b room, λ a. ap (λ x. x .answer .code) (allowed-done old b room a))
 
-  -- a key that no line names keeps its content byte for byte
-  pub unnamed : (k : List ℕ) → T (free keyed k (a .cs)) → get keyed k (afterAll a) ≡ get keyed k (a .st)
-  unnamed k f = frame keyed k (a .st) (a .cs) (a .held .ascending) f
+    -- with a sound holding and room at every step, a file is taken exactly if every line and every step is lawful
+    pub lawful-exactly : (old b : List ℕ) (room : ℕ) (st : List Rec) → SoundHolding F old st → Roomy room st b → (apply F old b room .answer .code ≡ 0) ↔ Lawful st b
+    lawful-exactly old b room st h r = (
+      λ e.
+          let a = done-allowed old b room e in
+          let q = subst (λ s. StepsAllowed room s (a .cs)) (held-only F regular old (a .st) st (a .held) h) (a .steps) in
+          record { fr = a .fr; cs = a .cs; lines = a .lines; steps = steps-lawful room st (a .cs) q },
+      λ l.
+          let t = r (l .fr) (l .cs) (l .lines) in
+          taken-exactly old b room .1
+          (record {
+            st = st;
+            fr = l .fr;
+            cs = l .cs;
+            held = h;
+            lines = l .lines;
+            starts = through-first room st (l .cs) t;
+            steps = lawful-steps room st (l .cs) (l .steps) t;
+          }),
+    )
 
-  -- the new holding is sound
-  pub new-sound : SoundHolding (written (afterAll a)) (afterAll a)
-  unfolding allowed-takes
-  new-sound =
-      let new = written (afterAll a) in
-      held-is-sound new (afterAll a) (held-sound new (afterAll a) (readHolding new) (new-held room old b new takes))
+    -- ---- a longer buffer, and what follows for the new holding
+
+    -- a file that is taken is taken with a longer buffer, and gives the same holding
+    pub takes-more : (old b new : List ℕ) (room space : ℕ) → room ≤ space → Takes F regular room old b new → Takes F regular space old b new
+    unfolding takes-allowed allowed-more
+    takes-more old b new room space h a =
+        subst (Takes F regular space old b) (sym (a .made)) (allowed-takes old b space (allowed-more old b room space h (takes-allowed old b new room a)))
+
+    module _ (old b : List ℕ) (room : ℕ) (a : Allowed old b room) where
+      -- the file is taken
+      abbrev pub takes : Takes F regular room old b (written (afterAll a))
+      takes = allowed-takes old b room a
+
+      -- at every state of the run each key stands once and in order, every reference is met, and there is room
+      pub at-every-state : Through (after (keyed F)) (Whole room) (a .st) (a .cs)
+      unfolding allowed-takes
+      at-every-state =
+          through-map (Good (keyed F) (always F ++ late room)) (Whole room) (good-whole room) (a .st) (a .cs)
+          (good-through (keyed F) (always F ++ late room) (a .st) (a .cs) (good-old F regular room old b (written (afterAll a)) takes) (takes .takes))
+
+      -- at a key stands what the last line naming it says
+      pub last-line : (k : List ℕ) → get (keyed F) k (afterAll a) ≡ last (keyed F) k (a .cs) (get (keyed F) k (a .st))
+      last-line k = get-final (keyed F) k (a .st) (a .cs) (a .held .ascending)
+
+      -- a key that no line names keeps its content byte for byte
+      pub unnamed : (k : List ℕ) → T (free (keyed F) k (a .cs)) → get (keyed F) k (afterAll a) ≡ get (keyed F) k (a .st)
+      unnamed k f = frame (keyed F) k (a .st) (a .cs) (a .held .ascending) f
+
+      -- the new holding is sound
+      pub new-sound : SoundHolding F (written (afterAll a)) (afterAll a)
+      unfolding allowed-takes
+      new-sound =
+          let new = written (afterAll a) in
+          held-is-sound F regular new (afterAll a) (held-sound new (afterAll a) (readHolding F new) (new-held F regular room old b new takes))

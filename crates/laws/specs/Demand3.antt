@@ -13,10 +13,12 @@ use Rattle.theory.specs.Trail.{final, undo}
 use Rattle.theory.specs.Answer.{file, Answer, took, refused, count, isOp}
 use Rattle.theory.specs.TrailLaws.{length-undo}
 use Rattle.theory.specs.RunLaws.{fine-undo}
+use Rattle.meaning.specs.Format.{Format}
 use Rattle.meaning.specs.Records.{Rec, keyed, changeTexts}
 use Rattle.meaning.specs.File.{Frame, readFile, writeFile}
 use Rattle.meaning.specs.Holding.{readHolding, written}
 use Rattle.meaning.specs.Load.{load, undoBytes, six, filled, checked, checkFile, Undone, undone, undoFile, undoSheet, undoHeld}
+use Rattle.laws.specs.Regular.{Regular}
 use Rattle.laws.specs.LinesAndFields.{endsAll, unlines, lines-join, unlines-ends}
 use Rattle.laws.specs.Body.{fine}
 use Rattle.laws.specs.SoundHolding.{held-sound}
@@ -26,8 +28,6 @@ use Rattle.laws.specs.LoadRefusals.{loadCodes, AnswerIn, load-in}
 use Rattle.laws.specs.FileReadBack.{suits, file-reads, file-says}
 use Rattle.laws.specs.Takes.{Takes, load-took, TookSays, took-takes, met-old}
 use Rattle.laws.specs.Demand2.{takes-more}
-
--- ---- the undo's bytes
 
 sum-append : {X : Type 0} (w : X → ℕ) (xs ys : List X) → sum w (xs ++ ys) ≡ sum w xs + sum w ys
 sum-append w [] ys = omega arith
@@ -44,100 +44,108 @@ op-inv del ins = refl
 op-inv del upd = refl
 op-inv del del = refl
 
-count-undo : (o : Op) (st : List Rec) (cs : List (Change Rec)) → count o (undo (after keyed) (back keyed) st cs) ≡ count (inv o) cs
-unfolding count back
-count-undo o st [] = refl
-count-undo o st (c ∷ cs) =
-    sum-append (λ c. isOp o (c .op)) (undo (after keyed) (back keyed) (after keyed st c) cs) (back keyed st c ∷ [])
-    ∙ omega (arith, count-undo o (after keyed st c) cs, op-inv o (c .op))
+module _ (F : Format) where
+  -- ---- what the undo counts
 
-module _ (room : ℕ) (old b new : List ℕ) (a : Takes room old b new) where
-  -- the steps backwards
-  abbrev pub stepsBack : List (Change Rec)
-  stepsBack = undo (after keyed) (back keyed) (a .st) (a .cs)
+  count-undo : (o : Op) (st : List Rec) (cs : List (Change Rec)) → count o (undo (after (keyed F)) (back (keyed F)) st cs) ≡ count (inv o) cs
+  unfolding count back
+  count-undo o st [] = refl
+  count-undo o st (c ∷ cs) =
+      sum-append (λ c. isOp o (c .op)) (undo (after (keyed F)) (back (keyed F)) (after (keyed F) st c) cs) (back (keyed F) st c ∷ [])
+      ∙ omega (arith, count-undo o (after (keyed F) st c) cs, op-inv o (c .op))
 
-  -- the undo's bytes are the file's header, metadata and trailer around the steps backwards
-  pub undo-is : undoBytes old b ≡ writeFile (a .fr) stepsBack
-  unfolding undoBytes undoHeld undoSheet
-  undo-is = rw (held-sound old (a .st) (readHolding old) (a .held), a .read)
+  -- ---- an empty body
 
-  -- and they are read as that
-  pub undo-reads : readFile (undoBytes old b) ≡ file (a .fr, stepsBack)
-  undo-reads =
-      let f = file-says b (a .fr) (a .cs) (a .read) in
-      let s : T (suits (a .fr) (length stepsBack)) = rw (length-undo (after keyed) (back keyed) (a .st) (a .cs)) (f .0) in
-      rw undo-is (file-reads (a .fr) stepsBack s (fine-undo keyed fine (a .st) (a .cs) (met-old room old b new a .1 .fines) (f .1)))
+  no-texts : (n : ℕ) (ts : List (List ℕ)) → SaysChanges F n ts [] → ts ≡ []
+  no-texts n [] s = refl
+  no-texts n (t ∷ ts) s = absurd s
 
-  -- the undo is a sound file
-  pub undo-sound : SoundFile (undoBytes old b) (a .fr) stepsBack
-  undo-sound = read-sound (undoBytes old b) (a .fr) stepsBack undo-reads
+  empty-file : (b : List ℕ) (fr : Frame) → SoundFile F b fr [] → b ≡ writeFile fr []
+  unfolding writeFile changeTexts
+  empty-file b fr s =
+      let around : List (List ℕ) → List (List ℕ) = λ ts. fr .headerText ∷ (ts ++ (fr .metadataText ∷ fr .trailerText ∷ [])) in
+      sym (lines-join b) ∙ ap unlines (s .lines ∙ ap (λ ts. endsAll (around ts)) (no-texts 1 (s .texts) (s .body))) ∙ unlines-ends (around [])
 
-  -- the check of it answers the file's counts with inserts and deletes exchanged
-  pub undo-checks : checkFile (undoBytes old b) ≡ six 0 0 0 (count del (a .cs)) (count upd (a .cs)) (count ins (a .cs))
-  unfolding checkFile checked
-  undo-checks = rw (undo-reads, count-undo ins (a .st) (a .cs), count-undo upd (a .st) (a .cs), count-undo del (a .st) (a .cs))
+  module _ (regular : Regular F) where
+    -- ---- the undo's bytes
 
--- ---- an empty body: the holding is unchanged and the undo is the file itself
+    module _ (room : ℕ) (old b new : List ℕ) (a : Takes F regular room old b new) where
+      -- the steps backwards
+      abbrev pub stepsBack : List (Change Rec)
+      stepsBack = undo (after (keyed F)) (back (keyed F)) (a .st) (a .cs)
 
-no-texts : (n : ℕ) (ts : List (List ℕ)) → SaysChanges n ts [] → ts ≡ []
-no-texts n [] s = refl
-no-texts n (t ∷ ts) s = absurd s
+      -- the undo's bytes are the file's header, metadata and trailer around the steps backwards
+      pub undo-is : undoBytes F old b ≡ writeFile (a .fr) stepsBack
+      unfolding undoBytes undoHeld undoSheet
+      undo-is = rw (held-sound old (a .st) (readHolding F old) (a .held), a .read)
 
-empty-file : (b : List ℕ) (fr : Frame) → SoundFile b fr [] → b ≡ writeFile fr []
-unfolding writeFile changeTexts
-empty-file b fr s =
-    let around : List (List ℕ) → List (List ℕ) = λ ts. fr .headerText ∷ (ts ++ (fr .metadataText ∷ fr .trailerText ∷ [])) in
-    sym (lines-join b) ∙ ap unlines (s .lines ∙ ap (λ ts. endsAll (around ts)) (no-texts 1 (s .texts) (s .body))) ∙ unlines-ends (around [])
+      -- and they are read as that
+      pub undo-reads : readFile F (undoBytes F old b) ≡ file (a .fr, stepsBack)
+      undo-reads =
+          let f = file-says F regular b (a .fr) (a .cs) (a .read) in
+          let s : T (suits F (a .fr) (length stepsBack)) = rw (length-undo (after (keyed F)) (back (keyed F)) (a .st) (a .cs)) (f .0) in
+          rw undo-is (file-reads F regular (a .fr) stepsBack s (fine-undo (keyed F) (fine F) (a .st) (a .cs) (met-old F regular room old b new a .1 .fines) (f .1)))
 
--- a file without body lines leaves the holding as it is, and is its own undo
-pub empty-body : (room : ℕ) (old b new : List ℕ) (a : Takes room old b new) → a .cs ≡ [] → (new ≡ old) × (undoBytes old b ≡ b)
-empty-body room old b new a e =
-    let s : SoundFile b (a .fr) [] = subst (SoundFile b (a .fr)) e (read-sound b (a .fr) (a .cs) (a .read)) in (
-      a .made ∙ ap (λ cs. written (final (after keyed) (a .st) cs)) e ∙ sym (met-old room old b new a .0),
-      undo-is room old b new a ∙ ap (λ cs. writeFile (a .fr) (undo (after keyed) (back keyed) (a .st) cs)) e ∙ sym (empty-file b (a .fr) s),
-    )
+      -- the undo is a sound file
+      pub undo-sound : SoundFile F (undoBytes F old b) (a .fr) stepsBack
+      undo-sound = read-sound F (undoBytes F old b) (a .fr) stepsBack undo-reads
 
--- ---- one file and its undo
+      -- the check of it answers the file's counts with inserts and deletes exchanged
+      pub undo-checks : checkFile F (undoBytes F old b) ≡ six 0 0 0 (count del (a .cs)) (count upd (a .cs)) (count ins (a .cs))
+      unfolding checkFile checked
+      undo-checks = rw (undo-reads, count-undo ins (a .st) (a .cs), count-undo upd (a .st) (a .cs), count-undo del (a .st) (a .cs))
 
--- undo of a taken file, with a work buffer in which the file would be taken: only 17 can refuse it
-pub undo-answers : (room space : ℕ) (old b new : List ℕ) (a : Takes space old b new)
-    → undoFile old b room space ≡ pick (leb (length (undoBytes old b)) room)
-    (record { answer = six 0 0 0 (count ins (a .cs)) (count upd (a .cs)) (count del (a .cs)); output = filled room (undoBytes old b); work = zeros space })
-    (record { answer = six 17 0 0 0 0 0; output = zeros room; work = zeros space })
-unfolding undoFile undone
-undo-answers room space old b new a = rw (load-took space old b new a)
+    -- ---- an empty body: the holding is unchanged and the undo is the file itself
 
--- undo answers 0 only where the file would be taken with a buffer as long as the work buffer
-undo-taken : (old b : List ℕ) (out space : ℕ) → undoFile old b out space .answer .code ≡ 0 → (new : List ℕ) × Takes space old b new
-unfolding undoFile undone
-undo-taken old b out space e = go (load space old b) (took-takes space old b) (load-in space old b) e
-  where
-    go : (x : Answer) → TookSays space old b x → AnswerIn x → undone out space (undoBytes old b) x .answer .code ≡ 0 → (new : List ℕ) × Takes space old b new
-    go (took new i u d) t n e = (new, t)
-    go (refused c l f) t n e = absurd (unfold among in subst (λ z. T (among z loadCodes)) e n)
+    -- a file without body lines leaves the holding as it is, and is its own undo
+    pub empty-body : (room : ℕ) (old b new : List ℕ) (a : Takes F regular room old b new) → a .cs ≡ [] → (new ≡ old) × (undoBytes F old b ≡ b)
+    empty-body room old b new a e =
+        let s : SoundFile F b (a .fr) [] = subst (SoundFile F b (a .fr)) e (read-sound F b (a .fr) (a .cs) (a .read)) in (
+          a .made ∙ ap (λ cs. written (final (after (keyed F)) (a .st) cs)) e ∙ sym (met-old F regular room old b new a .0),
+          undo-is room old b new a ∙ ap (λ cs. writeFile (a .fr) (undo (after (keyed F)) (back (keyed F)) (a .st) cs)) e ∙ sym (empty-file b (a .fr) s),
+        )
 
--- then it counts the file's body lines, and the undo fits its output
-pub undo-done : (old b : List ℕ) (out space : ℕ) → undoFile old b out space .answer .code ≡ 0
-    → (new : List ℕ)
-    × (a : Takes space old b new)
-    × (undoFile old b out space .answer ≡ six 0 0 0 (count ins (a .cs)) (count upd (a .cs)) (count del (a .cs)))
-    × (length (undoBytes old b) ≤ out)
-undo-done old b out space e =
-    let w = undo-taken old b out space e in
-    let q = go (leb (length (undoBytes old b)) out) refl _ _ (undo-answers out space old b (w .0) (w .1)) refl in
-    (w .0, w .1, q .0, q .1)
-  where
-    go : (c : Bool) → leb (length (undoBytes old b)) out ≡ c → (x y : Undone) → undoFile old b out space ≡ pick c x y → y .answer .code ≡ 17
-        → (undoFile old b out space .answer ≡ x .answer) × (length (undoBytes old b) ≤ out)
-    go true l x y q z = (ap (λ u. u .answer) q, leb→le (length (undoBytes old b)) out (rw l tt))
-    go false l x y q z = absurd (omega (arith, e, ap (λ u. u .answer .code) q, z))
+    -- ---- one file and its undo
 
--- with a work buffer as long as the output of apply or longer: 17 exactly if the undo is longer than its output
-pub undo-only-17 : (room out space : ℕ) (old b new : List ℕ) → Takes room old b new → room ≤ space
-    → undoFile old b out space .answer .code ≡ pick (leb (length (undoBytes old b)) out) 0 17
-undo-only-17 room out space old b new a h =
-    ap (λ x. x .answer .code) (undo-answers out space old b new (takes-more old b new room space h a)) ∙ go (leb (length (undoBytes old b)) out) _ _
-  where
-    go : (c : Bool) (x y : Undone) → pick c x y .answer .code ≡ pick c (x .answer .code) (y .answer .code)
-    go true x y = refl
-    go false x y = refl
+    -- undo of a taken file, with a work buffer in which the file would be taken: only 17 can refuse it
+    pub undo-answers : (room space : ℕ) (old b new : List ℕ) (a : Takes F regular space old b new)
+        → undoFile F old b room space ≡ pick (leb (length (undoBytes F old b)) room)
+        (record { answer = six 0 0 0 (count ins (a .cs)) (count upd (a .cs)) (count del (a .cs)); output = filled room (undoBytes F old b); work = zeros space })
+        (record { answer = six 17 0 0 0 0 0; output = zeros room; work = zeros space })
+    unfolding undoFile undone
+    undo-answers room space old b new a = rw (load-took F regular space old b new a)
+
+    -- undo answers 0 only where the file would be taken with a buffer as long as the work buffer
+    undo-taken : (old b : List ℕ) (out space : ℕ) → undoFile F old b out space .answer .code ≡ 0 → (new : List ℕ) × Takes F regular space old b new
+    unfolding undoFile undone
+    undo-taken old b out space e = go (load F space old b) (took-takes F regular space old b) (load-in F regular space old b) e
+      where
+        go : (x : Answer) → TookSays F regular space old b x → AnswerIn x → undone out space (undoBytes F old b) x .answer .code ≡ 0 → (new : List ℕ) × Takes F regular space old b new
+        go (took new i u d) t n e = (new, t)
+        go (refused c l f) t n e = absurd (unfold among in subst (λ z. T (among z loadCodes)) e n)
+
+    -- then it counts the file's body lines, and the undo fits its output
+    pub undo-done : (old b : List ℕ) (out space : ℕ) → undoFile F old b out space .answer .code ≡ 0
+        → (new : List ℕ)
+        × (a : Takes F regular space old b new)
+        × (undoFile F old b out space .answer ≡ six 0 0 0 (count ins (a .cs)) (count upd (a .cs)) (count del (a .cs)))
+        × (length (undoBytes F old b) ≤ out)
+    undo-done old b out space e =
+        let w = undo-taken old b out space e in
+        let q = go (leb (length (undoBytes F old b)) out) refl _ _ (undo-answers out space old b (w .0) (w .1)) refl in
+        (w .0, w .1, q .0, q .1)
+      where
+        go : (c : Bool) → leb (length (undoBytes F old b)) out ≡ c → (x y : Undone) → undoFile F old b out space ≡ pick c x y → y .answer .code ≡ 17
+            → (undoFile F old b out space .answer ≡ x .answer) × (length (undoBytes F old b) ≤ out)
+        go true l x y q z = (ap (λ u. u .answer) q, leb→le (length (undoBytes F old b)) out (rw l tt))
+        go false l x y q z = absurd (omega (arith, e, ap (λ u. u .answer .code) q, z))
+
+    -- with a work buffer as long as the output of apply or longer: 17 exactly if the undo is longer than its output
+    pub undo-only-17 : (room out space : ℕ) (old b new : List ℕ) → Takes F regular room old b new → room ≤ space
+        → undoFile F old b out space .answer .code ≡ pick (leb (length (undoBytes F old b)) out) 0 17
+    undo-only-17 room out space old b new a h =
+        ap (λ x. x .answer .code) (undo-answers out space old b new (takes-more F regular old b new room space h a)) ∙ go (leb (length (undoBytes F old b)) out) _ _
+      where
+        go : (c : Bool) (x y : Undone) → pick c x y .answer .code ≡ pick c (x .answer .code) (y .answer .code)
+        go true x y = refl
+        go false x y = refl

@@ -8,7 +8,8 @@ use lib.ListN.{length}
 use Rattle.theory.specs.Step.{Change}
 use Rattle.theory.specs.Answer.{Read, fault, file}
 use Rattle.meaning.specs.Lines.{Line, linesOf}
-use Rattle.meaning.specs.Table.{Kind, Role, bodyLine, role}
+use Rattle.meaning.specs.Kinds.{Kind, Role, bodyLine, role}
+use Rattle.meaning.specs.Format.{Format}
 use Rattle.meaning.specs.Records.{Rec}
 use Rattle.meaning.specs.File.{Place, Judged, bad, good, judgeLine, Sheet, adds, bodyAfter, atStart, inBody, afterMetadata, afterTrailer, atEnd, onLine, readFrom, readFile, mostBody}
 use Rattle.laws.specs.LinesAndFields.{ends, endsAll}
@@ -31,21 +32,7 @@ unfolding onLine
 at-line i m t go h (bad f) = (omega arith, omega arith, λ e. absurd (omega (arith, e)))
 at-line i m t go h (good k q) = at-adds i m (role k) k t (go k q) (h k q)
 
-fault-at : (i : ℕ) (p : Place) (n : ℕ) (ls : List Line) → FaultAt i (length ls) (readFrom i p n ls)
-unfolding readFrom atEnd
-fault-at i atStart n [] = (omega arith, omega arith, λ e. refl)
-fault-at i inBody n [] = (omega arith, omega arith, λ e. refl)
-fault-at i afterMetadata n [] = (omega arith, omega arith, λ e. refl)
-fault-at i afterTrailer n [] = tt
-fault-at i p n (l ∷ ls) =
-    at-line i (length ls) (l .text) (λ k q. readFrom (suc i) q (bodyAfter (role k) n) ls) (λ k q. fault-at (suc i) q (bodyAfter (role k) n) ls) (judgeLine p n l)
-
--- a file's fault is at one of its lines; 3 may be at the line after its last
-pub file-fault-at : (b : List ℕ) → FaultAt 1 (length (linesOf b)) (readFile b)
-unfolding readFile
-file-fault-at b = fault-at 1 atStart 0 (linesOf b)
-
--- ---- nothing after the first fault counts
+-- ---- faults that are the same
 
 -- one read's fault before line i is the other's too
 abbrev pub SameFault : ℕ → Read Sheet → Read Sheet → Type 0
@@ -67,35 +54,52 @@ early : (i : ℕ) (r s : Read Sheet) (m : ℕ) → FaultAt i m r → SameFault i
 early i (fault c l f) s m h = λ lt. absurd (omega (arith, h .0, lt))
 early i (file x) s m h = tt
 
--- files that agree in their first lines have the same fault, where it is at one of those
-pub nothing-after : (i : ℕ) (p : Place) (n : ℕ) (ls ms ns : List Line) → SameFault (i + length ls) (readFrom i p n (ls ++ ms)) (readFrom i p n (ls ++ ns))
-unfolding readFrom
-nothing-after i p n [] ms ns =
-    let a = readFrom i p n ms in
-    let b = readFrom i p n ns in
-    subst (λ e. SameFault e a b) (sym (add-zero i)) (early i a b (length ms) (fault-at i p n ms))
-nothing-after i p n (l ∷ ls) ms ns =
-    let go : List Line → Kind → Place → Read Sheet = λ xs k q. readFrom (suc i) q (bodyAfter (role k) n) (ls ++ xs) in
-    let e : suc i + length ls ≡ i + suc (length ls) = omega arith in
-    same-line i (i + suc (length ls)) (l .text) (go ms) (go ns)
-    (λ k q. subst (λ e. SameFault e (go ms k q) (go ns k q)) e (nothing-after (suc i) q (bodyAfter (role k) n) ls ms ns)) (judgeLine p n l)
+module _ (F : Format) where
+  -- ---- nothing after the first fault counts
 
--- ---- past sound body lines
+  fault-at : (i : ℕ) (p : Place) (n : ℕ) (ls : List Line) → FaultAt i (length ls) (readFrom F i p n ls)
+  unfolding readFrom atEnd
+  fault-at i atStart n [] = (omega arith, omega arith, λ e. refl)
+  fault-at i inBody n [] = (omega arith, omega arith, λ e. refl)
+  fault-at i afterMetadata n [] = (omega arith, omega arith, λ e. refl)
+  fault-at i afterTrailer n [] = tt
+  fault-at i p n (l ∷ ls) =
+      at-line i (length ls) (l .text) (λ k q. readFrom F (suc i) q (bodyAfter (role k) n) ls) (λ k q. fault-at (suc i) q (bodyAfter (role k) n) ls) (judgeLine F p n l)
 
-past-line : (i n : ℕ) (l : Line) (ls : List Line) (k : Kind) (c r f : ℕ) → judgeLine inBody n l ≡ good k inBody → role k ≡ bodyLine
-    → readFrom (suc i) inBody (suc n) ls ≡ fault c r f → readFrom i inBody n (l ∷ ls) ≡ fault c r f
-unfolding readFrom onLine adds bodyAfter
-past-line i n l ls k c r f e o h = rw (e, o, h)
+  -- a file's fault is at one of its lines; 3 may be at the line after its last
+  pub file-fault-at : (b : List ℕ) → FaultAt 1 (length (linesOf b)) (readFile F b)
+  unfolding readFile
+  file-fault-at b = fault-at 1 atStart 0 (linesOf b)
 
--- a fault after any run of sound body lines, at whatever line, is the file's fault: so what the 4,097th body line gets is what the line itself gets
-pub past-body : (i n : ℕ) (ts : List (List ℕ)) (cs : List (Change Rec)) (ls : List Line) (c r f : ℕ) → SaysChanges (suc n) ts cs → n + length cs ≤ mostBody
-    → readFrom (i + length cs) inBody (n + length cs) ls ≡ fault c r f → readFrom i inBody n (endsAll ts ++ ls) ≡ fault c r f
-past-body i n [] [] ls c r f w l h = rw (add-zero i, add-zero n) at h
-past-body i n [] (x ∷ cs) ls c r f w l h = absurd w
-past-body i n (t ∷ ts) [] ls c r f w l h = absurd w
-past-body i n (t ∷ ts) (x ∷ cs) ls c r f w l h =
-    let a = w .0 .line in
-    let d : i + length (x ∷ cs) ≡ suc i + length cs = omega arith in
-    let e : n + length (x ∷ cs) ≡ suc n + length cs = omega arith in
-    let rest = past-body (suc i) (suc n) ts cs ls c r f (w .1) (omega arith) (rw (d, e) at h) in
-    past-line i n (ends t) (endsAll ts ++ ls) (a .kind) c r f (body-accepted n t x (w .0) (omega arith)) (a .roles) rest
+  -- files that agree in their first lines have the same fault, where it is at one of those
+  pub nothing-after : (i : ℕ) (p : Place) (n : ℕ) (ls ms ns : List Line) → SameFault (i + length ls) (readFrom F i p n (ls ++ ms)) (readFrom F i p n (ls ++ ns))
+  unfolding readFrom
+  nothing-after i p n [] ms ns =
+      let a = readFrom F i p n ms in
+      let b = readFrom F i p n ns in
+      subst (λ e. SameFault e a b) (sym (add-zero i)) (early i a b (length ms) (fault-at i p n ms))
+  nothing-after i p n (l ∷ ls) ms ns =
+      let go : List Line → Kind → Place → Read Sheet = λ xs k q. readFrom F (suc i) q (bodyAfter (role k) n) (ls ++ xs) in
+      let e : suc i + length ls ≡ i + suc (length ls) = omega arith in
+      same-line i (i + suc (length ls)) (l .text) (go ms) (go ns)
+      (λ k q. subst (λ e. SameFault e (go ms k q) (go ns k q)) e (nothing-after (suc i) q (bodyAfter (role k) n) ls ms ns)) (judgeLine F p n l)
+
+  -- ---- past sound body lines
+
+  past-line : (i n : ℕ) (l : Line) (ls : List Line) (k : Kind) (c r f : ℕ) → judgeLine F inBody n l ≡ good k inBody → role k ≡ bodyLine
+      → readFrom F (suc i) inBody (suc n) ls ≡ fault c r f → readFrom F i inBody n (l ∷ ls) ≡ fault c r f
+  unfolding readFrom onLine adds bodyAfter
+  past-line i n l ls k c r f e o h = rw (e, o, h)
+
+  -- a fault after any run of sound body lines, at whatever line, is the file's fault: so what the 4,097th body line gets is what the line itself gets
+  pub past-body : (i n : ℕ) (ts : List (List ℕ)) (cs : List (Change Rec)) (ls : List Line) (c r f : ℕ) → SaysChanges F (suc n) ts cs → n + length cs ≤ mostBody
+      → readFrom F (i + length cs) inBody (n + length cs) ls ≡ fault c r f → readFrom F i inBody n (endsAll ts ++ ls) ≡ fault c r f
+  past-body i n [] [] ls c r f w l h = rw (add-zero i, add-zero n) at h
+  past-body i n [] (x ∷ cs) ls c r f w l h = absurd w
+  past-body i n (t ∷ ts) [] ls c r f w l h = absurd w
+  past-body i n (t ∷ ts) (x ∷ cs) ls c r f w l h =
+      let a = w .0 .line in
+      let d : i + length (x ∷ cs) ≡ suc i + length cs = omega arith in
+      let e : n + length (x ∷ cs) ≡ suc n + length cs = omega arith in
+      let rest = past-body (suc i) (suc n) ts cs ls c r f (w .1) (omega arith) (rw (d, e) at h) in
+      past-line i n (ends t) (endsAll ts ++ ls) (a .kind) c r f (body-accepted F n t x (w .0) (omega arith)) (a .roles) rest

@@ -1,12 +1,13 @@
 -- What holds of every row of the table holds of each kind: a fact of all kinds is one computed test.
-use mathlib.Core.Path.{_≡_, refl, sym, ap, _∙_}
-use mathlib.Core.Bool.{Bool}
+use mathlib.Core.Path.{_≡_, refl, sym, ap, _∙_, subst}
+use mathlib.Core.Bool.{Bool, true, false, _||_}
+use mathlib.Core.Option.{some, Option·some-injective}
 use mathlib.Core.List.{List, [], _∷_}
 use Prim.Native.Nat.{ℕ, zero, suc}
 use lib.Dec.{T, eqb, eqb-refl, eqb→eq}
-use Rattle.base.specs.Lists.{all}
-use Rattle.base.specs.Tests.{and-l, and-r}
-use Rattle.meaning.specs.Table.{Kind, header, street, streetXref, blpu, appXref, lpi, metadata, trailer, kinds, Role, headerLine, bodyLine, metadataLine, trailerLine}
+use Rattle.base.specs.Lists.{all, pick, same, bytes}
+use Rattle.base.specs.Tests.{and-l, and-r, or-l, or-r, some≢none}
+use Rattle.meaning.specs.Kinds.{Kind, header, street, streetXref, blpu, appXref, lpi, metadata, trailer, kinds, ident, kindAmong, Role, headerLine, bodyLine, metadataLine, trailerLine}
 use Rattle.meaning.specs.Holding.{isHeld}
 
 -- p holds of each
@@ -33,6 +34,39 @@ every p t k = go (all-each p kinds t) k
     go h lpi = h .1 .1 .1 .1 .1 .0
     go h metadata = h .1 .1 .1 .1 .1 .1 .0
     go h trailer = h .1 .1 .1 .1 .1 .1 .1 .0
+
+-- the test holds of one of them
+unfoldable pub any : (Kind → Bool) → List Kind → Bool
+any p [] = false
+any p (k ∷ ks) = p k || any p ks
+
+-- a test that a kind passes holds of one of those among which it is found
+pub found-any : (p : Kind → Bool) (ks : List Kind) (i : List ℕ) (k : Kind) → kindAmong ks i ≡ some k → T (p k) → T (any p ks)
+unfolding kindAmong any
+found-any p [] i k e t = absurd (some≢none (sym e))
+found-any p (j ∷ ks) i k e t = go (same i (ident j)) e (found-any p ks i k)
+  where
+    go : (c : Bool) → pick c (some j) (kindAmong ks i) ≡ some k → (kindAmong ks i ≡ some k → T (p k) → T (any p ks)) → T (p j || any p ks)
+    go true e h = or-l (p j) (any p ks) (subst (λ k. T (p k)) (sym (Option·some-injective j k e)) t)
+    go false e h = or-r (p j) (any p ks) (h e t)
+
+-- ---- identifiers
+
+-- an identifier is its kind's
+kind-all : (k : Kind) → kindAmong kinds (ident k) ≡ some k
+unfolding ident bytes kindAmong kinds same
+kind-all header = refl
+kind-all street = refl
+kind-all streetXref = refl
+kind-all blpu = refl
+kind-all appXref = refl
+kind-all lpi = refl
+kind-all metadata = refl
+kind-all trailer = refl
+
+-- kinds with one identifier are one kind
+pub ident-only : (j k : Kind) → ident j ≡ ident k → j ≡ k
+ident-only j k e = Option·some-injective j k (sym (kind-all j) ∙ ap (kindAmong kinds) e ∙ kind-all k)
 
 -- ---- roles
 

@@ -11,10 +11,12 @@ use Rattle.theory.specs.Store.{get}
 use Rattle.theory.specs.Step.{Op, ins, upd, del, Change, Test, fails, allowed, codeOf, at, after, judge}
 use Rattle.theory.specs.Run.{Out, done, stop, on, run}
 use Rattle.theory.specs.Answer.{Read, fault, file, Answer, took, refused}
+use Rattle.meaning.specs.Format.{Format}
 use Rattle.meaning.specs.Records.{Rec, keyed}
 use Rattle.meaning.specs.File.{Sheet, readFile}
 use Rattle.meaning.specs.Holding.{Held, sound, unsound, readHolding}
 use Rattle.meaning.specs.Load.{fits, stepTests, outcome, fromStart, onFile, onHolding, load}
+use Rattle.laws.specs.Regular.{Regular}
 use Rattle.laws.specs.FileRefusals.{among, fileCodes, ReadIn, file-codes}
 
 -- the codes of the steps, and 13 for the start
@@ -43,7 +45,7 @@ among-r c (x ∷ xs) ys t = go (eqb c x) (among-r c xs ys t)
     go true i = tt
     go false i = i
 
--- ---- steps
+-- ---- what a refusal looks like
 
 -- a step's code, where it is refused, is one of those
 abbrev CodeIn : Option ℕ → Type 0
@@ -71,54 +73,56 @@ op-in ins = tt
 op-in upd = tt
 op-in del = tt
 
-step-in : (room : ℕ) (st : List Rec) (c : Change Rec) → CodeIn (judge keyed (stepTests room) st c)
-unfolding judge
-step-in room st c =
-    ask-in (allowed (c .op) (get keyed (at keyed c) st)) (codeOf (c .op)) (fails (stepTests room) (after keyed st c)) (op-in (c .op))
-    (fails-in (stepTests room) (after keyed st c) (unfold stepTests among in (tt, (tt, (tt, tt)))))
-
 -- a run from line n on that stops does so at one of its m lines, with the code of a step
 abbrev pub OutIn : ℕ → ℕ → Out (List Rec) → Type 0
 OutIn n m (done st) = Unit {0}
 OutIn n m (stop l w) = T (among w stepCodes) × (n ≤ l) × (l < n + m)
-
--- and that is so of every run
-pub run-in : (room n : ℕ) (st : List Rec) (cs : List (Change Rec)) → OutIn n (length cs) (run keyed (stepTests room) n st cs)
-unfolding run
-run-in room n st [] = tt
-run-in room n st (c ∷ cs) =
-    let st2 = after keyed st c in
-    go (judge keyed (stepTests room) st c) (step-in room st c) (run keyed (stepTests room) (suc n) st2 cs) (run-in room (suc n) st2 cs)
-  where
-    go : (o : Option ℕ) → CodeIn o → (r : Out (List Rec)) → OutIn (suc n) (length cs) r → OutIn n (length (c ∷ cs)) (on o n r)
-    go none i (done s) h = unfold on in tt
-    go none i (stop l w) h = unfold on in (h .0, omega (arith, h .1), omega (arith, h .2))
-    go (some w) i r h = unfold on in (i, omega arith, omega arith)
-
--- ---- apply
 
 -- a refusal has one of the codes of apply
 abbrev pub AnswerIn : Answer → Type 0
 AnswerIn (took new i u d) = Unit {0}
 AnswerIn (refused c l f) = T (among c loadCodes)
 
--- and that is so of every holding, file and buffer
-pub load-in : (room : ℕ) (old b : List ℕ) → AnswerIn (load room old b)
-unfolding load onHolding onFile fromStart outcome among
-load-in room old b = holds (readHolding old)
-  where
-    ran : (cs : List (Change Rec)) (o : Out (List Rec)) → OutIn 2 (length cs) o → AnswerIn (outcome cs o)
-    ran cs (done st) i = tt
-    ran cs (stop l w) i = among-r w (14 ∷ fileCodes) stepCodes (i .0)
+module _ (F : Format) where
+  -- ---- every refusal looks so
 
-    starts : (c : Bool) (st : List Rec) (s : Sheet) → AnswerIn (pick c (outcome (s .1) (run keyed (stepTests room) 2 st (s .1))) (refused 13 0 0))
-    starts true st s = ran (s .1) (run keyed (stepTests room) 2 st (s .1)) (run-in room 2 st (s .1))
-    starts false st s = tt
+  step-in : (room : ℕ) (st : List Rec) (c : Change Rec) → CodeIn (judge (keyed F) (stepTests F room) st c)
+  unfolding judge
+  step-in room st c =
+      ask-in (allowed (c .op) (get (keyed F) (at (keyed F) c) st)) (codeOf (c .op)) (fails (stepTests F room) (after (keyed F) st c)) (op-in (c .op))
+      (fails-in (stepTests F room) (after (keyed F) st c) (unfold stepTests among in (tt, (tt, (tt, tt)))))
 
-    files : (st : List Rec) (r : Read Sheet) → ReadIn r → AnswerIn (onFile room st r)
-    files st (fault c l f) i = among-r c (14 ∷ []) (fileCodes ++ stepCodes) (among-l c fileCodes stepCodes i)
-    files st (file s) i = starts (fits room st) st s
+  -- a run of steps stops so
+  pub run-in : (room n : ℕ) (st : List Rec) (cs : List (Change Rec)) → OutIn n (length cs) (run (keyed F) (stepTests F room) n st cs)
+  unfolding run
+  run-in room n st [] = tt
+  run-in room n st (c ∷ cs) =
+      let st2 = after (keyed F) st c in
+      go (judge (keyed F) (stepTests F room) st c) (step-in room st c) (run (keyed F) (stepTests F room) (suc n) st2 cs) (run-in room (suc n) st2 cs)
+    where
+      go : (o : Option ℕ) → CodeIn o → (r : Out (List Rec)) → OutIn (suc n) (length cs) r → OutIn n (length (c ∷ cs)) (on o n r)
+      go none i (done s) h = unfold on in tt
+      go none i (stop l w) h = unfold on in (h .0, omega (arith, h .1), omega (arith, h .2))
+      go (some w) i r h = unfold on in (i, omega arith, omega arith)
 
-    holds : (h : Held) → AnswerIn (onHolding room b h)
-    holds (unsound n) = tt
-    holds (sound st) = files st (readFile b) (file-codes b)
+  module _ (regular : Regular F) where
+    -- and apply refuses so, whatever the holding, the file and the buffer
+    pub load-in : (room : ℕ) (old b : List ℕ) → AnswerIn (load F room old b)
+    unfolding load onHolding onFile fromStart outcome among
+    load-in room old b = holds (readHolding F old)
+      where
+        ran : (cs : List (Change Rec)) (o : Out (List Rec)) → OutIn 2 (length cs) o → AnswerIn (outcome cs o)
+        ran cs (done st) i = tt
+        ran cs (stop l w) i = among-r w (14 ∷ fileCodes) stepCodes (i .0)
+
+        starts : (c : Bool) (st : List Rec) (s : Sheet) → AnswerIn (pick c (outcome (s .1) (run (keyed F) (stepTests F room) 2 st (s .1))) (refused 13 0 0))
+        starts true st s = ran (s .1) (run (keyed F) (stepTests F room) 2 st (s .1)) (run-in room 2 st (s .1))
+        starts false st s = tt
+
+        files : (st : List Rec) (r : Read Sheet) → ReadIn r → AnswerIn (onFile F room st r)
+        files st (fault c l f) i = among-r c (14 ∷ []) (fileCodes ++ stepCodes) (among-l c fileCodes stepCodes i)
+        files st (file s) i = starts (fits room st) st s
+
+        holds : (h : Held) → AnswerIn (onHolding F room b h)
+        holds (unsound n) = tt
+        holds (sound st) = files st (readFile F b) (file-codes F regular b)

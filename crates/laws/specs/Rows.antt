@@ -9,18 +9,20 @@ use native.Mathlib.Omega.{arith}
 use lib.Dec.{T, leb, eqb, le→leb}
 use lib.ListN.{length, length-append, getD, take}
 use Rattle.base.specs.Lists.{pick}
-use Rattle.base.specs.Tests.{and-in, T-true}
+use Rattle.base.specs.Tests.{and-in, T-true, or-l, or-r}
 use Rattle.theory.specs.Decimal.{value}
 use Rattle.theory.specs.Step.{Op, ins, upd, del, Change}
 use Rattle.theory.specs.Run.{Out, done, stop, run}
 use Rattle.theory.specs.Answer.{Read, fault, file, Answer, took, refused}
 use Rattle.meaning.specs.Lines.{linesOf, fieldsOf, oddQuotes}
-use Rattle.meaning.specs.Table.{Kind, ident, enquiries, numberedAmong}
+use Rattle.meaning.specs.Kinds.{Kind, ident, numberedAmong}
+use Rattle.meaning.specs.Format.{Format}
 use Rattle.meaning.specs.Records.{Rec, keyed}
 use Rattle.meaning.specs.File.{Sheet, readFile}
 use Rattle.meaning.specs.Holding.{Held, sound, unsound, readHolding}
 use Rattle.meaning.specs.Load.{Six, three, fits, stepTests, outcome, fromStart, onFile, onHolding, load, checked, checkFile, heldNumbers, checkHolding, applied, apply, undoBytes, Undone, undone, undoFile}
 use Rattle.meaning.specs.Enquiries.{Found, refusal, spanned, partOf, heldAt, heldPart, findIn, findKind, find, lastNaming, named, inForcePart, inForceFile, inForceHeld, inForceKind, inForce, fieldPart, fieldIn, fieldOf, first, second}
+use Rattle.laws.specs.Regular.{Regular}
 use Rattle.laws.specs.LinesAndFields.{endsAll}
 use Rattle.laws.specs.LinePart.{noLine}
 use Rattle.laws.specs.SoundFile.{says-length, read-sound}
@@ -63,71 +65,7 @@ abbrev pub rows : (ℕ → Bool) → List ℕ → List Row
 rows line [] = []
 rows line (c ∷ cs) = row c line nought ∷ rows line cs
 
--- ---- the table, by what is asked
-
--- a file of n lines: a file that ends before its trailer gets 3 at the line after its last
-unfoldable pub fileRows : ℕ → List Row
-fileRows n =
-    row 1 (within 1 n) nought
-    ∷ row 2 (within 1 n) (λ f. eqb f 1)
-    ∷ row 3 (within 1 (suc n)) nought
-    ∷ row 4 (within 1 n) nought
-    ∷ row 5 (within 1 n) (leb 1)
-    ∷ row 6 (within 1 n) endNumber
-    ∷ row 7 (within 1 n) (λ f. eqb f 3)
-    ∷ row 8 (within 1 n) (λ f. eqb f 3)
-    ∷ row 9 (within 1 n) nought
-    ∷ []
-
--- check a file: 0, or 1 to 9
-unfoldable pub checkRows : List ℕ → List Row
-checkRows b = rows nought (0 ∷ []) ++ fileRows (length (linesOf b))
-
--- a holding of n lines
-unfoldable pub heldRows : ℕ → List Row
-heldRows n = rows (within 1 n) (14 ∷ [])
-
--- check a holding: 0, or 14 at its line
-unfoldable pub holdingRows : List ℕ → List Row
-holdingRows old = rows nought (0 ∷ []) ++ heldRows (length (linesOf old))
-
--- the steps: body lines stand from line 2 to the second before the last
-unfoldable pub stepRows : List ℕ → List Row
-stepRows b = rows (within 2 (length (linesOf b) - 2)) stepCodes
-
--- what refuses a file over a holding: 14, the file check, 13 for the start, the steps
-unfoldable pub loadRows : List ℕ → List ℕ → List Row
-loadRows old b = heldRows (length (linesOf old)) ++ (fileRows (length (linesOf b)) ++ (rows nought (13 ∷ []) ++ stepRows b))
-
--- apply: 0, or what refuses the file
-unfoldable pub applyRows : List ℕ → List ℕ → List Row
-applyRows old b = rows nought (0 ∷ []) ++ loadRows old b
-
--- undo: the same, or 17
-unfoldable pub undoRows : List ℕ → List ℕ → List Row
-undoRows old b = rows nought (0 ∷ 17 ∷ []) ++ loadRows old b
-
--- find: 0, 15, 11, or 14 at its line
-unfoldable pub findRows : List ℕ → List Row
-findRows old = rows nought (0 ∷ 15 ∷ 11 ∷ []) ++ heldRows (length (linesOf old))
-
--- the record in force: the same, or the file check
-unfoldable pub forceRows : List ℕ → List ℕ → List Row
-forceRows old b = findRows old ++ fileRows (length (linesOf b))
-
--- one field of a line: 0 or 19
-unfoldable pub fieldRows : List Row
-fieldRows = rows nought (0 ∷ 19 ∷ [])
-
 -- ---- rows after rows
-
-or-l : (a b : Bool) → T a → T (a || b)
-or-l true b t = tt
-or-l false b t = absurd t
-
-or-r : (a b : Bool) → T b → T (a || b)
-or-r true b t = tt
-or-r false b t = t
 
 or-map : (a b c : Bool) → (T b → T c) → T (a || b) → T (a || c)
 or-map true b c i t = tt
@@ -153,8 +91,6 @@ rows-given line (x ∷ cs) c l h t = go (eqb c x) (rows-given line cs c l h) t
     go true i t = or-l (line l && true) (given (rows line cs) c l 0) (and-in (line l) true h tt)
     go false i t = i t
 
--- ---- the file
-
 in-lines : (a b l : ℕ) → a ≤ l → l ≤ b → T (within a b l)
 in-lines a b l h k = and-in (leb a l) (leb l b) (le→leb a l h) (le→leb l b k)
 
@@ -162,127 +98,20 @@ or-false : (a : Bool) → (a || false) ≡ a
 or-false true = refl
 or-false false = refl
 
-shaped-given : (n c l f : ℕ) → T (shaped (c, f)) → 1 ≤ l → l ≤ 1 + n → (l ≡ 1 + n → c ≡ 3) → T (given (fileRows n) c l f)
-unfolding given fileRows shaped
-shaped-given n c l f s a b e = go (decLe l n)
-  where
-    first : leb 1 l ≡ true
-    first = T-true (leb 1 l) (le→leb 1 l a)
-
-    last : leb l (suc n) ≡ true
-    last = T-true (leb l (suc n)) (le→leb l (suc n) (omega (arith, b)))
-
-    go : Dec (l ≤ n) → T (given (fileRows n) c l f)
-    go (yes h) = rw (first, last, T-true (leb l n) (le→leb l n h), or-false (eqb c 9 && eqb f 0)) s
-    go (no h) = let z : c ≡ 3 = e (omega arith) in rw (z, first, last) (rw z at s)
-
--- a file's fault stands in its rows; a file without one has three lines beside its body
-abbrev FileGiven : List ℕ → Read Sheet → Type 0
-FileGiven b (fault c l f) = T (given (fileRows (length (linesOf b))) c l f)
-FileGiven b (file s) = length (linesOf b) ≡ length (s .1) + 3
-
 length-ends : (ts : List (List ℕ)) → length (endsAll ts) ≡ length ts
 length-ends [] = refl
 length-ends (t ∷ ts) = ap suc (length-ends ts)
 
-file-given : (b : List ℕ) → FileGiven b (readFile b)
-file-given b = go (readFile b) refl (file-shape b) (file-fault-at b)
-  where
-    go : (r : Read Sheet) → readFile b ≡ r → ReadShaped r → FaultAt 1 (length (linesOf b)) r → FileGiven b r
-    go (fault c l f) e s a = shaped-given (length (linesOf b)) c l f s (a .0) (a .1) (a .2)
-    go (file s) e h a =
-        let w = read-sound b (s .0) (s .1) e in
-        let fr = s .0 in
-        let all = fr .headerText ∷ (w .texts ++ (fr .metadataText ∷ fr .trailerText ∷ [])) in
-        ap length (w .lines) ∙ length-ends all ∙ omega (arith, length-append (w .texts) (fr .metadataText ∷ fr .trailerText ∷ []), says-length 1 (w .texts) (s .1) (w .body))
-
--- the six numbers of the check of a file
-pub check-given : (b : List ℕ) → T (given (checkRows b) (checkFile b .code) (checkFile b .line) (checkFile b .field))
-unfolding checkRows checkFile checked
-check-given b = go (readFile b) (file-given b)
-  where
-    go : (r : Read Sheet) → FileGiven b r → T (given (rows nought (0 ∷ []) ++ fileRows (length (linesOf b))) (checked r .code) (checked r .line) (checked r .field))
-    go (fault c l f) i = given-r (rows nought (0 ∷ [])) _ c l f i
-    go (file s) i = unfold given in tt
-
--- ---- the holding
-
-held-given : (n l : ℕ) → (1 ≤ l) × (l < 1 + n) → T (given (heldRows n) 14 l 0)
-unfolding heldRows
-held-given n l i = rows-given (within 1 n) (14 ∷ []) 14 l (in-lines 1 n l (i .0) (omega (arith, i .1))) (unfold among in tt)
-
--- the three numbers of the check of a holding
-pub holding-given : (b : List ℕ) → T (given (holdingRows b) (checkHolding b .code) (checkHolding b .line) (checkHolding b .field))
-unfolding holdingRows checkHolding heldNumbers
-holding-given b = go (readHolding b) (holding-fault-at b)
-  where
-    go : (h : Held) → HeldAt 1 (length (linesOf b)) h
-        → T (given (rows nought (0 ∷ []) ++ heldRows (length (linesOf b))) (heldNumbers h .code) (heldNumbers h .line) (heldNumbers h .field))
-    go (unsound l) i = given-r (rows nought (0 ∷ [])) _ 14 l 0 (held-given (length (linesOf b)) l i)
-    go (sound st) i = unfold given in tt
-
--- ---- apply and undo
+-- ---- what stands in rows
 
 -- a refusal stands in these rows
 abbrev RefusalIn : List Row → Answer → Type 0
 RefusalIn rs (took new i u d) = Unit {0}
 RefusalIn rs (refused c l f) = T (given rs c l f)
 
-load-given : (room : ℕ) (old b : List ℕ) → RefusalIn (loadRows old b) (load room old b)
-unfolding load onHolding onFile fromStart outcome loadRows stepRows
-load-given room old b = holds (readHolding old) (holding-fault-at old)
-  where
-    n : ℕ
-    n = length (linesOf b)
-
-    steps : (c l f : ℕ) → T (given (rows nought (13 ∷ []) ++ stepRows b) c l f) → T (given (loadRows old b) c l f)
-    steps c l f t = given-r (heldRows (length (linesOf old))) _ c l f (given-r (fileRows n) _ c l f t)
-
-    ran : (cs : List (Change Rec)) → n ≡ length cs + 3 → (o : Out (List Rec)) → OutIn 2 (length cs) o → RefusalIn (loadRows old b) (outcome cs o)
-    ran cs e (done st) i = tt
-    ran cs e (stop l w) i =
-        steps w l 0 (given-r (rows nought (13 ∷ [])) _ w l 0 (rows-given (within 2 (n - 2)) stepCodes w l (in-lines 2 (n - 2) l (i .1) (omega (arith, i .2, e))) (i .0)))
-
-    starts : (c : Bool) (st : List Rec) (s : Sheet) → n ≡ length (s .1) + 3
-        → RefusalIn (loadRows old b) (pick c (outcome (s .1) (run keyed (stepTests room) 2 st (s .1))) (refused 13 0 0))
-    starts true st s e = ran (s .1) e (run keyed (stepTests room) 2 st (s .1)) (run-in room 2 st (s .1))
-    starts false st s e = steps 13 0 0 (unfold given in tt)
-
-    files : (st : List Rec) (r : Read Sheet) → FileGiven b r → RefusalIn (loadRows old b) (onFile room st r)
-    files st (fault c l f) i = given-r (heldRows (length (linesOf old))) _ c l f (given-l (fileRows n) _ c l f i)
-    files st (file s) i = starts (fits room st) st s i
-
-    holds : (h : Held) → HeldAt 1 (length (linesOf old)) h → RefusalIn (loadRows old b) (onHolding room b h)
-    holds (unsound l) i = given-l (heldRows (length (linesOf old))) _ 14 l 0 (held-given (length (linesOf old)) l i)
-    holds (sound st) i = files st (readFile b) (file-given b)
-
 -- the six numbers stand in these rows
 abbrev SixIn : List Row → Six → Type 0
 SixIn rs s = T (given rs (s .code) (s .line) (s .field))
-
--- the six numbers of apply
-pub apply-given : (old b : List ℕ) (room : ℕ) → SixIn (applyRows old b) (apply old b room .answer)
-unfolding applyRows apply applied
-apply-given old b room = go (load room old b) (load-given room old b)
-  where
-    go : (x : Answer) → RefusalIn (loadRows old b) x → SixIn (rows nought (0 ∷ []) ++ loadRows old b) (applied room x .answer)
-    go (took new i u d) t = unfold given in tt
-    go (refused c l f) t = given-r (rows nought (0 ∷ [])) _ c l f t
-
--- the six numbers of undo
-pub undo-given : (old b : List ℕ) (out space : ℕ) → SixIn (undoRows old b) (undoFile old b out space .answer)
-unfolding undoRows undoFile undone
-undo-given old b out space = go (load space old b) (load-given space old b)
-  where
-    either : (c : Bool) (x y : Undone) (rs : List Row) → SixIn rs (x .answer) → SixIn rs (y .answer) → SixIn rs (pick c x y .answer)
-    either true x y rs p q = p
-    either false x y rs p q = q
-
-    go : (x : Answer) → RefusalIn (loadRows old b) x → SixIn (rows nought (0 ∷ 17 ∷ []) ++ loadRows old b) (undone out space (undoBytes old b) x .answer)
-    go (took new i u d) t = either (leb (length (undoBytes old b)) out) _ _ _ (unfold given in tt) (unfold given in tt)
-    go (refused c l f) t = given-r (rows nought (0 ∷ 17 ∷ [])) _ c l f t
-
--- ---- enquiries
 
 -- the three numbers stand in these rows, and a refusal hands back an empty part
 pub record FoundIn (rs : List Row) (f : Found) : Type 0 where
@@ -293,57 +122,11 @@ refusal-in : (rs : List Row) (c l f : ℕ) → T (given rs c l f) → FoundIn rs
 unfolding refusal
 refusal-in rs c l f t = record { numbers = t; empty = λ n. refl }
 
-held-in : (old : List ℕ) (o : Option ℕ) → FoundIn (findRows old) (heldPart old o)
-unfolding heldPart partOf findRows given
-held-in old none = refusal-in _ 11 0 0 tt
-held-in old (some i) = record { numbers = tt; empty = λ n. absurd (n refl) }
+-- ---- one field of a line
 
-unsound-in : (old : List ℕ) (l : ℕ) → (1 ≤ l) × (l < 1 + length (linesOf old)) → FoundIn (findRows old) (refusal 14 l 0)
-unfolding findRows
-unsound-in old l i = refusal-in _ 14 l 0 (given-r (rows nought (0 ∷ 15 ∷ 11 ∷ [])) _ 14 l 0 (held-given (length (linesOf old)) l i))
-
--- the three numbers of find
-pub find-given : (old : List ℕ) (kind n : ℕ) → FoundIn (findRows old) (find old kind n)
-unfolding find findKind findIn
-find-given old kind n = asked (numberedAmong enquiries kind)
-  where
-    held : (q : List ℕ) (h : Held) → HeldAt 1 (length (linesOf old)) h → FoundIn (findRows old) (findIn old q h)
-    held q (unsound l) i = unsound-in old l i
-    held q (sound st) i = held-in old (heldAt q 0 st)
-
-    asked : (o : Option Kind) → FoundIn (findRows old) (findKind old n o)
-    asked none = refusal-in _ 15 0 0 (unfold findRows given in tt)
-    asked (some k) = held (value (ident k) ∷ n ∷ []) (readHolding old) (holding-fault-at old)
-
-more-in : (old b : List ℕ) (f : Found) → FoundIn (findRows old) f → FoundIn (forceRows old b) f
-unfolding forceRows
-more-in old b f i = record { numbers = given-l (findRows old) _ _ _ _ (i .numbers); empty = i .empty }
-
--- the three numbers of the record in force
-pub force-given : (old b : List ℕ) (kind n : ℕ) → FoundIn (forceRows old b) (inForce old b kind n)
-unfolding inForce inForceKind inForceHeld inForceFile inForcePart
-force-given old b kind n = asked (numberedAmong enquiries kind)
-  where
-    named-in : (o : Op) (i : ℕ) → FoundIn (findRows old) (named o (partOf second (linesOf b) i))
-    named-in ins i = unfold named partOf findRows given in record { numbers = tt; empty = λ n. absurd (n refl) }
-    named-in upd i = unfold named partOf findRows given in record { numbers = tt; empty = λ n. absurd (n refl) }
-    named-in del i = unfold named findRows given in refusal-in _ 11 0 0 tt
-
-    part : (q : List ℕ) (st : List Rec) (o : Option (ℕ × Op)) → FoundIn (forceRows old b) (inForcePart old b q st o)
-    part q st none = more-in old b _ (held-in old (heldAt q 0 st))
-    part q st (some l) = more-in old b _ (named-in (l .1) (l .0))
-
-    files : (q : List ℕ) (st : List Rec) (r : Read Sheet) → FileGiven b r → FoundIn (forceRows old b) (inForceFile old b q st r)
-    files q st (fault c l f) i = refusal-in _ c l f (unfold forceRows in given-r (findRows old) _ c l f i)
-    files q st (file s) i = part q st (lastNaming q 1 (s .1) none)
-
-    held : (q : List ℕ) (h : Held) → HeldAt 1 (length (linesOf old)) h → FoundIn (forceRows old b) (inForceHeld old b q h)
-    held q (unsound l) i = more-in old b _ (unsound-in old l i)
-    held q (sound st) i = files q st (readFile b) (file-given b)
-
-    asked : (o : Option Kind) → FoundIn (forceRows old b) (inForceKind old b n o)
-    asked none = more-in old b _ (refusal-in _ 15 0 0 (unfold findRows given in tt))
-    asked (some k) = held (value (ident k) ∷ n ∷ []) (readHolding old) (holding-fault-at old)
+-- 0 or 19
+unfoldable pub fieldRows : List Row
+fieldRows = rows nought (0 ∷ 19 ∷ [])
 
 -- the three numbers of one field of a line
 pub field-given : (b : List ℕ) (l f : ℕ) → FoundIn fieldRows (fieldOf b l f)
@@ -364,3 +147,226 @@ field-given b l f = lined (leb 1 l && leb l (length (linesOf b)))
     lined : (c : Bool) → FoundIn fieldRows (pick c (fieldIn (spanned (take (l - 1) (linesOf b))) t f) (refusal 19 0 0))
     lined true = quoted (spanned (take (l - 1) (linesOf b))) (oddQuotes t)
     lined false = refusal-in _ 19 0 0 tt
+
+-- ---- the table, by what is asked
+
+-- a holding of n lines
+unfoldable pub heldRows : ℕ → List Row
+heldRows n = rows (within 1 n) (14 ∷ [])
+
+-- check a holding: 0, or 14 at its line
+unfoldable pub holdingRows : List ℕ → List Row
+holdingRows old = rows nought (0 ∷ []) ++ heldRows (length (linesOf old))
+
+-- the steps: body lines stand from line 2 to the second before the last
+unfoldable pub stepRows : List ℕ → List Row
+stepRows b = rows (within 2 (length (linesOf b) - 2)) stepCodes
+
+-- find: 0, 15, 11, or 14 at its line
+unfoldable pub findRows : List ℕ → List Row
+findRows old = rows nought (0 ∷ 15 ∷ 11 ∷ []) ++ heldRows (length (linesOf old))
+
+module _ (F : Format) where
+  open Format F using (enquiries)
+
+  -- a file of n lines: a file that ends before its trailer gets 3 at the line after its last
+  unfoldable pub fileRows : ℕ → List Row
+  fileRows n =
+      row 1 (within 1 n) nought
+      ∷ row 2 (within 1 n) (λ f. eqb f 1)
+      ∷ row 3 (within 1 (suc n)) nought
+      ∷ row 4 (within 1 n) nought
+      ∷ row 5 (within 1 n) (leb 1)
+      ∷ row 6 (within 1 n) (endNumber F)
+      ∷ row 7 (within 1 n) (λ f. eqb f 3)
+      ∷ row 8 (within 1 n) (λ f. eqb f 3)
+      ∷ row 9 (within 1 n) nought
+      ∷ []
+
+  -- check a file: 0, or 1 to 9
+  unfoldable pub checkRows : List ℕ → List Row
+  checkRows b = rows nought (0 ∷ []) ++ fileRows (length (linesOf b))
+
+  -- what refuses a file over a holding: 14, the file check, 13 for the start, the steps
+  unfoldable pub loadRows : List ℕ → List ℕ → List Row
+  loadRows old b = heldRows (length (linesOf old)) ++ (fileRows (length (linesOf b)) ++ (rows nought (13 ∷ []) ++ stepRows b))
+
+  -- apply: 0, or what refuses the file
+  unfoldable pub applyRows : List ℕ → List ℕ → List Row
+  applyRows old b = rows nought (0 ∷ []) ++ loadRows old b
+
+  -- undo: the same, or 17
+  unfoldable pub undoRows : List ℕ → List ℕ → List Row
+  undoRows old b = rows nought (0 ∷ 17 ∷ []) ++ loadRows old b
+
+  -- the record in force: what find gives, or the file check
+  unfoldable pub forceRows : List ℕ → List ℕ → List Row
+  forceRows old b = findRows old ++ fileRows (length (linesOf b))
+
+  -- ---- the file
+
+  shaped-given : (n c l f : ℕ) → T (shaped F (c, f)) → 1 ≤ l → l ≤ 1 + n → (l ≡ 1 + n → c ≡ 3) → T (given (fileRows n) c l f)
+  unfolding given fileRows shaped
+  shaped-given n c l f s a b e = go (decLe l n)
+    where
+      first : leb 1 l ≡ true
+      first = T-true (leb 1 l) (le→leb 1 l a)
+
+      last : leb l (suc n) ≡ true
+      last = T-true (leb l (suc n)) (le→leb l (suc n) (omega (arith, b)))
+
+      go : Dec (l ≤ n) → T (given (fileRows n) c l f)
+      go (yes h) = rw (first, last, T-true (leb l n) (le→leb l n h), or-false (eqb c 9 && eqb f 0)) s
+      go (no h) = let z : c ≡ 3 = e (omega arith) in rw (z, first, last) (rw z at s)
+
+  -- a file's fault stands in its rows; a file without one has three lines beside its body
+  abbrev FileGiven : List ℕ → Read Sheet → Type 0
+  FileGiven b (fault c l f) = T (given (fileRows (length (linesOf b))) c l f)
+  FileGiven b (file s) = length (linesOf b) ≡ length (s .1) + 3
+
+  -- ---- the holding
+
+  held-given : (n l : ℕ) → (1 ≤ l) × (l < 1 + n) → T (given (heldRows n) 14 l 0)
+  unfolding heldRows
+  held-given n l i = rows-given (within 1 n) (14 ∷ []) 14 l (in-lines 1 n l (i .0) (omega (arith, i .1))) (unfold among in tt)
+
+  -- the three numbers of the check of a holding
+  pub holding-given : (b : List ℕ) → T (given (holdingRows b) (checkHolding F b .code) (checkHolding F b .line) (checkHolding F b .field))
+  unfolding holdingRows checkHolding heldNumbers
+  holding-given b = go (readHolding F b) (holding-fault-at F b)
+    where
+      go : (h : Held) → HeldAt 1 (length (linesOf b)) h
+          → T (given (rows nought (0 ∷ []) ++ heldRows (length (linesOf b))) (heldNumbers h .code) (heldNumbers h .line) (heldNumbers h .field))
+      go (unsound l) i = given-r (rows nought (0 ∷ [])) _ 14 l 0 (held-given (length (linesOf b)) l i)
+      go (sound st) i = unfold given in tt
+
+  -- ---- enquiries
+
+  held-in : (old : List ℕ) (o : Option ℕ) → FoundIn (findRows old) (heldPart old o)
+  unfolding heldPart partOf findRows given
+  held-in old none = refusal-in _ 11 0 0 tt
+  held-in old (some i) = record { numbers = tt; empty = λ n. absurd (n refl) }
+
+  unsound-in : (old : List ℕ) (l : ℕ) → (1 ≤ l) × (l < 1 + length (linesOf old)) → FoundIn (findRows old) (refusal 14 l 0)
+  unfolding findRows
+  unsound-in old l i = refusal-in _ 14 l 0 (given-r (rows nought (0 ∷ 15 ∷ 11 ∷ [])) _ 14 l 0 (held-given (length (linesOf old)) l i))
+
+  -- the three numbers of find
+  pub find-given : (old : List ℕ) (kind n : ℕ) → FoundIn (findRows old) (find F old kind n)
+  unfolding find findKind findIn
+  find-given old kind n = asked (numberedAmong enquiries kind)
+    where
+      held : (q : List ℕ) (h : Held) → HeldAt 1 (length (linesOf old)) h → FoundIn (findRows old) (findIn F old q h)
+      held q (unsound l) i = unsound-in old l i
+      held q (sound st) i = held-in old (heldAt F q 0 st)
+
+      asked : (o : Option Kind) → FoundIn (findRows old) (findKind F old n o)
+      asked none = refusal-in _ 15 0 0 (unfold findRows given in tt)
+      asked (some k) = held (value (ident k) ∷ n ∷ []) (readHolding F old) (holding-fault-at F old)
+
+  more-in : (old b : List ℕ) (f : Found) → FoundIn (findRows old) f → FoundIn (forceRows old b) f
+  unfolding forceRows
+  more-in old b f i = record { numbers = given-l (findRows old) _ _ _ _ (i .numbers); empty = i .empty }
+
+  module _ (regular : Regular F) where
+    -- ---- the file
+
+    file-given : (b : List ℕ) → FileGiven b (readFile F b)
+    file-given b = go (readFile F b) refl (file-shape F regular b) (file-fault-at F b)
+      where
+        go : (r : Read Sheet) → readFile F b ≡ r → ReadShaped F r → FaultAt 1 (length (linesOf b)) r → FileGiven b r
+        go (fault c l f) e s a = shaped-given (length (linesOf b)) c l f s (a .0) (a .1) (a .2)
+        go (file s) e h a =
+            let w = read-sound F b (s .0) (s .1) e in
+            let fr = s .0 in
+            let all = fr .headerText ∷ (w .texts ++ (fr .metadataText ∷ fr .trailerText ∷ [])) in
+            ap length (w .lines) ∙ length-ends all ∙ omega (arith, length-append (w .texts) (fr .metadataText ∷ fr .trailerText ∷ []), says-length F 1 (w .texts) (s .1) (w .body))
+
+    -- the six numbers of the check of a file
+    pub check-given : (b : List ℕ) → T (given (checkRows b) (checkFile F b .code) (checkFile F b .line) (checkFile F b .field))
+    unfolding checkRows checkFile checked
+    check-given b = go (readFile F b) (file-given b)
+      where
+        go : (r : Read Sheet) → FileGiven b r → T (given (rows nought (0 ∷ []) ++ fileRows (length (linesOf b))) (checked r .code) (checked r .line) (checked r .field))
+        go (fault c l f) i = given-r (rows nought (0 ∷ [])) _ c l f i
+        go (file s) i = unfold given in tt
+
+    -- ---- apply and undo
+
+    load-given : (room : ℕ) (old b : List ℕ) → RefusalIn (loadRows old b) (load F room old b)
+    unfolding load onHolding onFile fromStart outcome loadRows stepRows
+    load-given room old b = holds (readHolding F old) (holding-fault-at F old)
+      where
+        n : ℕ
+        n = length (linesOf b)
+
+        steps : (c l f : ℕ) → T (given (rows nought (13 ∷ []) ++ stepRows b) c l f) → T (given (loadRows old b) c l f)
+        steps c l f t = given-r (heldRows (length (linesOf old))) _ c l f (given-r (fileRows n) _ c l f t)
+
+        ran : (cs : List (Change Rec)) → n ≡ length cs + 3 → (o : Out (List Rec)) → OutIn 2 (length cs) o → RefusalIn (loadRows old b) (outcome cs o)
+        ran cs e (done st) i = tt
+        ran cs e (stop l w) i =
+            steps w l 0 (given-r (rows nought (13 ∷ [])) _ w l 0 (rows-given (within 2 (n - 2)) stepCodes w l (in-lines 2 (n - 2) l (i .1) (omega (arith, i .2, e))) (i .0)))
+
+        starts : (c : Bool) (st : List Rec) (s : Sheet) → n ≡ length (s .1) + 3
+            → RefusalIn (loadRows old b) (pick c (outcome (s .1) (run (keyed F) (stepTests F room) 2 st (s .1))) (refused 13 0 0))
+        starts true st s e = ran (s .1) e (run (keyed F) (stepTests F room) 2 st (s .1)) (run-in F room 2 st (s .1))
+        starts false st s e = steps 13 0 0 (unfold given in tt)
+
+        files : (st : List Rec) (r : Read Sheet) → FileGiven b r → RefusalIn (loadRows old b) (onFile F room st r)
+        files st (fault c l f) i = given-r (heldRows (length (linesOf old))) _ c l f (given-l (fileRows n) _ c l f i)
+        files st (file s) i = starts (fits room st) st s i
+
+        holds : (h : Held) → HeldAt 1 (length (linesOf old)) h → RefusalIn (loadRows old b) (onHolding F room b h)
+        holds (unsound l) i = given-l (heldRows (length (linesOf old))) _ 14 l 0 (held-given (length (linesOf old)) l i)
+        holds (sound st) i = files st (readFile F b) (file-given b)
+
+    -- the six numbers of apply
+    pub apply-given : (old b : List ℕ) (room : ℕ) → SixIn (applyRows old b) (apply F old b room .answer)
+    unfolding applyRows apply applied
+    apply-given old b room = go (load F room old b) (load-given room old b)
+      where
+        go : (x : Answer) → RefusalIn (loadRows old b) x → SixIn (rows nought (0 ∷ []) ++ loadRows old b) (applied room x .answer)
+        go (took new i u d) t = unfold given in tt
+        go (refused c l f) t = given-r (rows nought (0 ∷ [])) _ c l f t
+
+    -- the six numbers of undo
+    pub undo-given : (old b : List ℕ) (out space : ℕ) → SixIn (undoRows old b) (undoFile F old b out space .answer)
+    unfolding undoRows undoFile undone
+    undo-given old b out space = go (load F space old b) (load-given space old b)
+      where
+        either : (c : Bool) (x y : Undone) (rs : List Row) → SixIn rs (x .answer) → SixIn rs (y .answer) → SixIn rs (pick c x y .answer)
+        either true x y rs p q = p
+        either false x y rs p q = q
+
+        go : (x : Answer) → RefusalIn (loadRows old b) x → SixIn (rows nought (0 ∷ 17 ∷ []) ++ loadRows old b) (undone out space (undoBytes F old b) x .answer)
+        go (took new i u d) t = either (leb (length (undoBytes F old b)) out) _ _ _ (unfold given in tt) (unfold given in tt)
+        go (refused c l f) t = given-r (rows nought (0 ∷ 17 ∷ [])) _ c l f t
+
+    -- ---- the record in force
+
+    -- the three numbers of the record in force
+    pub force-given : (old b : List ℕ) (kind n : ℕ) → FoundIn (forceRows old b) (inForce F old b kind n)
+    unfolding inForce inForceKind inForceHeld inForceFile inForcePart
+    force-given old b kind n = asked (numberedAmong enquiries kind)
+      where
+        named-in : (o : Op) (i : ℕ) → FoundIn (findRows old) (named o (partOf second (linesOf b) i))
+        named-in ins i = unfold named partOf findRows given in record { numbers = tt; empty = λ n. absurd (n refl) }
+        named-in upd i = unfold named partOf findRows given in record { numbers = tt; empty = λ n. absurd (n refl) }
+        named-in del i = unfold named findRows given in refusal-in _ 11 0 0 tt
+
+        part : (q : List ℕ) (st : List Rec) (o : Option (ℕ × Op)) → FoundIn (forceRows old b) (inForcePart F old b q st o)
+        part q st none = more-in old b _ (held-in old (heldAt F q 0 st))
+        part q st (some l) = more-in old b _ (named-in (l .1) (l .0))
+
+        files : (q : List ℕ) (st : List Rec) (r : Read Sheet) → FileGiven b r → FoundIn (forceRows old b) (inForceFile F old b q st r)
+        files q st (fault c l f) i = refusal-in _ c l f (unfold forceRows in given-r (findRows old) _ c l f i)
+        files q st (file s) i = part q st (lastNaming F q 1 (s .1) none)
+
+        held : (q : List ℕ) (h : Held) → HeldAt 1 (length (linesOf old)) h → FoundIn (forceRows old b) (inForceHeld F old b q h)
+        held q (unsound l) i = more-in old b _ (unsound-in old l i)
+        held q (sound st) i = files q st (readFile F b) (file-given b)
+
+        asked : (o : Option Kind) → FoundIn (forceRows old b) (inForceKind F old b n o)
+        asked none = more-in old b _ (refusal-in _ 15 0 0 (unfold findRows given in tt))
+        asked (some k) = held (value (ident k) ∷ n ∷ []) (readHolding F old) (holding-fault-at F old)

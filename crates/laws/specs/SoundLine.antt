@@ -1,7 +1,7 @@
 -- What a sound line of a kind is, rule by rule in paper 01's words; and that codes 4, 5 and 6 find nothing in just such lines.
 use mathlib.Core.Path.{_≡_, refl, _∙_}
 use mathlib.Core.Bool.{false, not, _&&_}
-use mathlib.Core.Option.{Option, none}
+use mathlib.Core.Option.{Option, none, some}
 use mathlib.Core.List.{List, [], _∷_}
 use Prim.Native.Nat.{ℕ, suc}
 use lib.Dec.{T, eqb, eqb→eq}
@@ -10,63 +10,67 @@ use mir.Facts.{yes-eqb}
 use Rattle.base.specs.Lists.{all}
 use Rattle.base.specs.Tests.{and-in, and-l, and-r, T-false, ask-ok, ok-ask}
 use Rattle.meaning.specs.Lines.{plain, fieldsOf, oddQuotes, hasFields, identifier}
-use Rattle.meaning.specs.Table.{Kind, ident, Field, fields, named, placeFrom, startDate, endDate}
+use Rattle.meaning.specs.Kinds.{Kind}
+use Rattle.meaning.specs.Format.{Format, Field, kindOf, named, placeFrom, startDate, endDate}
 use Rattle.meaning.specs.Sound.{Fault, soundField, forms, fieldFault, formFault, datesAgree}
 
--- each field is sound
-abbrev pub EachSound : List Field → List (List ℕ) → Type 0
-EachSound [] fs = Unit {0}
-EachSound (d ∷ ds) [] = Unit {0}
-EachSound (d ∷ ds) (f ∷ fs) = T (soundField d f) × EachSound ds fs
+module _ (F : Format) where
+  open Format F using (fields)
 
--- a sound line of a kind: no CR or LF in it, the kind's identifier, the right number of fields, each sound, and the two dates in order
-pub record SoundLine (k : Kind) (t : List ℕ) : Type 0 where
-  pub plains : T (all plain t)
-  pub identified : identifier t ≡ ident k
-  pub evenQuotes : oddQuotes t ≡ false
-  pub counted : length (fieldsOf t) ≡ length (fields k)
-  pub formed : EachSound (fields k) (fieldsOf t)
-  pub dated : T (datesAgree (named startDate (fields k) (fieldsOf t)) (named endDate (fields k) (fieldsOf t)))
+  -- each field is sound
+  abbrev pub EachSound : List Field → List (List ℕ) → Type 0
+  EachSound [] fs = Unit {0}
+  EachSound (d ∷ ds) [] = Unit {0}
+  EachSound (d ∷ ds) (f ∷ fs) = T (soundField F d f) × EachSound ds fs
 
--- code 5 is not given: each field is sound, and what is asked afterwards finds nothing
-pub forms-each : (n : ℕ) (ds : List Field) (fs : List (List ℕ)) (x : Option Fault) → forms n ds fs x ≡ none → EachSound ds fs × (x ≡ none)
-unfolding forms
-forms-each n [] fs x e = (tt, e)
-forms-each n (d ∷ ds) [] x e = (tt, e)
-forms-each n (d ∷ ds) (f ∷ fs) x e =
-    let a = ok-ask (soundField d f) (5, n) (forms (suc n) ds fs x) e in
-    let i = forms-each (suc n) ds fs x (a .1) in
-    ((a .0, i .0), i .1)
+  -- a sound line of a kind: no CR or LF in it, an identifier that is known as the kind's, the right number of fields, each sound, and the two dates in order
+  pub record SoundLine (k : Kind) (t : List ℕ) : Type 0 where
+    pub plains : T (all plain t)
+    pub identified : kindOf F (identifier t) ≡ some k
+    pub evenQuotes : oddQuotes t ≡ false
+    pub counted : length (fieldsOf t) ≡ length (fields k)
+    pub formed : EachSound (fields k) (fieldsOf t)
+    pub dated : T (datesAgree (named startDate (fields k) (fieldsOf t)) (named endDate (fields k) (fieldsOf t)))
 
--- where each field is sound, what is asked afterwards decides
-pub each-forms : (n : ℕ) (ds : List Field) (fs : List (List ℕ)) (x : Option Fault) → EachSound ds fs → forms n ds fs x ≡ x
-unfolding forms
-each-forms n [] fs x s = refl
-each-forms n (d ∷ ds) [] x s = refl
-each-forms n (d ∷ ds) (f ∷ fs) x s = ask-ok (soundField d f) (5, n) (forms (suc n) ds fs x) (s .0) ∙ each-forms (suc n) ds fs x (s .1)
+  -- code 5 is not given: each field is sound, and what is asked afterwards finds nothing
+  pub forms-each : (n : ℕ) (ds : List Field) (fs : List (List ℕ)) (x : Option Fault) → forms F n ds fs x ≡ none → EachSound ds fs × (x ≡ none)
+  unfolding forms
+  forms-each n [] fs x e = (tt, e)
+  forms-each n (d ∷ ds) [] x e = (tt, e)
+  forms-each n (d ∷ ds) (f ∷ fs) x e =
+      let a = ok-ask (soundField F d f) (5, n) (forms F (suc n) ds fs x) e in
+      let i = forms-each (suc n) ds fs x (a .1) in
+      ((a .0, i .0), i .1)
 
--- a line without fault is a sound line of its kind, and what is asked afterwards finds nothing
-pub form-sound : (k : Kind) (t : List ℕ) (rest : Option Fault) → T (all plain t) → identifier t ≡ ident k → formFault k t rest ≡ none → SoundLine k t × (rest ≡ none)
-unfolding formFault fieldFault hasFields
-form-sound k t rest p i e =
-    let a = ok-ask _ (4, 0) _ e in
-    let f = forms-each 1 (fields k) (fieldsOf t) _ (a .1) in
-    let d = ok-ask _ (6, placeFrom 1 endDate (fields k)) rest (f .1) in (
-      record {
-        plains = p;
-        identified = i;
-        evenQuotes = T-false (oddQuotes t) (and-l (not (oddQuotes t)) (eqb (length (fieldsOf t)) (length (fields k))) (a .0));
-        counted = eqb→eq _ _ (and-r (not (oddQuotes t)) (eqb (length (fieldsOf t)) (length (fields k))) (a .0));
-        formed = f .0;
-        dated = d .0;
-      },
-      d .1,
-    )
+  -- where each field is sound, what is asked afterwards decides
+  pub each-forms : (n : ℕ) (ds : List Field) (fs : List (List ℕ)) (x : Option Fault) → EachSound ds fs → forms F n ds fs x ≡ x
+  unfolding forms
+  each-forms n [] fs x s = refl
+  each-forms n (d ∷ ds) [] x s = refl
+  each-forms n (d ∷ ds) (f ∷ fs) x s = ask-ok (soundField F d f) (5, n) (forms F (suc n) ds fs x) (s .0) ∙ each-forms (suc n) ds fs x (s .1)
 
--- in a sound line, what is asked afterwards decides
-pub sound-form : (k : Kind) (t : List ℕ) (rest : Option Fault) → SoundLine k t → formFault k t rest ≡ rest
-unfolding formFault fieldFault hasFields
-sound-form k t rest s =
-    let o : T (not (oddQuotes t)) = rw (s .evenQuotes) tt in
-    let c : T (not (oddQuotes t) && eqb (length (fieldsOf t)) (length (fields k))) = and-in (not (oddQuotes t)) _ o (yes-eqb (s .counted)) in
-    ask-ok _ (4, 0) _ c ∙ each-forms 1 (fields k) (fieldsOf t) _ (s .formed) ∙ ask-ok _ (6, placeFrom 1 endDate (fields k)) rest (s .dated)
+  -- a line without fault is a sound line of its kind, and what is asked afterwards finds nothing
+  pub form-sound : (k : Kind) (t : List ℕ) (rest : Option Fault) → T (all plain t) → kindOf F (identifier t) ≡ some k → formFault F k t rest ≡ none → SoundLine k t × (rest ≡ none)
+  unfolding formFault fieldFault hasFields
+  form-sound k t rest p i e =
+      let a = ok-ask _ (4, 0) _ e in
+      let f = forms-each 1 (fields k) (fieldsOf t) _ (a .1) in
+      let d = ok-ask _ (6, placeFrom 1 endDate (fields k)) rest (f .1) in (
+        record {
+          plains = p;
+          identified = i;
+          evenQuotes = T-false (oddQuotes t) (and-l (not (oddQuotes t)) (eqb (length (fieldsOf t)) (length (fields k))) (a .0));
+          counted = eqb→eq _ _ (and-r (not (oddQuotes t)) (eqb (length (fieldsOf t)) (length (fields k))) (a .0));
+          formed = f .0;
+          dated = d .0;
+        },
+        d .1,
+      )
+
+  -- in a sound line, what is asked afterwards decides
+  pub sound-form : (k : Kind) (t : List ℕ) (rest : Option Fault) → SoundLine k t → formFault F k t rest ≡ rest
+  unfolding formFault fieldFault hasFields
+  sound-form k t rest s =
+      let o : T (not (oddQuotes t)) = rw (s .evenQuotes) tt in
+      let c : T (not (oddQuotes t) && eqb (length (fieldsOf t)) (length (fields k))) = and-in (not (oddQuotes t)) _ o (yes-eqb (s .counted)) in
+      ask-ok _ (4, 0) _ c ∙ each-forms 1 (fields k) (fieldsOf t) _ (s .formed) ∙ ask-ok _ (6, placeFrom 1 endDate (fields k)) rest (s .dated)

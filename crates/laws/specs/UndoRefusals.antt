@@ -15,9 +15,11 @@ use Rattle.theory.specs.Run.{Out, done, stop, on, run, Taken}
 use Rattle.theory.specs.Limits.{few}
 use Rattle.theory.specs.Answer.{Answer, took, refused}
 use Rattle.theory.specs.StepLaws.{ok-judge}
+use Rattle.meaning.specs.Format.{Format}
 use Rattle.meaning.specs.Records.{Rec, keyed, refsOf}
 use Rattle.meaning.specs.Holding.{readHolding}
 use Rattle.meaning.specs.Load.{fits, stepTests, outcome, fromStart, onFile, onHolding, load, undoBytes, Undone, undone, undoFile}
+use Rattle.laws.specs.Regular.{Regular}
 use Rattle.laws.specs.HoldingReadBack.{always}
 use Rattle.laws.specs.SoundHolding.{held-sound}
 use Rattle.laws.specs.Takes.{late, Takes}
@@ -37,57 +39,59 @@ unfolding ask
 ask-13 true = tt
 ask-13 false = refl
 
-step-13 : (room space : ℕ) (st : List Rec) (c : Change Rec) → judge keyed (always ++ late room) st c ≡ none → None13 (judge keyed (stepTests space) st c)
-unfolding judge fails stepTests ask
-step-13 room space st c e =
-    let st2 = after keyed st c in
-    let a = ok-judge keyed (always ++ late room) st c e in
-    let f : few st2 ≡ true = T-true (few st2) (and-l (few st2) _ (a .1)) in
-    let m : met keyed refsOf st2 ≡ true = T-true (met keyed refsOf st2) (and-l (met keyed refsOf st2) _ (and-r (few st2) _ (a .1))) in
-    rw (T-true (allowed (c .op) (get keyed (at keyed c) st)) (a .0), f, m) (ask-13 (fits space st2))
-
-run-13 : (room space n : ℕ) (st : List Rec) (cs : List (Change Rec)) → Taken keyed (always ++ late room) st cs → Only13 (run keyed (stepTests space) n st cs)
-unfolding run
-run-13 room space n st [] t = tt
-run-13 room space n st (c ∷ cs) t =
-    let st2 = after keyed st c in
-    go (judge keyed (stepTests space) st c) (step-13 room space st c (t .0)) (run keyed (stepTests space) (suc n) st2 cs) (run-13 room space (suc n) st2 cs (t .1))
-  where
-    go : (o : Option ℕ) → None13 o → (r : Out (List Rec)) → Only13 r → Only13 (on o n r)
-    go none i r h = unfold on in h
-    go (some w) i r h = unfold on in i
-
 -- an answer refuses with 13 alone
 abbrev Load13 : Answer → Type 0
 Load13 (took new i u d) = Unit {0}
 Load13 (refused c l f) = c ≡ 13
 
-load-13 : (room space : ℕ) (old b new : List ℕ) → Takes room old b new → Load13 (load space old b)
-unfolding load onHolding onFile fromStart outcome
-load-13 room space old b new a =
-    rw (held-sound old (a .st) (readHolding old) (a .held), a .read) (start (fits space (a .st)))
-  where
-    ran : (o : Out (List Rec)) → Only13 o → Load13 (outcome (a .cs) o)
-    ran (done st) i = tt
-    ran (stop l w) i = i
-
-    start : (c : Bool) → Load13 (pick c (outcome (a .cs) (run keyed (stepTests space) 2 (a .st) (a .cs))) (refused 13 0 0))
-    start true = ran (run keyed (stepTests space) 2 (a .st) (a .cs)) (run-13 room space 2 (a .st) (a .cs) (a .takes))
-    start false = refl
-
 -- undo answers 0, 13 or 17
 pub record Refusals (u : Undone) : Type 0 where
   pub codes : T (eqb (u .answer .code) 0 || (eqb (u .answer .code) 13 || eqb (u .answer .code) 17))
 
--- the undo of a file that is taken is refused only with 17, or with 13 by its work buffer
-pub undo-refusals : (room out space : ℕ) (old b new : List ℕ) → Takes room old b new → Refusals (undoFile old b out space)
-unfolding undoFile undone
-undo-refusals room out space old b new a = go (load space old b) (load-13 room space old b new a)
-  where
-    either : (c : Bool) (x y : Undone) → Refusals x → Refusals y → Refusals (pick c x y)
-    either true x y p q = p
-    either false x y p q = q
+module _ (F : Format) where
+  step-13 : (room space : ℕ) (st : List Rec) (c : Change Rec) → judge (keyed F) (always F ++ late room) st c ≡ none → None13 (judge (keyed F) (stepTests F space) st c)
+  unfolding judge fails stepTests ask
+  step-13 room space st c e =
+      let st2 = after (keyed F) st c in
+      let a = ok-judge (keyed F) (always F ++ late room) st c e in
+      let f : few st2 ≡ true = T-true (few st2) (and-l (few st2) _ (a .1)) in
+      let m : met (keyed F) (refsOf F) st2 ≡ true = T-true (met (keyed F) (refsOf F) st2) (and-l (met (keyed F) (refsOf F) st2) _ (and-r (few st2) _ (a .1))) in
+      rw (T-true (allowed (c .op) (get (keyed F) (at (keyed F) c) st)) (a .0), f, m) (ask-13 (fits space st2))
 
-    go : (x : Answer) → Load13 x → Refusals (undone out space (undoBytes old b) x)
-    go (took n i u d) h = either (leb (length (undoBytes old b)) out) _ _ (record { codes = tt }) (record { codes = tt })
-    go (refused c l f) h = record { codes = rw h tt }
+  run-13 : (room space n : ℕ) (st : List Rec) (cs : List (Change Rec)) → Taken (keyed F) (always F ++ late room) st cs → Only13 (run (keyed F) (stepTests F space) n st cs)
+  unfolding run
+  run-13 room space n st [] t = tt
+  run-13 room space n st (c ∷ cs) t =
+      let st2 = after (keyed F) st c in
+      go (judge (keyed F) (stepTests F space) st c) (step-13 room space st c (t .0)) (run (keyed F) (stepTests F space) (suc n) st2 cs) (run-13 room space (suc n) st2 cs (t .1))
+    where
+      go : (o : Option ℕ) → None13 o → (r : Out (List Rec)) → Only13 r → Only13 (on o n r)
+      go none i r h = unfold on in h
+      go (some w) i r h = unfold on in i
+
+  module _ (regular : Regular F) where
+    load-13 : (room space : ℕ) (old b new : List ℕ) → Takes F regular room old b new → Load13 (load F space old b)
+    unfolding load onHolding onFile fromStart outcome
+    load-13 room space old b new a =
+        rw (held-sound old (a .st) (readHolding F old) (a .held), a .read) (start (fits space (a .st)))
+      where
+        ran : (o : Out (List Rec)) → Only13 o → Load13 (outcome (a .cs) o)
+        ran (done st) i = tt
+        ran (stop l w) i = i
+
+        start : (c : Bool) → Load13 (pick c (outcome (a .cs) (run (keyed F) (stepTests F space) 2 (a .st) (a .cs))) (refused 13 0 0))
+        start true = ran (run (keyed F) (stepTests F space) 2 (a .st) (a .cs)) (run-13 room space 2 (a .st) (a .cs) (a .takes))
+        start false = refl
+
+    -- the undo of a file that is taken is refused only with 17, or with 13 by its work buffer
+    pub undo-refusals : (room out space : ℕ) (old b new : List ℕ) → Takes F regular room old b new → Refusals (undoFile F old b out space)
+    unfolding undoFile undone
+    undo-refusals room out space old b new a = go (load F space old b) (load-13 room space old b new a)
+      where
+        either : (c : Bool) (x y : Undone) → Refusals x → Refusals y → Refusals (pick c x y)
+        either true x y p q = p
+        either false x y p q = q
+
+        go : (x : Answer) → Load13 x → Refusals (undone out space (undoBytes F old b) x)
+        go (took n i u d) h = either (leb (length (undoBytes F old b)) out) _ _ (record { codes = tt }) (record { codes = tt })
+        go (refused c l f) h = record { codes = rw h tt }

@@ -17,7 +17,9 @@ use Rattle.base.specs.Lists.{pick, ask}
 use Rattle.base.specs.Tests.{and-l, and-r}
 use Rattle.meaning.specs.Forms.{Form, soundAs}
 use Rattle.meaning.specs.Lines.{fieldsFrom, fieldsOf, hasFields}
-use Rattle.meaning.specs.Table.{Kind, kinds, Field, fields, named, placeFrom, startDate, endDate}
+use Rattle.meaning.specs.Kinds.{Kind, kinds}
+use Rattle.meaning.specs.Format.{Field, named, placeFrom, startDate, endDate}
+use Rattle.meaning.specs.Table.{fields, scottish}
 use Rattle.meaning.specs.Sound as meant
 use Rattle.meaning.specs.Sound.{soundField, forms, datesAgree, fieldFault, formFault}
 use Rattle.theory.specs.Tri.{isLt}
@@ -82,11 +84,11 @@ pub count-there : (kd : Kind) (l : Layout) (k : ℕ) → l ≡ laidOut kd → k 
 count-there kd l k e h = row-there kd k (l .count) h (count-rows kd l e)
 
 -- a row says of its field what the table says
-pub sound-is : (row : ℕ) (p : Row) (m : Form) (b c : Bool) (f : List ℕ) → decoded row ≡ p → m ≡ formDecoded row → b ≡ filledDecoded row → c ≡ soundAs m b f → c ≡ soundAs (p .0) (p .1) f
+pub sound-is : (row : ℕ) (p : Row) (m : Form) (b c : Bool) (f : List ℕ) → decoded row ≡ p → m ≡ formDecoded row → b ≡ filledDecoded row → c ≡ soundAs (scottish .textRule) m b f → c ≡ soundAs (scottish .textRule) (p .0) (p .1) f
 sound-is row p m b c f d e g h = rw (← d, ← e, ← g) h
 
 module _ (kd : Kind) (t : List ℕ) (k n at x e : ℕ) (b : Bool) (w : badAt kd t k at ≡ x) (h : k < n) (c : n ≡ length (map bare (fields kd))) (q : e ≡ fieldEnd t at) (a : at ≤ e)
-    (s : b ≡ soundAs (rowOf kd k .0) (rowOf kd k .1) (take (e - at) (drop at t))) where
+    (s : b ≡ soundAs (scottish .textRule) (rowOf kd k .0) (rowOf kd k .1) (take (e - at) (drop at t))) where
   -- the row beside the field
   here : drop k (map bare (fields kd)) ≡ rowOf kd k ∷ drop (k + 1) (map bare (fields kd))
   unfolding rowOf
@@ -119,14 +121,14 @@ bad-done kd t k n at x w h c = rw (drop-of-length-le (map bare (fields kd)) {i =
 
 -- 5 at the lowest field that is malformed, else the rest
 pub forms-is : (n : ℕ) (ds : List Field) (fs : List (List ℕ)) (rest : Option meant.Fault)
-    → forms (suc n) ds fs rest ≡ pick (eqb (lowestBad (suc n) (map bare ds) fs) 0) rest (some (5, lowestBad (suc n) (map bare ds) fs))
+    → forms scottish (suc n) ds fs rest ≡ pick (eqb (lowestBad (suc n) (map bare ds) fs) 0) rest (some (5, lowestBad (suc n) (map bare ds) fs))
 unfolding forms lowestBad soundField ask
 forms-is n [] fs rest = refl
 forms-is n (d ∷ ds) [] rest = refl
-forms-is n (d ∷ ds) (f ∷ fs) rest = go (soundAs (d .form) (d .filled) f) (forms-is (suc n) ds fs rest)
+forms-is n (d ∷ ds) (f ∷ fs) rest = go (soundAs (scottish .textRule) (d .form) (d .filled) f) (forms-is (suc n) ds fs rest)
   where
-    go : (b : Bool) → forms (suc (suc n)) ds fs rest ≡ pick (eqb (lowestBad (suc (suc n)) (map bare ds) fs) 0) rest (some (5, lowestBad (suc (suc n)) (map bare ds) fs))
-        → ask b (5, suc n) (forms (suc (suc n)) ds fs rest)
+    go : (b : Bool) → forms scottish (suc (suc n)) ds fs rest ≡ pick (eqb (lowestBad (suc (suc n)) (map bare ds) fs) 0) rest (some (5, lowestBad (suc (suc n)) (map bare ds) fs))
+        → ask b (5, suc n) (forms scottish (suc (suc n)) ds fs rest)
         ≡ pick (eqb (pick b (lowestBad (suc (suc n)) (map bare ds) fs) (suc n)) 0) rest (some (5, pick b (lowestBad (suc (suc n)) (map bare ds) fs) (suc n)))
     go true e = e
     go false e = rw (ne-eqb (suc n) 0 (λ u. omega arith))
@@ -252,7 +254,7 @@ pub ruleset kinddates = (needs, start-there, end-there, noted-there, kind-no-sta
 -- ---- a line's faults in order
 
 -- the meaning's questions, by what is answered
-pub fault-is : (kd : Kind) (t : List ℕ) (rest : Option meant.Fault) → formFault kd t rest
+pub fault-is : (kd : Kind) (t : List ℕ) (rest : Option meant.Fault) → formFault scottish kd t rest
     ≡ ask (hasFields (length (fields kd)) t) (4, 0)
     (pick (eqb (lowestBad 1 (map bare (fields kd)) (fieldsOf t)) 0) (ask (kindDates kd (fieldsOf t)) (6, placeFrom 1 endDate (fields kd)) rest)
     (some (5, lowestBad 1 (map bare (fields kd)) (fieldsOf t))))
@@ -274,24 +276,24 @@ module _ (kd : Kind) (t : List ℕ) (l : Layout) (e : l ≡ laidOut kd) where
   right-count c p f = rw (← counted) (fields-right t (l .count) c p f some-fields)
 
   -- 4 for their number
-  pub fault-count : (c : ℕ) → c ≡ fieldCount t → (c ≡ l .count → ⊥) → record { code = 4; field = 0 } ≡ told (formFault kd t none)
+  pub fault-count : (c : ℕ) → c ≡ fieldCount t → (c ≡ l .count → ⊥) → record { code = 4; field = 0 } ≡ told (formFault scottish kd t none)
   unfolding ask
   fault-count c p f = rw (fault-is kd t none, ← counted, ← fields-wrong t (l .count) c p f)
 
   module _ (c : ℕ) (p : c ≡ fieldCount t) (f : c ≡ l .count) (n : ℕ) (q : n ≡ lowestBad 1 (map bare (fields kd)) (fieldsOf t)) where
     -- 5 for the lowest that is malformed
-    pub fault-form : (n ≡ 0 → ⊥) → record { code = 5; field = n } ≡ told (formFault kd t none)
+    pub fault-form : (n ≡ 0 → ⊥) → record { code = 5; field = n } ≡ told (formFault scottish kd t none)
     unfolding ask
     fault-form m = rw (fault-is kd t none, ← right-count c p f, ← q, ne-eqb n 0 m)
 
     module _ (z : n ≡ 0) (b : Bool) (r : b ≡ kindDates kd (fieldsOf t)) where
       -- 6 for END_DATE before START_DATE
-      pub fault-dates : b ≡ false → record { code = 6; field = l .end } ≡ told (formFault kd t none)
+      pub fault-dates : b ≡ false → record { code = 6; field = l .end } ≡ told (formFault scottish kd t none)
       unfolding ask laidOut
       fault-dates g = let v : l .end ≡ placeFrom 1 endDate (fields kd) = ap (λ x. x .end) e in rw (fault-is kd t none, ← right-count c p f, ← q, eq-eqb n 0 z, sym r ∙ g, v)
 
       -- else none
-      pub fault-none : b ≡ true → record { code = 0; field = 0 } ≡ told (formFault kd t none)
+      pub fault-none : b ≡ true → record { code = 0; field = 0 } ≡ told (formFault scottish kd t none)
       unfolding ask
       fault-none g = rw (fault-is kd t none, ← right-count c p f, ← q, eq-eqb n 0 z, sym r ∙ g)
 

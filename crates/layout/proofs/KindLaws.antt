@@ -17,7 +17,9 @@ use Rattle.base.specs.ListLaws.{same-eq, same-refl}
 use Rattle.theory.specs.Decimal.{value, valueF}
 use Rattle.meaning.specs.Forms.{isDigit}
 use Rattle.meaning.specs.Lines.{identifier}
-use Rattle.meaning.specs.Table.{Kind, kinds, ident, Role, headerLine, bodyLine, metadataLine, trailerLine, role, kindAmong, kindOf, numberedAmong}
+use Rattle.meaning.specs.Kinds.{Kind, kinds, ident, Role, headerLine, bodyLine, metadataLine, trailerLine, role, kindAmong, numberedAmong}
+use Rattle.meaning.specs.Format.{kindOf}
+use Rattle.meaning.specs.Table.{scottish}
 use Rattle.meaning.specs.Holding.{isHeld}
 use Rattle.laws.specs.Digits.{digit-low, digit-high}
 use Rattle.laws.specs.Kinds.{every}
@@ -67,27 +69,27 @@ among-number f [] t = refl
 among-number f (k ∷ ks) t = rw (same-number f k t, among-number f ks t)
 
 -- a run that is no two digits is no kind's
-no-kind : (f : List ℕ) → (T (twoDigits f) → ⊥) → (o : Option Kind) → kindOf f ≡ o → none ≡ o
+no-kind : (f : List ℕ) → (T (twoDigits f) → ⊥) → (o : Option Kind) → kindOf scottish f ≡ o → none ≡ o
 no-kind f n none e = refl
-no-kind f n (some k) e = absurd (n (subst (λ g. T (twoDigits g)) (sym (kind-out f k e)) (ident-two k)))
+no-kind f n (some k) e = absurd (n (subst (λ g. T (twoDigits g)) (sym (kind-out scottish f k e)) (ident-two k)))
 
 -- one of another length
-pub kind-length : (f : List ℕ) → (length f ≡ 2 → ⊥) → none ≡ kindOf f
-kind-length f n = no-kind f (λ t. n (eqb→eq (length f) 2 (and-l (eqb (length f) 2) (all isDigit f) t))) (kindOf f) refl
+pub kind-length : (f : List ℕ) → (length f ≡ 2 → ⊥) → none ≡ kindOf scottish f
+kind-length f n = no-kind f (λ t. n (eqb→eq (length f) 2 (and-l (eqb (length f) 2) (all isDigit f) t))) (kindOf scottish f) refl
 
 -- one with another byte
-pub kind-other : (f : List ℕ) (b : Bool) → b ≡ all isDigit f → b ≡ false → none ≡ kindOf f
-kind-other f b p q = no-kind f (λ t. rw (sym p ∙ q) at (and-r (eqb (length f) 2) (all isDigit f) t)) (kindOf f) refl
+pub kind-other : (f : List ℕ) (b : Bool) → b ≡ all isDigit f → b ≡ false → none ≡ kindOf scottish f
+kind-other f b p q = no-kind f (λ t. rw (sym p ∙ q) at (and-r (eqb (length f) 2) (all isDigit f) t)) (kindOf scottish f) refl
 
 -- two digits
-pub kind-number : (f : List ℕ) (b : Bool) (n : ℕ) (o : Option Kind) → length f ≡ 2 → b ≡ all isDigit f → b ≡ true → n ≡ value f → o ≡ numberedAmong kinds n → o ≡ kindOf f
+pub kind-number : (f : List ℕ) (b : Bool) (n : ℕ) (o : Option Kind) → length f ≡ 2 → b ≡ all isDigit f → b ≡ true → n ≡ value f → o ≡ numberedAmong kinds n → o ≡ kindOf scottish f
 unfolding kindOf
 kind-number f b n o l p q v e = e ∙ rw v (among-number f kinds (and-in (eqb (length f) 2) (all isDigit f) (yes-eqb l) (rw (sym p ∙ q) tt)))
 
 pub ruleset identifiers = (needs, not-true, not-false, kind-length, kind-other, kind-number)
 
 -- the bytes up to where the identifier ends are the identifier
-pub kind-told : (t : List ℕ) (n : ℕ) (o : Option Kind) → n ≡ length (identifier t) → o ≡ kindOf (take (n - 0) t) → o ≡ kindOf (identifier t)
+pub kind-told : (t : List ℕ) (n : ℕ) (o : Option Kind) → n ≡ length (identifier t) → o ≡ kindOf scottish (take (n - 0) t) → o ≡ kindOf scottish (identifier t)
 kind-told t n o e g = g ∙ rw (sub-zero, e, identifier-part t)
 
 pub ruleset kindtold = (needs, kind-told)

@@ -12,7 +12,8 @@ use lib.ListN.{length, getD, take, drop, length-map, length-drop, drop-of-length
 use lib.Seq.{drop-drop}
 use Rattle.meaning.specs.Forms.{soundAs}
 use Rattle.meaning.specs.Lines.{fieldsFrom, fieldsOf}
-use Rattle.meaning.specs.Table.{Kind, fields}
+use Rattle.meaning.specs.Kinds.{Kind}
+use Rattle.meaning.specs.Table.{fields, scottish}
 use Rattle.text.specs.Places.{fieldLen, fieldEnd, endsFrom, fieldEnds}
 use Rattle.text.proofs.FieldLaws.{fields-many}
 use Rattle.text.proofs.SplitLaws.{ends-at, len-le}
@@ -80,7 +81,7 @@ module _ (kd : Kind) (t a : List ℕ) (n k at : ℕ) (p : Passing kd t a n k at)
   pub pass-within : getD a k 0 ≤ length t
   pass-within = omega (arith, pass-end, p .within h, len-le false (drop at t), length-drop at t)
 
-  module _ (b : Bool) (s : b ≡ soundAs (rowOf kd k .0) (rowOf kd k .1) (take (getD a k 0 - at) (drop at t))) where
+  module _ (b : Bool) (s : b ≡ soundAs (scottish .textRule) (rowOf kd k .0) (rowOf kd k .1) (take (getD a k 0 - at) (drop at t))) where
     -- a field that is malformed is the lowest
     pub pass-stop : b ≡ false → k + 1 ≡ lowest kd t
     pass-stop f = bad-stop kd t k n at (lowest kd t) (getD a k 0) b (p .left) h (p .rows) pass-end pass-forward s f

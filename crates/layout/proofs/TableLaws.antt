@@ -7,7 +7,8 @@ use borrow.Author.Needs.{needs}
 use lib.ListN.{length, getD, List·getD-map}
 use mir.Syntax.{w64}
 use mir.Val.{Fits}
-use Rattle.meaning.specs.Table.{Kind, header, street, streetXref, blpu, appXref, lpi, metadata, trailer, fields}
+use Rattle.meaning.specs.Kinds.{Kind, header, street, streetXref, blpu, appXref, lpi, metadata, trailer}
+use Rattle.meaning.specs.Table.{fields}
 use Rattle.layout.specs.declared.kinds.Kind.{Kind as Named}
 use Rattle.layout.specs.Meant.{kindMeant}
 use Rattle.layout.specs.Rows.{bare, noRow, rowOf, decoded, formDecoded, filledDecoded}

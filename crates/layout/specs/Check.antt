@@ -8,7 +8,9 @@ use lib.ListN.{length}
 use Rattle.base.specs.Lists.{pick}
 use Rattle.meaning.specs.Forms.{soundAs}
 use Rattle.meaning.specs.Lines.{hasFields}
-use Rattle.meaning.specs.Table.{Kind, fields, named, startDate, endDate}
+use Rattle.meaning.specs.Kinds.{Kind}
+use Rattle.meaning.specs.Format.{named, startDate, endDate}
+use Rattle.meaning.specs.Table.{fields, scottish}
 use Rattle.meaning.specs.Sound as meant
 use Rattle.meaning.specs.Sound.{datesAgree}
 use Rattle.text.specs.Places.{Notes}
@@ -19,7 +21,7 @@ use Rattle.layout.specs.Rows.{Row}
 unfoldable pub lowestBad : ℕ → List Row → List (List ℕ) → ℕ
 lowestBad n [] fs = 0
 lowestBad n (d ∷ ds) [] = 0
-lowestBad n (d ∷ ds) (f ∷ fs) = pick (soundAs (d .0) (d .1) f) (lowestBad (suc n) ds fs) n
+lowestBad n (d ∷ ds) (f ∷ fs) = pick (soundAs (scottish .textRule) (d .0) (d .1) f) (lowestBad (suc n) ds fs) n
 
 -- START_DATE and END_DATE among the fields of a kind are in order
 unfoldable pub kindDates : Kind → List (List ℕ) → Bool

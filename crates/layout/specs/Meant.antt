@@ -1,7 +1,7 @@
 -- The kinds and roles that code names, as the meaning has them.
 use mathlib.Core.Option.{Option, none, some}
-use Rattle.meaning.specs.Table
-use Rattle.meaning.specs.Table.{Kind as Meaning, Role as Place}
+use Rattle.meaning.specs.Kinds
+use Rattle.meaning.specs.Kinds.{Kind as Meaning, Role as Place}
 use Rattle.layout.specs.declared.kinds.Kind.{Kind}
 use Rattle.layout.specs.declared.kinds.Kind.the-variants.{Header, Street, StreetXref, Blpu, AppXref, Lpi, Metadata, Trailer}
 use Rattle.layout.specs.declared.kinds.KindFound.{KindFound}
@@ -11,14 +11,14 @@ use Rattle.layout.specs.declared.kinds.Role.the-variants.{HeaderLine, Bo
 
 -- the kind that is meant
 abbrev pub kindMeant : Kind → Meaning
-kindMeant Header = Table.header
-kindMeant Street = Table.street
-kindMeant StreetXref = Table.streetXref
-kindMeant Blpu = Table.blpu
-kindMeant AppXref = Table.appXref
-kindMeant Lpi = Table.lpi
-kindMeant Metadata = Table.metadata
-kindMeant Trailer = Table.trailer
+kindMeant Header = Kinds.header
+kindMeant Street = Kinds.street
+kindMeant StreetXref = Kinds.streetXref
+kindMeant Blpu = Kinds.blpu
+kindMeant AppXref = Kinds.appXref
+kindMeant Lpi = Kinds.lpi
+kindMeant Metadata = Kinds.metadata
+kindMeant Trailer = Kinds.trailer
 
 -- the kind that was found, if any
 abbrev pub kindFound : KindFound → Option Meaning
@@ -27,14 +27,14 @@ kindFound Unknown = none
 
 -- the role that is meant
 abbrev pub roleMeant : Role → Place
-roleMeant HeaderLine = Table.headerLine
-roleMeant BodyLine = Table.bodyLine
-roleMeant MetadataLine = Table.metadataLine
-roleMeant TrailerLine = Table.trailerLine
+roleMeant HeaderLine = Kinds.headerLine
+roleMeant BodyLine = Kinds.bodyLine
+roleMeant MetadataLine = Kinds.metadataLine
+roleMeant TrailerLine = Kinds.trailerLine
 
 -- the role of a kind, as code names it
 abbrev pub roleNamed : Place → Role
-roleNamed Table.headerLine = HeaderLine
-roleNamed Table.bodyLine = BodyLine
-roleNamed Table.metadataLine = MetadataLine
-roleNamed Table.trailerLine = TrailerLine
+roleNamed Kinds.headerLine = HeaderLine
+roleNamed Kinds.bodyLine = BodyLine
+roleNamed Kinds.metadataLine = MetadataLine
+roleNamed Kinds.trailerLine = TrailerLine

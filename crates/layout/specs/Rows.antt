@@ -8,7 +8,9 @@ use lib.ListN.{length, getD}
 use Rattle.base.specs.Lists.{pick, zeros}
 use Rattle.theory.specs.Decimal.{value}
 use Rattle.meaning.specs.Forms.{Form, number, atLeast1, decimal, date, time, text, changeType, xrefType, fileType, keyText}
-use Rattle.meaning.specs.Table.{Kind, Field, ident, role, fields, keyNames, refersTo, placeFrom, startDate, endDate}
+use Rattle.meaning.specs.Kinds.{Kind, ident, role}
+use Rattle.meaning.specs.Format.{Field, placeFrom, startDate, endDate}
+use Rattle.meaning.specs.Table.{fields, keyNames, refersTo}
 use Rattle.layout.specs.declared.records.Layout.{Layout}
 use Rattle.layout.specs.Meant.{roleNamed}
 

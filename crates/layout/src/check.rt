@@ -6,7 +6,8 @@ ghost use Prim.Native.Nat.{_<_};
 ghost use lib.ListN.{length};
 ghost use Rattle.meaning.specs.Forms.{soundAs};
 ghost use Rattle.meaning.specs.Lines.{identifier, fieldsOf};
-ghost use Rattle.meaning.specs.Table.{fields, kindOf};
+ghost use Rattle.meaning.specs.Format.{kindOf};
+ghost use Rattle.meaning.specs.Table.{fields, scottish};
 ghost use Rattle.meaning.specs.Sound.{datesAgree, formFault};
 ghost use Rattle.layout.specs.Meant.{kindMeant, kindFound};
 ghost use Rattle.layout.specs.Rows.{bare, rowOf};
@@ -31,7 +32,7 @@ pub struct Fault {
 
 // The kind of an identifier.
 pub fn kind_of(identifier: &[u8]) -> KindFound
-    ensures { λ r. ⌜ kindFound r ≡ kindOf (now (identifier .entry)) ⌝ }
+    ensures { λ r. ⌜ kindFound r ≡ kindOf scottish (now (identifier .entry)) ⌝ }
 {
     if identifier.len() != 2 {
         return KindFound::Unknown;
@@ -44,7 +45,7 @@ pub fn kind_of(identifier: &[u8]) -> KindFound
 
 // The kind of a line.
 pub fn kind_at(line: &[u8]) -> KindFound
-    ensures { λ r. ⌜ kindFound r ≡ kindOf (identifier (now (line .entry))) ⌝ }
+    ensures { λ r. ⌜ kindFound r ≡ kindOf scottish (identifier (now (line .entry))) ⌝ }
 {
     let end = identifier_end(line);
     kind_of(&line[0..end])
@@ -53,7 +54,7 @@ pub fn kind_at(line: &[u8]) -> KindFound
 // Whether a field, counted from 0, is sound as its row has it.
 pub fn sound_at(kind: Kind, k: usize, f: &[u8]) -> bool
     requires { ⌜ k < length (fields (kindMeant kind)) ⌝ }
-    ensures { λ r. ⌜ r ≡ soundAs (rowOf (kindMeant kind) k .0) (rowOf (kindMeant kind) k .1) (now (f .entry)) ⌝ }
+    ensures { λ r. ⌜ r ≡ soundAs (scottish .textRule) (rowOf (kindMeant kind) k .0) (rowOf (kindMeant kind) k .1) (now (f .entry)) ⌝ }
 {
     let r = row(kind, k);
     form::sound(form_of(r), is_mandatory(r), f)
@@ -119,7 +120,7 @@ pub fn dates_agree(kind: Kind, line: &[u8], ends: &[usize]) -> bool
 
 // A line's first fault in count, form and dates.
 pub fn check_line(kind: Kind, line: &[u8]) -> Fault
-    ensures { λ r. ⌜ r ≡ told (formFault (kindMeant kind) (now (line .entry)) none) ⌝ }
+    ensures { λ r. ⌜ r ≡ told (formFault scottish (kindMeant kind) (now (line .entry)) none) ⌝ }
 {
     let l = layout(kind);
     let count = l.count;

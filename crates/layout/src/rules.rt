@@ -2,7 +2,8 @@
 ghost use mathlib.Core.Path.{_≡_};
 ghost use Prim.Native.Nat.{_<_};
 ghost use lib.ListN.{length};
-ghost use Rattle.meaning.specs.Table.{role, fields, kinds, numberedAmong};
+ghost use Rattle.meaning.specs.Kinds.{role, kinds, numberedAmong};
+ghost use Rattle.meaning.specs.Table.{fields};
 ghost use Rattle.meaning.specs.Holding.{isHeld};
 ghost use Rattle.form.specs.Meant.{meant};
 ghost use Rattle.layout.specs.Meant.{kindMeant, kindFound};

@@ -7,6 +7,7 @@ use lib.ListN.{length, take, drop, length-append, length-drop}
 use lib.Seq.{length-take-le, take-at}
 use Rattle.theory.specs.Step.{Change}
 use Rattle.meaning.specs.Lines.{Line, linesOf}
+use Rattle.meaning.specs.Table.{scottish}
 use Rattle.meaning.specs.Records.{Rec, changeTexts, joined}
 use Rattle.meaning.specs.File.{Frame, writeFile}
 use Rattle.laws.specs.LinesAndFields.{endsAll, unlines, lines-join, unlines-ends, joined-append, ends-past}
@@ -18,7 +19,7 @@ abbrev firstText : List Line → List ℕ
 firstText [] = []
 firstText (l ∷ ls) = l .text
 
-module _ (f : List ℕ) (fr : Frame) (cs : List (Change Rec)) (w : SoundFile f fr cs) where
+module _ (f : List ℕ) (fr : Frame) (cs : List (Change Rec)) (w : SoundFile scottish f fr cs) where
   -- the first line with its CR LF
   abbrev opening : List ℕ
   opening = fr .headerText ++ (13 ∷ 10 ∷ [])
@@ -56,7 +57,7 @@ module _ (f : List ℕ) (fr : Frame) (cs : List (Change Rec)) (w : SoundFile f f
   module _ (e n : ℕ) (q : linesOf (drop e f) ≡ drop (n + 1) (linesOf f)) (k : n ≡ length cs) where
     past : drop (n + 1) (linesOf f) ≡ endsAll closing
     past =
-        let z : n + 1 ≡ suc (length (w .texts)) = omega (arith, says-length 1 (w .texts) cs (w .body)) in
+        let z : n + 1 ≡ suc (length (w .texts)) = omega (arith, says-length scottish 1 (w .texts) cs (w .body)) in
         rw z (ap (drop (suc (length (w .texts)))) (w .lines) ∙ ends-past (w .texts) closing)
 
     rest : drop e f ≡ joined closing

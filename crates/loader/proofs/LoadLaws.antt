@@ -13,6 +13,7 @@ use Rattle.theory.specs.TrailLaws.{length-undo}
 use Rattle.theory.specs.ReadBack.{Sound}
 use Rattle.theory.specs.Run.{done, run}
 use Rattle.theory.specs.Answer.{Read, fault, file, took, refused, count}
+use Rattle.meaning.specs.Table.{scottish}
 use Rattle.meaning.specs.Records.{Rec, keyed, changeTexts, joined}
 use Rattle.meaning.specs.File.{Sheet, readFile}
 use Rattle.meaning.specs.Holding as meaning
@@ -24,6 +25,7 @@ use Rattle.laws.specs.FileRefusals.{ReadIn, among, file-codes}
 use Rattle.laws.specs.SoundHolding.{held-is-sound}
 use Rattle.laws.specs.SoundFile.{SoundFile, read-sound}
 use Rattle.laws.specs.Checks.{held-bytes}
+use Rattle.laws.specs.Scottish.{scottish-regular}
 use Rattle.text.specs.Places.{lineEnd}
 use Rattle.volume.specs.declared.check.Answer.{Answer as Six′}
 use Rattle.volume.specs.Answer.{answerOf}
@@ -47,41 +49,41 @@ use Rattle.loader.proofs.FrameLaws.{frame-ends, frame-opens, frame-copi
 -- ---- each refusal
 
 -- 14 for an unsound holding
-pub load-unsound : (h f : List ℕ) (room : ℕ) (r : Held) (a o k : List ℕ) → HeldIs h r a o k → (r .line ≡ 0 → ⊥) → load room h f ≡ refused 14 (r .line) 0
+pub load-unsound : (h f : List ℕ) (room : ℕ) (r : Held) (a o k : List ℕ) → HeldIs h r a o k → (r .line ≡ 0 → ⊥) → load scottish room h f ≡ refused 14 (r .line) 0
 unfolding load
-load-unsound h f room r a o k w n = go (readHolding h) (w .line)
+load-unsound h f room r a o k w n = go (readHolding scottish h) (w .line)
   where
-    go : (u : meaning.Held) → r .line ≡ faultOf u → onHolding room f u ≡ refused 14 (r .line) 0
+    go : (u : meaning.Held) → r .line ≡ faultOf u → onHolding scottish room f u ≡ refused 14 (r .line) 0
     go (sound st) e = absurd (unfold faultOf in n e)
     go (unsound m) e = unfold faultOf onHolding in rw e
 
 module _ (h f : List ℕ) (room : ℕ) (r : Held) (a o tl : List ℕ) (w : HeldIs h r a o tl) (z : r .line ≡ 0) where
   -- the holding's records
   abbrev st : List Rec
-  st = recordsOf (readHolding h)
+  st = recordsOf (readHolding scottish h)
 
-  sounds : readHolding h ≡ sound st
+  sounds : readHolding scottish h ≡ sound st
   sounds = held-sound h (sym (w .line) ∙ z)
 
-  state : Sound keyed fine always st
+  state : Sound (keyed scottish) (fine scottish) (always scottish) st
   unfolding heldRecords
-  state = holding .holds h st (ap heldRecords sounds) .1
+  state = holding scottish scottish-regular .holds h st (ap heldRecords sounds) .1
 
   bytes : h ≡ written st
-  bytes = held-bytes h st (held-is-sound h st sounds)
+  bytes = held-bytes scottish h st (held-is-sound scottish scottish-regular h st sounds)
 
   -- so the file is judged
-  on-file : load room h f ≡ onFile room st (readFile f)
+  on-file : load scottish room h f ≡ onFile scottish room st (readFile scottish f)
   unfolding load onHolding
-  on-file = ap (onHolding room f) sounds
+  on-file = ap (onHolding scottish room f) sounds
 
-  module _ (c : Six′) (e : c ≡ answerOf (checkFile f)) where
+  module _ (c : Six′) (e : c ≡ answerOf (checkFile scottish f)) where
     -- the file's own fault
-    pub load-faulty : (c .code ≡ 0 → ⊥) → load room h f ≡ refused (c .code) (c .line) (c .field)
+    pub load-faulty : (c .code ≡ 0 → ⊥) → load scottish room h f ≡ refused (c .code) (c .line) (c .field)
     unfolding checkFile
-    load-faulty n = on-file ∙ go (readFile f) e
+    load-faulty n = on-file ∙ go (readFile scottish f) e
       where
-        go : (u : Read Sheet) → c ≡ answerOf (checked u) → onFile room st u ≡ refused (c .code) (c .line) (c .field)
+        go : (u : Read Sheet) → c ≡ answerOf (checked u) → onFile scottish room st u ≡ refused (c .code) (c .line) (c .field)
         go (fault d l x) q = unfold checked onFile in rw q
         go (file s) q = absurd (unfold checked in n (ap (λ y. y .code) q))
 
@@ -89,36 +91,36 @@ module _ (h f : List ℕ) (room : ℕ) (r : Held) (a o tl : List ℕ) (w : HeldI
       -- what was read of the file
       pub record Reads : Type 0 where
         pub sheet : Sheet
-        pub reads : readFile f ≡ file sheet
+        pub reads : readFile scottish f ≡ file sheet
         pub counts : c ≡ answerOf (six 0 0 0 (count ins (sheet .1)) (count upd (sheet .1)) (count del (sheet .1)))
 
       read : Reads
       unfolding checkFile
-      read = go (readFile f) refl (file-codes f) e
+      read = go (readFile scottish f) refl (file-codes scottish scottish-regular f) e
         where
-          go : (u : Read Sheet) → readFile f ≡ u → ReadIn u → c ≡ answerOf (checked u) → Reads
+          go : (u : Read Sheet) → readFile scottish f ≡ u → ReadIn u → c ≡ answerOf (checked u) → Reads
           go (fault d l x) q i p = absurd (unfold checked among in (rw (sym (ap (λ y. y .code) p) ∙ k) at i))
           go (file s) q i p = unfold checked in record { sheet = s; reads = q; counts = p }
 
       -- it is a sound file
-      pub is-file : T (isFile (readFile f))
+      pub is-file : T (isFile (readFile scottish f))
       is-file = rw (read .reads) tt
 
       -- so the room is asked for
-      on-start : load room h f ≡ fromStart room st (read .sheet)
+      on-start : load scottish room h f ≡ fromStart scottish room st (read .sheet)
       unfolding onFile
-      on-start = on-file ∙ ap (onFile room st) (read .reads)
+      on-start = on-file ∙ ap (onFile scottish room st) (read .reads)
 
       -- 13 for the start
-      pub load-short : room < length h → load room h f ≡ refused 13 0 0
+      pub load-short : room < length h → load scottish room h f ≡ refused 13 0 0
       unfolding fromStart fits
       load-short s = on-start ∙ rw (lt-leb (length (written st)) room (omega (arith, ap length bytes)))
 
       module _ (s : length h ≤ room) where
         -- so the steps are made
-        on-steps : load room h f ≡ outcome (read .sheet .1) (run keyed (stepTests room) 2 st (read .sheet .1))
+        on-steps : load scottish room h f ≡ outcome (read .sheet .1) (run (keyed scottish) (stepTests scottish room) 2 st (read .sheet .1))
         unfolding fromStart fits
-        on-steps = on-start ∙ ap (λ b. pick b (outcome (read .sheet .1) (run keyed (stepTests room) 2 st (read .sheet .1))) (refused 13 0 0)) (le-leb (length (written st)) room (omega (arith, ap length bytes)))
+        on-steps = on-start ∙ ap (λ b. pick b (outcome (read .sheet .1) (run (keyed scottish) (stepTests scottish room) 2 st (read .sheet .1))) (refused 13 0 0)) (le-leb (length (written st)) room (omega (arith, ap length bytes)))
 
         -- the holding as it stands is ready for them
         pub load-ready : 8192 ≤ length a → room < 9223372036854775808 → length h < 9223372036854775808 → length f < 9223372036854775808
@@ -156,11 +158,11 @@ module _ (h f : List ℕ) (room : ℕ) (r : Held) (a o tl : List ℕ) (w : HeldI
           said = w .listed z .says f
 
           -- the run of the file's changes
-          ran : ranAs h f b n ≡ run keyed (stepTests room) 2 st (read .sheet .1)
-          ran = y .ended ∙ ap (λ l. run keyed (stepTests room) 2 l (changesOf (readFile f))) said ∙ ap (λ u. run keyed (stepTests room) 2 st (changesOf u)) (read .reads)
+          ran : ranAs h f b n ≡ run (keyed scottish) (stepTests scottish room) 2 st (read .sheet .1)
+          ran = y .ended ∙ ap (λ l. run (keyed scottish) (stepTests scottish room) 2 l (changesOf (readFile scottish f))) said ∙ ap (λ u. run (keyed scottish) (stepTests scottish room) 2 st (changesOf u)) (read .reads)
 
           -- a step that is refused
-          pub load-stopped : (n .code ≡ 0 → ⊥) → load room h f ≡ refused (n .code) (n .line) 0
+          pub load-stopped : (n .code ≡ 0 → ⊥) → load scottish room h f ≡ refused (n .code) (n .line) 0
           unfolding outcome
           load-stopped m = on-steps ∙ rw (← ran, ne-eqb (n .code) 0 m)
 
@@ -172,27 +174,27 @@ module _ (h f : List ℕ) (room : ℕ) (r : Held) (a o tl : List ℕ) (w : HeldI
             ready = y .ready m
 
             -- all steps made
-            made : load room h f ≡ took (written (says h f b (n .state .count))) (c .inserts) (c .updates) (c .deletes)
+            made : load scottish room h f ≡ took (written (says h f b (n .state .count))) (c .inserts) (c .updates) (c .deletes)
             unfolding outcome
             made =
                 let d : ranAs h f b n ≡ done (says h f b (n .state .count)) = rw (eq-eqb (n .code) 0 m) in
                 on-steps ∙ ap (outcome (read .sheet .1)) (sym ran ∙ d) ∙ ap (λ x. took (written (says h f b (n .state .count))) (x .inserts) (x .updates) (x .deletes)) (sym (read .counts))
 
             -- and how they are taken back
-            backed : stepsBack h f t u (n .steps) ≡ undo (after keyed) (back keyed) st (read .sheet .1)
-            backed = kept .backed ∙ ap (λ l. undo (after keyed) (back keyed) l (changesOf (readFile f))) said ∙ ap (λ u. undo (after keyed) (back keyed) st (changesOf u)) (read .reads)
+            backed : stepsBack h f t u (n .steps) ≡ undo (after (keyed scottish)) (back (keyed scottish)) st (read .sheet .1)
+            backed = kept .backed ∙ ap (λ l. undo (after (keyed scottish)) (back (keyed scottish)) l (changesOf (readFile scottish f))) said ∙ ap (λ u. undo (after (keyed scottish)) (back (keyed scottish)) st (changesOf u)) (read .reads)
 
-            file-sound : SoundFile f (read .sheet .0) (read .sheet .1)
-            file-sound = read-sound f (read .sheet .0) (read .sheet .1) (read .reads)
+            file-sound : SoundFile scottish f (read .sheet .0) (read .sheet .1)
+            file-sound = read-sound scottish f (read .sheet .0) (read .sheet .1) (read .reads)
 
             many : n .steps ≡ length (read .sheet .1)
-            many = sym (length-back h f t u (n .steps)) ∙ ap length backed ∙ length-undo (after keyed) (back keyed) st (read .sheet .1)
+            many = sym (length-back h f t u (n .steps)) ∙ ap length backed ∙ length-undo (after (keyed scottish)) (back (keyed scottish)) st (read .sheet .1)
 
-            undoes : undoBytes h f ≡ undoText h f t u (n .steps) (n .end)
+            undoes : undoBytes scottish h f ≡ undoText h f t u (n .steps) (n .end)
             unfolding undoBytes undoHeld undoSheet backTexts undoText
             undoes =
-                ap (undoHeld f) sounds ∙ ap (undoSheet st) (read .reads)
-                ∙ frame-copied f (read .sheet .0) (read .sheet .1) file-sound (n .end) (n .steps) (kept .rest) many (undo (after keyed) (back keyed) st (read .sheet .1))
+                ap (undoHeld scottish f) sounds ∙ ap (undoSheet scottish st) (read .reads)
+                ∙ frame-copied f (read .sheet .0) (read .sheet .1) file-sound (n .end) (n .steps) (kept .rest) many (undo (after (keyed scottish)) (back (keyed scottish)) st (read .sheet .1))
                 ∙ ap (λ l. take (lineEnd f 0 + 2) f ++ (joined (changeTexts 1 l) ++ drop (n .end) f)) (sym backed)
 
             -- what a file that is taken leaves
@@ -211,5 +213,5 @@ module _ (h f : List ℕ) (room : ℕ) (r : Held) (a o tl : List ℕ) (w : HeldI
             })
 
 -- a refusal leaves nothing
-pub load-refused : (h f b t u : List ℕ) (room c l x : ℕ) (r : Loaded) → load room h f ≡ refused c l x → (c ≡ 0 → ⊥) → r ≡ record { answer = answerOf (six c l x 0 0 0); count = 0; steps = 0; end = 0 } → Loads h f b t u room r
+pub load-refused : (h f b t u : List ℕ) (room c l x : ℕ) (r : Loaded) → load scottish room h f ≡ refused c l x → (c ≡ 0 → ⊥) → r ≡ record { answer = answerOf (six c l x 0 0 0); count = 0; steps = 0; end = 0 } → Loads h f b t u room r
 load-refused h f b t u room c l x r e n q = rw q (record { answered = ap (λ y. answerOf (numbers y)) (sym e); taken = λ z. absurd (n z) })

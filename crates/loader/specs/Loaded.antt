@@ -5,6 +5,7 @@ use Prim.Native.Nat.{ℕ, _+_, _≤_}
 use lib.ListN.{length, take, drop}
 use Rattle.theory.specs.Answer as theory
 use Rattle.theory.specs.Answer.{took, refused}
+use Rattle.meaning.specs.Table.{scottish}
 use Rattle.meaning.specs.File.{mostBody}
 use Rattle.meaning.specs.Holding.{written}
 use Rattle.meaning.specs.Load.{Six, six, load, undoBytes}
@@ -25,15 +26,15 @@ undoText h f steps before n end = take (lineEnd f 0 + 2) f ++ (backTexts h f ste
 
 -- the places say the new holding, and the steps made say the undo
 pub record Taken (h f places steps before : List ℕ) (room : ℕ) (r : Loaded) : Type 0 where
-  pub loaded : load room h f ≡ took (written (says h f places (r .count))) (r .answer .inserts) (r .answer .updates) (r .answer .deletes)
+  pub loaded : load scottish room h f ≡ took (written (says h f places (r .count))) (r .answer .inserts) (r .answer .updates) (r .answer .deletes)
   pub held : r .count ≤ length places
   pub fits : length (written (says h f places (r .count))) ≤ room
   pub few : r .steps ≤ mostBody
   pub opens : lineEnd f 0 + 2 ≤ r .end
   pub ends : r .end ≤ length f
-  pub undoes : undoBytes h f ≡ undoText h f steps before (r .steps) (r .end)
+  pub undoes : undoBytes scottish h f ≡ undoText h f steps before (r .steps) (r .end)
 
 -- the numbers are those of the definition, and where they are of a file that is taken, this is what it leaves
 pub record Loads (h f places steps before : List ℕ) (room : ℕ) (r : Loaded) : Type 0 where
-  pub answered : r .answer ≡ answerOf (numbers (load room h f))
+  pub answered : r .answer ≡ answerOf (numbers (load scottish room h f))
   pub taken : r .answer .code ≡ 0 → Taken h f places steps before room r

@@ -73,32 +73,18 @@ quoted t = 34 ∷ (t ++ (34 ∷ []))
 unfoldable pub inside : List ℕ → List ℕ
 inside f = part f 1 (length f - 1)
 
--- T w: a quote, 0 to w bytes, a quote
-unfoldable pub isText : ℕ → List ℕ → Bool
-isText w f = same f (quoted (inside f)) && (leb (length (inside f)) w && all isTextByte (inside f))
+-- what may stand between the quotes of a text of width w
+abbrev pub TextRule : Type 0
+TextRule = ℕ → List ℕ → Bool
+
+-- paper 01's rule: 0 to w bytes, so its width counts bytes
+unfoldable pub byBytes : TextRule
+byBytes w t = leb (length t) w && all isTextByte t
 
 -- one of a list of values
 unfoldable pub oneOf : List (List ℕ) → List ℕ → Bool
 oneOf [] f = false
 oneOf (v ∷ vs) f = same f v || oneOf vs f
-
--- four digits, a letter, nine digits, in quotes
-unfoldable pub isKey : ℕ → List ℕ → Bool
-isKey letter f = isText 14 f && (eqb (length f) 16 && (digits 4 (part f 1 5) && (same (part f 5 6) (letter ∷ []) && digits 9 (part f 6 15))))
-
--- a filled field has the form
-unfoldable pub hasForm : Form → List ℕ → Bool
-hasForm (number w) f = isNumber w f
-hasForm (atLeast1 w) f = isNumber w f && leb 1 (value f)
-hasForm (decimal w d) f = isDecimal w d f
-hasForm date f = isDate f
-hasForm time f = isTime f
-hasForm (text w) f = isText w f
-hasForm changeType f = oneOf (bytes "\"I\"" ∷ bytes "\"U\"" ∷ bytes "\"D\"" ∷ []) f
-hasForm xrefType f = oneOf (bytes "1" ∷ bytes "2" ∷ []) f
-hasForm fileType f =
-    oneOf (bytes "\"A\"" ∷ bytes "\"B\"" ∷ bytes "\"C\"" ∷ bytes "\"D\"" ∷ bytes "\"E\"" ∷ bytes "\"F\"" ∷ bytes "\"G\"" ∷ bytes "\"H\"" ∷ []) f
-hasForm (keyText letter) f = isKey letter f
 
 -- the form is a text's
 unfoldable pub isTextual : Form → Bool
@@ -117,10 +103,35 @@ isTextual (keyText letter) = true
 unfoldable pub isEmpty : Form → List ℕ → Bool
 isEmpty m f = same f (pick (isTextual m) (34 ∷ 34 ∷ []) [])
 
--- a field is sound: empty where it need not be filled, else of its form
-unfoldable pub soundAs : Form → Bool → List ℕ → Bool
-soundAs m filled f = pick (isEmpty m f) (not filled) (hasForm m f)
-
 -- what keys compare: a number's value; the bytes of a text
 unfoldable pub valueOf : Form → List ℕ → List ℕ
 valueOf m f = pick (isTextual m) (inside f) (value f ∷ [])
+
+-- ---- forms under a rule for texts
+
+module _ (rule : TextRule) where
+  -- T w: a quote, what the rule allows for w, a quote
+  unfoldable pub isText : ℕ → List ℕ → Bool
+  isText w f = same f (quoted (inside f)) && rule w (inside f)
+
+  -- four digits, a letter, nine digits, in quotes
+  unfoldable pub isKey : ℕ → List ℕ → Bool
+  isKey letter f = isText 14 f && (eqb (length f) 16 && (digits 4 (part f 1 5) && (same (part f 5 6) (letter ∷ []) && digits 9 (part f 6 15))))
+
+  -- a filled field has the form
+  unfoldable pub hasForm : Form → List ℕ → Bool
+  hasForm (number w) f = isNumber w f
+  hasForm (atLeast1 w) f = isNumber w f && leb 1 (value f)
+  hasForm (decimal w d) f = isDecimal w d f
+  hasForm date f = isDate f
+  hasForm time f = isTime f
+  hasForm (text w) f = isText w f
+  hasForm changeType f = oneOf (bytes "\"I\"" ∷ bytes "\"U\"" ∷ bytes "\"D\"" ∷ []) f
+  hasForm xrefType f = oneOf (bytes "1" ∷ bytes "2" ∷ []) f
+  hasForm fileType f =
+      oneOf (bytes "\"A\"" ∷ bytes "\"B\"" ∷ bytes "\"C\"" ∷ bytes "\"D\"" ∷ bytes "\"E\"" ∷ bytes "\"F\"" ∷ bytes "\"G\"" ∷ bytes "\"H\"" ∷ []) f
+  hasForm (keyText letter) f = isKey letter f
+
+  -- a field is sound: empty where it need not be filled, else of its form
+  unfoldable pub soundAs : Form → Bool → List ℕ → Bool
+  soundAs m filled f = pick (isEmpty m f) (not filled) (hasForm m f)

@@ -7,6 +7,7 @@ use lib.ListN.{length, set}
 use lib.Seq.{getD-set-same, getD-set-other}
 use Rattle.theory.specs.Step.{inv, Change, after, back}
 use Rattle.theory.specs.Trail.{undo}
+use Rattle.meaning.specs.Table.{scottish}
 use Rattle.meaning.specs.Records.{Rec, keyed}
 use Rattle.entries.specs.Entries.{recordOf}
 use Rattle.places.specs.Changes.{changeAt, opAt, stepsBack}
@@ -39,10 +40,10 @@ op-at f at = let d : (2 * at + 1) / 2 ≡ at = omega arith in rw d
 
 -- so the steps back of a run are its undo: each has the record that stood at its key before it, or its own where none did
 pub back-turn : (h f steps before : List ℕ) (n at w : ℕ) (st : List Rec) (cs all : List (Change Rec)) → n < length steps → n < length before
-    → recordOf h f w ≡ back keyed st (changeAt f at) .rec
-    → undo (after keyed) (back keyed) st (changeAt f at ∷ cs) ++ stepsBack h f steps before n ≡ all
-    → undo (after keyed) (back keyed) (after keyed st (changeAt f at)) cs ++ stepsBack h f (set steps n (2 * at + 1)) (set before n w) (n + 1) ≡ all
+    → recordOf h f w ≡ back (keyed scottish) st (changeAt f at) .rec
+    → undo (after (keyed scottish)) (back (keyed scottish)) st (changeAt f at ∷ cs) ++ stepsBack h f steps before n ≡ all
+    → undo (after (keyed scottish)) (back (keyed scottish)) (after (keyed scottish) st (changeAt f at)) cs ++ stepsBack h f (set steps n (2 * at + 1)) (set before n w) (n + 1) ≡ all
 unfolding back
 back-turn h f steps before n at w st cs all g k r e =
     rw (back-more h f steps before n (2 * at + 1) w g k, op-at f at, r)
-    (rw (append-assoc (undo (after keyed) (back keyed) (after keyed st (changeAt f at)) cs) (back keyed st (changeAt f at) ∷ []) (stepsBack h f steps before n)) at e)
+    (rw (append-assoc (undo (after (keyed scottish)) (back (keyed scottish)) (after (keyed scottish) st (changeAt f at)) cs) (back (keyed scottish) st (changeAt f at) ∷ []) (stepsBack h f steps before n)) at e)

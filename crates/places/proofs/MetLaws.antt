@@ -12,6 +12,7 @@ use Rattle.theory.specs.Tri.{isEq}
 use Rattle.theory.specs.Lex.{lex}
 use Rattle.theory.specs.Store.{cons?, get, Asc}
 use Rattle.theory.specs.Refs.{apart, has, meets}
+use Rattle.meaning.specs.Table.{scottish}
 use Rattle.meaning.specs.Records.{Rec, keyed, refsOf}
 use Rattle.laws.specs.Body.{fine}
 use Rattle.keys.specs.declared.Key.{Key}
@@ -72,17 +73,17 @@ module _ (st : List Rec) (x : Rec) (r : Named) (e : RefersAs x r) (b : Bool) (q 
   pub rows-second : (c : Bool) → b ≡ true → c ≡ metBy st (keyList (r .own)) (referredAs (r .second)) → c ≡ meets numbered refNumbers st x
   rows-second c t v = v ∙ sym (meets-rows st x r e ∙ rw (sym q ∙ t))
 
-  module _ (p : T (all fine st)) (g : T (fine x)) where
+  module _ (p : T (all (fine scottish) st)) (g : T (fine scottish x)) where
     -- so it is of keys
-    pub meets-first : b ≡ false → false ≡ meets keyed refsOf st x
+    pub meets-first : b ≡ false → false ≡ meets (keyed scottish) (refsOf scottish) st x
     meets-first f = rows-first f ∙ meets-agree st p x g
 
     -- and of the second
-    pub meets-second : (c : Bool) → b ≡ true → c ≡ metBy st (keyList (r .own)) (referredAs (r .second)) → c ≡ meets keyed refsOf st x
+    pub meets-second : (c : Bool) → b ≡ true → c ≡ metBy st (keyList (r .own)) (referredAs (r .second)) → c ≡ meets (keyed scottish) (refsOf scottish) st x
     meets-second c t v = rows-second c t v ∙ meets-agree st p x g
 
 -- keys of sound records ascend by their numbers
-pub asc-told : (st : List Rec) → Asc keyed st → T (all fine st) → Asc numbered st
+pub asc-told : (st : List Rec) → Asc (keyed scottish) st → T (all (fine scottish) st) → Asc numbered st
 asc-told st a h = asc-numbered st h a
 
 pub ruleset entrymet = (needs, not-true, not-false, asc-told, meets-first, meets-second)

@@ -6,6 +6,7 @@ ghost use lib.ListN.{length};
 ghost use Rattle.base.specs.Lists.{all};
 ghost use Rattle.theory.specs.Store.{Asc};
 ghost use Rattle.theory.specs.Refs.{meets};
+ghost use Rattle.meaning.specs.Table.{scottish};
 ghost use Rattle.meaning.specs.Records.{keyed, refsOf};
 ghost use Rattle.laws.specs.Body.{fine};
 ghost use Rattle.keys.specs.Numbers.{keyList, referredAs, numbered};
@@ -51,8 +52,8 @@ pub fn meets(
     count: usize,
     entry: u64,
 ) -> bool
-    requires { ⌜ (count ≤ length (now places)) × Tagged (now holding) (now file) (now places) (now tags) count × Asc keyed (says (now holding) (now file) (now places) count) × T (all fine (says (now holding) (now file) (now places) count)) × T (fine (recordOf (now holding) (now file) entry)) ⌝ }
-    ensures { λ r. ⌜ r ≡ meets keyed refsOf (says (now (holding .entry)) (now (file .entry)) (now (places .entry)) count) (recordOf (now (holding .entry)) (now (file .entry)) entry) ⌝ }
+    requires { ⌜ (count ≤ length (now places)) × Tagged (now holding) (now file) (now places) (now tags) count × Asc (keyed scottish) (says (now holding) (now file) (now places) count) × T (all (fine scottish) (says (now holding) (now file) (now places) count)) × T (fine scottish (recordOf (now holding) (now file) entry)) ⌝ }
+    ensures { λ r. ⌜ r ≡ meets (keyed scottish) (refsOf scottish) (says (now (holding .entry)) (now (file .entry)) (now (places .entry)) count) (recordOf (now (holding .entry)) (now (file .entry)) entry) ⌝ }
 {
     let named = references(holding, file, entry);
     let own = named.own;

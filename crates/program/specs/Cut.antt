@@ -11,19 +11,20 @@ use lib.ListN.{length, take}
 use lib.Seq.{take-all, length-take-le}
 use Rattle.base.specs.Lists.{pick}
 use Rattle.base.specs.Tests.{T-true}
+use Rattle.meaning.specs.Table.{scottish}
 use Rattle.meaning.specs.Load.{six, load}
 use Rattle.meaning.specs.Program.{programRoom, unusable, printSix, printLoad, program}
 
 -- 18 where either is unusable
-pub first-18 : (old b : Option (List ℕ)) → true ≡ unusable old → printSix (six 18 0 0 0 0 0) ≡ program old b
+pub first-18 : (old b : Option (List ℕ)) → true ≡ unusable old → printSix (six 18 0 0 0 0 0) ≡ program scottish old b
 unfolding program
 first-18 old b e = rw (← e)
 
-pub second-18 : (old b : Option (List ℕ)) → true ≡ unusable b → printSix (six 18 0 0 0 0 0) ≡ program old b
+pub second-18 : (old b : Option (List ℕ)) → true ≡ unusable b → printSix (six 18 0 0 0 0 0) ≡ program scottish old b
 unfolding program
 second-18 old b e = go (unusable old)
   where
-    go : (x : Bool) → printSix (six 18 0 0 0 0 0) ≡ pick (x || unusable b) (printSix (six 18 0 0 0 0 0)) (printLoad (load programRoom (Option·getD old []) (Option·getD b [])))
+    go : (x : Bool) → printSix (six 18 0 0 0 0 0) ≡ pick (x || unusable b) (printSix (six 18 0 0 0 0 0)) (printLoad (load scottish programRoom (Option·getD old []) (Option·getD b [])))
     go true = refl
     go false = rw (← e)
 
@@ -33,17 +34,17 @@ unfolding unusable
 too-long s h = sym (T-true (unusable (some s)) (lt→ltb 65536 (length s) h))
 
 -- the cut of a holding is answered as the whole of it
-pub cut-holding : (s : List ℕ) (b : Option (List ℕ)) → program (some (take 65537 s)) b ≡ program (some s) b
+pub cut-holding : (s : List ℕ) (b : Option (List ℕ)) → program scottish (some (take 65537 s)) b ≡ program scottish (some s) b
 cut-holding s b = go (decLe (length s) 65537)
   where
-    go : Dec (length s ≤ 65537) → program (some (take 65537 s)) b ≡ program (some s) b
-    go (yes h) = ap (λ t. program (some t) b) (take-all 65537 s h)
+    go : Dec (length s ≤ 65537) → program scottish (some (take 65537 s)) b ≡ program scottish (some s) b
+    go (yes h) = ap (λ t. program scottish (some t) b) (take-all 65537 s h)
     go (no h) = sym (first-18 (some (take 65537 s)) b (too-long (take 65537 s) (omega (arith, length-take-le 65537 s (omega arith))))) ∙ first-18 (some s) b (too-long s (omega arith))
 
 -- and so is that of a change
-pub cut-change : (old : Option (List ℕ)) (s : List ℕ) → program old (some (take 65537 s)) ≡ program old (some s)
+pub cut-change : (old : Option (List ℕ)) (s : List ℕ) → program scottish old (some (take 65537 s)) ≡ program scottish old (some s)
 cut-change old s = go (decLe (length s) 65537)
   where
-    go : Dec (length s ≤ 65537) → program old (some (take 65537 s)) ≡ program old (some s)
-    go (yes h) = ap (λ t. program old (some t)) (take-all 65537 s h)
+    go : Dec (length s ≤ 65537) → program scottish old (some (take 65537 s)) ≡ program scottish old (some s)
+    go (yes h) = ap (λ t. program scottish old (some t)) (take-all 65537 s h)
     go (no h) = sym (second-18 old (some (take 65537 s)) (too-long (take 65537 s) (omega (arith, length-take-le 65537 s (omega arith))))) ∙ second-18 old (some s) (too-long s (omega arith))

@@ -5,6 +5,7 @@ use mathlib.Core.Option.{Option, none, some}
 use mathlib.Core.List.{List}
 use Prim.Native.Nat.{ℕ}
 use lib.ListN.{length}
+use Rattle.meaning.specs.Table.{scottish}
 use Rattle.meaning.specs.Program.{program}
 use Rattle.text.specs.Front.{inFront}
 
@@ -16,4 +17,4 @@ inputOf false b = none
 -- how many bytes it left in the front of its buffer, and the buffer afterwards
 abbrev pub PrintOutcome : Bool → List ℕ → Bool → List ℕ → List ℕ → ℕ → List ℕ → Type 0
 PrintOutcome held holding sent change before n printed =
-    (n ≡ length (program (inputOf held holding) (inputOf sent change))) × (printed ≡ inFront (program (inputOf held holding) (inputOf sent change)) before)
+    (n ≡ length (program scottish (inputOf held holding) (inputOf sent change))) × (printed ≡ inFront (program scottish (inputOf held holding) (inputOf sent change)) before)

@@ -5,6 +5,7 @@
 ghost use mathlib.Core.Path.{_≡_};
 ghost use Prim.Native.Nat.{_≤_};
 ghost use lib.ListN.{length};
+ghost use Rattle.meaning.specs.Table.{scottish};
 ghost use Rattle.meaning.specs.Load.{six, load};
 ghost use Rattle.meaning.specs.Program.{unusable, printSix, printLoad, programRoom};
 ghost use Rattle.text.specs.Front.{inFront};
@@ -42,8 +43,8 @@ fn print_unusable(printed: &mut [u8]) -> usize
 // The numbers of apply, and what stands in its output before the zeros: after a refusal that is nothing.
 fn print_load(holding: &[u8], change: &[u8], printed: &mut [u8]) -> usize
     requires { ⌜ 65663 ≤ length (now printed) ⌝ }
-    ensures { λ r. ⌜ (r ≡ length (printLoad (load programRoom (now (holding .entry)) (now (change .entry))))) × (r ≤ 65663)
-        × (now (printed .exit) ≡ inFront (printLoad (load programRoom (now (holding .entry)) (now (change .entry)))) (now (printed .entry))) ⌝ }
+    ensures { λ r. ⌜ (r ≡ length (printLoad (load scottish programRoom (now (holding .entry)) (now (change .entry))))) × (r ≤ 65663)
+        × (now (printed .exit) ≡ inFront (printLoad (load scottish programRoom (now (holding .entry)) (now (change .entry)))) (now (printed .entry))) ⌝ }
 {
     let mut out = [0u8; ROOM];
     let answer = apply(holding, change, &mut out);

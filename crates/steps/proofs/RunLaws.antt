@@ -22,7 +22,8 @@ use Rattle.theory.specs.Answer.{Read, fault, file}
 use Rattle.theory.specs.Run as Theory
 use Rattle.theory.specs.Run.{Out, done, stop, on}
 use Rattle.meaning.specs.Lines.{Line, linesOf, fieldsOf}
-use Rattle.meaning.specs.Table.{Kind, Role, bodyLine, metadataLine, role}
+use Rattle.meaning.specs.Kinds.{Kind, Role, bodyLine, metadataLine, role}
+use Rattle.meaning.specs.Table.{scottish}
 use Rattle.meaning.specs.Records.{Rec, keyed, opOf, changeOf}
 use Rattle.meaning.specs.Holding.{isHeld}
 use Rattle.meaning.specs.File.{Sheet, readFile, mostBody}
@@ -30,6 +31,7 @@ use Rattle.meaning.specs.Load.{stepTests}
 use Rattle.laws.specs.LinesAndFields.{endsAll}
 use Rattle.laws.specs.FileReadBack.{fineC, file-says}
 use Rattle.laws.specs.SoundFile.{RoleLine, SaysChange, SaysChanges, read-sound}
+use Rattle.laws.specs.Scottish.{scottish-regular}
 use Rattle.text.specs.Places.{lineLen, lineEnd}
 use Rattle.text.proofs.LineLaws.{lines-at, lines-end}
 use Rattle.layout.specs.declared.kinds.Kind as code
@@ -66,14 +68,14 @@ pub ruleset readline = (needs, line-kind-at, line-change-at)
 
 -- ---- the body of a sound file
 
-role-is : (o : Role) (t : List ℕ) → RoleLine o t → role (recOf t .kind) ≡ o
+role-is : (o : Role) (t : List ℕ) → RoleLine scottish o t → role (recOf t .kind) ≡ o
 role-is o t r = ap (λ x. role (x .kind)) (role-known o t r) ∙ r .roles
 
-said : (n : ℕ) (t : List ℕ) (c : Change Rec) → SaysChange n t c → change (opOf (getD (fieldsOf t) 1 [])) (recOf t) ≡ c
+said : (n : ℕ) (t : List ℕ) (c : Change Rec) → SaysChange scottish n t c → change (opOf (getD (fieldsOf t) 1 [])) (recOf t) ≡ c
 unfolding changeOf
 said n t c s = ap (change (opOf (getD (fieldsOf t) 1 []))) (role-known bodyLine t (s .line)) ∙ s .says
 
-body-from : (n : ℕ) (ts : List (List ℕ)) (cs : List (Change Rec)) (m t : List ℕ) → SaysChanges n ts cs → RoleLine metadataLine m → bodyFrom (endsAll (ts ++ (m ∷ t ∷ []))) ≡ cs
+body-from : (n : ℕ) (ts : List (List ℕ)) (cs : List (Change Rec)) (m t : List ℕ) → SaysChanges scottish n ts cs → RoleLine scottish metadataLine m → bodyFrom (endsAll (ts ++ (m ∷ t ∷ []))) ≡ cs
 unfolding bodyFrom isHeld
 body-from n [] [] m t s r = rw (role-is metadataLine m r)
 body-from n [] (c ∷ cs) m t s r = absurd s
@@ -81,13 +83,13 @@ body-from n (x ∷ ts) [] m t s r = absurd s
 body-from n (x ∷ ts) (c ∷ cs) m t s r = rw (role-is bodyLine x (s .0 .line), said n x c (s .0), body-from (suc n) ts cs m t (s .1) r)
 
 -- the changes of a sound file are those of the lines after its first, and there are few
-body-of : (f : List ℕ) → T (isFile (readFile f)) → (x : Read Sheet) → readFile f ≡ x
-    → (bodyFrom (drop 1 (linesOf f)) ≡ changesOf x) × T (all fineC (changesOf x)) × (linesOf f ≡ [] → ⊥) × (length (changesOf x) ≤ mostBody)
+body-of : (f : List ℕ) → T (isFile (readFile scottish f)) → (x : Read Sheet) → readFile scottish f ≡ x
+    → (bodyFrom (drop 1 (linesOf f)) ≡ changesOf x) × T (all (fineC scottish) (changesOf x)) × (linesOf f ≡ [] → ⊥) × (length (changesOf x) ≤ mostBody)
 body-of f t (fault c l k) e = absurd (subst (λ x. T (isFile x)) e t)
 body-of f t (file s) e =
-    let w = read-sound f (s .0) (s .1) e in (
+    let w = read-sound scottish f (s .0) (s .1) e in (
       ap (λ ls. bodyFrom (drop 1 ls)) (w .lines) ∙ body-from 1 (w .texts) (s .1) (s .0 .metadataText) (s .0 .trailerText) (w .body) (w .describing),
-      file-says f (s .0) (s .1) e .1,
+      file-says scottish scottish-regular f (s .0) (s .1) e .1,
       λ z. nil≢cons (sym z ∙ w .lines),
       w .few,
     )
@@ -97,17 +99,17 @@ body-of f t (file s) e =
 -- the way back over the rest and then over the steps made is that over the whole file
 abbrev Backed : List ℕ → List ℕ → List ℕ → State → List ℕ → State → List (Change Rec) → List ℕ → List ℕ → ℕ → Type 0
 Backed h f a₀ s₀ a s cs steps before n =
-    undo (after keyed) (back keyed) (says h f a (s .count)) cs ++ stepsBack h f steps before n ≡ undo (after keyed) (back keyed) (says h f a₀ (s₀ .count)) (changesOf (readFile f))
+    undo (after (keyed scottish)) (back (keyed scottish)) (says h f a (s .count)) cs ++ stepsBack h f steps before n ≡ undo (after (keyed scottish)) (back (keyed scottish)) (says h f a₀ (s₀ .count)) (changesOf (readFile scottish f))
 
 -- what is left to run from `at` on, after n steps, ends as the whole run does
 pub record Going (h f a₀ : List ℕ) (room : ℕ) (s₀ : State) (a o t steps before : List ℕ) (s : State) (at n : ℕ) : Type 0 where
-  pub left : Theory.run keyed (stepTests room) (n + 2) (says h f a (s .count)) (bodyFrom (linesOf (drop at f))) ≡ Theory.run keyed (stepTests room) 2 (says h f a₀ (s₀ .count)) (changesOf (readFile f))
+  pub left : Theory.run (keyed scottish) (stepTests scottish room) (n + 2) (says h f a (s .count)) (bodyFrom (linesOf (drop at f))) ≡ Theory.run (keyed scottish) (stepTests scottish room) 2 (says h f a₀ (s₀ .count)) (changesOf (readFile scottish f))
   pub backed : Backed h f a₀ s₀ a s (bodyFrom (linesOf (drop at f))) steps before n
   pub rest : linesOf (drop at f) ≡ drop (n + 1) (linesOf f)
   pub ready : Ready h f a room s
   pub tagged : Tagged h f a o (s .count)
   pub tallied : Counted h f a t (s .count)
-  pub fines : T (all fineC (bodyFrom (linesOf (drop at f))))
+  pub fines : T (all (fineC scottish) (bodyFrom (linesOf (drop at f))))
   pub few : n + length (bodyFrom (linesOf (drop at f))) ≤ mostBody
   pub within : at ≤ length f + 2
   pub stepsSpace : 4096 ≤ length steps
@@ -120,19 +122,19 @@ lines-after f at e q m =
     ap (λ z. linesOf (drop z f)) (sym i) ∙ sym (ap (drop 1) (lines-at f at m))
 
 -- the walk starts after the header
-pub go-start : (h f a o c steps before : List ℕ) (room : ℕ) (s : State) (e : ℕ) → Ready h f a room s → Tagged h f a o (s .count) → Counted h f a c (s .count) → T (isFile (readFile f)) → 4096 ≤ length steps → 4096 ≤ length before → e ≡ lineEnd f 0 → e ≤ length f
+pub go-start : (h f a o c steps before : List ℕ) (room : ℕ) (s : State) (e : ℕ) → Ready h f a room s → Tagged h f a o (s .count) → Counted h f a c (s .count) → T (isFile (readFile scottish f)) → 4096 ≤ length steps → 4096 ≤ length before → e ≡ lineEnd f 0 → e ≤ length f
     → Going h f a room s a o c steps before s (e + 2) 0
 unfolding stepsBack
 go-start h f a o c steps before room s e y i d t p k q m =
-    let b = body-of f t (readFile f) refl in
+    let b = body-of f t (readFile scottish f) refl in
     record {
-      left = ap (Theory.run keyed (stepTests room) 2 (says h f a (s .count))) (body ∙ b .0);
-      backed = append-nil _ ∙ ap (undo (after keyed) (back keyed) (says h f a (s .count))) (body ∙ b .0);
+      left = ap (Theory.run (keyed scottish) (stepTests scottish room) 2 (says h f a (s .count))) (body ∙ b .0);
+      backed = append-nil _ ∙ ap (undo (after (keyed scottish)) (back (keyed scottish)) (says h f a (s .count))) (body ∙ b .0);
       rest = lines-after f 0 e q full;
       ready = y;
       tagged = i;
       tallied = d;
-      fines = subst (λ cs. T (all fineC cs)) (sym (body ∙ b .0)) (b .1);
+      fines = subst (λ cs. T (all (fineC scottish) cs)) (sym (body ∙ b .0)) (b .1);
       few = omega (arith, ap length (body ∙ b .0), b .3);
       within = omega arith;
       stepsSpace = p;
@@ -140,7 +142,7 @@ go-start h f a o c steps before room s e y i d t p k q m =
     }
   where
     full : 0 < length f
-    full = elim (decLe (length f) 0) [ yes z ↦ absurd (body-of f t (readFile f) refl .2 (lines-end f 0 z)) | no z ↦ lt-of-not-le z ]
+    full = elim (decLe (length f) 0) [ yes z ↦ absurd (body-of f t (readFile scottish f) refl .2 (lines-end f 0 z)) | no z ↦ lt-of-not-le z ]
 
     body : bodyFrom (linesOf (drop (e + 2) f)) ≡ bodyFrom (drop 1 (linesOf f))
     body = ap bodyFrom (lines-after f 0 e q full)
@@ -149,12 +151,12 @@ go-start h f a o c steps before room s e y i d t p k q m =
 module _ (h f a₀ : List ℕ) (room : ℕ) (s₀ : State) (a o t steps before : List ℕ) (s : State) (at n : ℕ) (g : Going h f a₀ room s₀ a o t steps before s at n) where
   ended : bodyFrom (linesOf (drop at f)) ≡ [] → Runs h f a₀ a steps before room s₀ (record { code = 0; line = 0; state = s; steps = n; end = at })
   ended e = record {
-    ended = run-nil ∙ ap (Theory.run keyed (stepTests room) (n + 2) (says h f a (s .count))) (sym e) ∙ g .left;
+    ended = run-nil ∙ ap (Theory.run (keyed scottish) (stepTests scottish room) (n + 2) (says h f a (s .count))) (sym e) ∙ g .left;
     ready = λ z. g .ready;
     kept = λ z. record { few = omega (arith, g .few); backed = subst (λ cs. Backed h f a₀ s₀ a s cs steps before n) e (g .backed); rest = g .rest };
   }
     where
-      run-nil : done (says h f a (s .count)) ≡ Theory.run keyed (stepTests room) (n + 2) (says h f a (s .count)) []
+      run-nil : done (says h f a (s .count)) ≡ Theory.run (keyed scottish) (stepTests scottish room) (n + 2) (says h f a (s .count)) []
       run-nil = unfold Theory.run in refl
 
   -- where no line is left the run is done
@@ -178,15 +180,15 @@ module _ (h f a₀ : List ℕ) (room : ℕ) (s₀ : State) (a o t steps before :
       body-here : bodyFrom (linesOf (drop at f)) ≡ changeAt f at ∷ bodyFrom (linesOf (drop (at + (lineLen (drop at f) + 2)) f))
       body-here = body-at ∙ rw u
 
-      fines-here : T (all fineC (changeAt f at ∷ bodyFrom (linesOf (drop (at + (lineLen (drop at f) + 2)) f))))
-      fines-here = subst (λ cs. T (all fineC cs)) body-here (g .fines)
+      fines-here : T (all (fineC scottish) (changeAt f at ∷ bodyFrom (linesOf (drop (at + (lineLen (drop at f) + 2)) f))))
+      fines-here = subst (λ cs. T (all (fineC scottish) cs)) body-here (g .fines)
 
       few-here : n + suc (length (bodyFrom (linesOf (drop (at + (lineLen (drop at f) + 2)) f)))) ≤ mostBody
       few-here = omega (arith, g .few, ap length body-here)
 
       -- a body line carries a sound record
       pub go-carries : changeMeant (l .change) ≡ changeAt f at .op → Carries f at l
-      go-carries c = record { inside = omega arith; sound = and-l (fineC (changeAt f at)) _ fines-here; kinded = k; changed = c }
+      go-carries c = record { inside = omega arith; sound = and-l (fineC scottish (changeAt f at)) _ fines-here; kinded = k; changed = c }
 
       -- its step has a place among the steps
       pub go-steps : n < length steps
@@ -197,16 +199,16 @@ module _ (h f a₀ : List ℕ) (room : ℕ) (s₀ : State) (a o t steps before :
       go-before = omega (arith, few-here, g .beforeSpace)
 
       module _ (b′ o′ t′ : List ℕ) (r : Stepped) (w : Steps h f a b′ o′ t′ room (changeAt f at) s r) where
-        run-here : on (judge keyed (stepTests room) (says h f a (s .count)) (changeAt f at)) (n + 2)
-            (Theory.run keyed (stepTests room) (suc (n + 2)) (after keyed (says h f a (s .count)) (changeAt f at)) (bodyFrom (linesOf (drop (at + (lineLen (drop at f) + 2)) f))))
-            ≡ Theory.run keyed (stepTests room) 2 (says h f a₀ (s₀ .count)) (changesOf (readFile f))
+        run-here : on (judge (keyed scottish) (stepTests scottish room) (says h f a (s .count)) (changeAt f at)) (n + 2)
+            (Theory.run (keyed scottish) (stepTests scottish room) (suc (n + 2)) (after (keyed scottish) (says h f a (s .count)) (changeAt f at)) (bodyFrom (linesOf (drop (at + (lineLen (drop at f) + 2)) f))))
+            ≡ Theory.run (keyed scottish) (stepTests scottish room) 2 (says h f a₀ (s₀ .count)) (changesOf (readFile scottish f))
         unfolding Theory.run
-        run-here = sym (ap (Theory.run keyed (stepTests room) (n + 2) (says h f a (s .count))) body-here) ∙ g .left
+        run-here = sym (ap (Theory.run (keyed scottish) (stepTests scottish room) (n + 2) (says h f a (s .count))) body-here) ∙ g .left
 
         -- a step that is refused ends the run at its line
         pub go-stop : (x : Ran) → x ≡ record { code = r .code; line = n + 2; state = s; steps = n; end = at } → (r .code ≡ 0 → ⊥) → Runs h f a₀ b′ steps before room s₀ x
         go-stop p v x = rw v (record {
-          ended = rw (ne-eqb (r .code) 0 x) (sym (halt (judge keyed (stepTests room) (says h f a (s .count)) (changeAt f at)) (w .coded) _) ∙ run-here);
+          ended = rw (ne-eqb (r .code) 0 x) (sym (halt (judge (keyed scottish) (stepTests scottish room) (says h f a (s .count)) (changeAt f at)) (w .coded) _) ∙ run-here);
           ready = λ z. absurd (x z);
           kept = λ z. absurd (x z);
         })
@@ -230,7 +232,7 @@ module _ (h f a₀ : List ℕ) (room : ℕ) (s₀ : State) (a o t steps before :
               ready = x .ready;
               tagged = x .tagged;
               tallied = x .tallied;
-              fines = rw (← i) (and-r (fineC (changeAt f at)) _ fines-here);
+              fines = rw (← i) (and-r (fineC scottish (changeAt f at)) _ fines-here);
               few = rw (← i) (omega (arith, few-here));
               within = omega arith;
               stepsSpace = rw length-set (g .stepsSpace);

@@ -23,10 +23,11 @@ use Rattle.theory.specs.Limits.{most, few}
 use Rattle.theory.specs.Step.{Op, ins, upd, del, Change, fails, passes, new, codeOf, allowed, judge, after}
 use Rattle.theory.specs.StepLaws.{ok-judge, asc-after}
 use Rattle.meaning.specs.Records.{Rec, keyed, keyOf, refsOf}
-use Rattle.meaning.specs.Table.{role}
+use Rattle.meaning.specs.Kinds.{role}
+use Rattle.meaning.specs.Table.{scottish}
 use Rattle.meaning.specs.Holding.{isHeld, written}
 use Rattle.meaning.specs.Load.{fits, stepTests}
-use Rattle.laws.specs.Body.{fine}
+use Rattle.laws.specs.Body.{fine, fine-body}
 use Rattle.laws.specs.HoldingReadBack.{always}
 use Rattle.layout.specs.declared.kinds.Kind as code
 use Rattle.layout.specs.declared.kinds.Kind.the-variants.{Header, Street, StreetXref, Blpu, AppXref, Lpi, Metadata, Trailer}
@@ -72,30 +73,30 @@ op-coded ins e = omega arith
 op-coded upd e = omega arith
 op-coded del e = omega arith
 
-tests-coded : (room : ℕ) (st : List Rec) → Coded (fails (stepTests room) st)
+tests-coded : (room : ℕ) (st : List Rec) → Coded (fails (stepTests scottish room) st)
 unfolding fails stepTests
 tests-coded room st =
-    need-coded (few st) 16 (ask (met keyed refsOf st) 12 (ask (fits room st) 13 none)) (λ e. omega arith)
-    (need-coded (met keyed refsOf st) 12 (ask (fits room st) 13 none) (λ e. omega arith) (need-coded (fits room st) 13 none (λ e. omega arith) tt))
+    need-coded (few st) 16 (ask (met (keyed scottish) (refsOf scottish) st) 12 (ask (fits room st) 13 none)) (λ e. omega arith)
+    (need-coded (met (keyed scottish) (refsOf scottish) st) 12 (ask (fits room st) 13 none) (λ e. omega arith) (need-coded (fits room st) 13 none (λ e. omega arith) tt))
 
-judge-coded : (room : ℕ) (st : List Rec) (c : Change Rec) → Coded (judge keyed (stepTests room) st c)
+judge-coded : (room : ℕ) (st : List Rec) (c : Change Rec) → Coded (judge (keyed scottish) (stepTests scottish room) st c)
 unfolding judge
-judge-coded room st c = need-coded (allowed (c .op) (get keyed (keyOf (c .rec)) st)) (codeOf (c .op)) (fails (stepTests room) (after keyed st c)) (op-coded (c .op)) (tests-coded room (after keyed st c))
+judge-coded room st c = need-coded (allowed (c .op) (get (keyed scottish) (keyOf scottish (c .rec)) st)) (codeOf (c .op)) (fails (stepTests scottish room) (after (keyed scottish) st c)) (op-coded (c .op)) (tests-coded room (after (keyed scottish) st c))
 
 zero-none : (o : Option ℕ) → Coded o → codeNumber o ≡ 0 → o ≡ none
 zero-none none c e = refl
 zero-none (some w) c e = absurd (c e)
 
 -- code 0 is no refusal
-pub code-none : (room w : ℕ) (st : List Rec) (c : Change Rec) → w ≡ codeNumber (judge keyed (stepTests room) st c) → w ≡ 0 → judge keyed (stepTests room) st c ≡ none
-code-none room w st c e z = zero-none (judge keyed (stepTests room) st c) (judge-coded room st c) (sym e ∙ z)
+pub code-none : (room w : ℕ) (st : List Rec) (c : Change Rec) → w ≡ codeNumber (judge (keyed scottish) (stepTests scottish room) st c) → w ≡ 0 → judge (keyed scottish) (stepTests scottish room) st c ≡ none
+code-none room w st c e z = zero-none (judge (keyed scottish) (stepTests scottish room) st c) (judge-coded room st c) (sym e ∙ z)
 
 -- references that are met by keys are met by numbers
-met-told : (st : List Rec) → T (all fine st) → T (met keyed refsOf st) → T (all (meets numbered refNumbers st) st)
+met-told : (st : List Rec) → T (all (fine scottish) st) → T (met (keyed scottish) (refsOf scottish) st) → T (all (meets numbered refNumbers st) st)
 unfolding met
-met-told st p m = all-both fine (meets keyed refsOf st) (meets numbered refNumbers st) (λ r g u. subst T (sym (meets-agree st p r g)) u) st p m
+met-told st p m = all-both (fine scottish) (meets (keyed scottish) (refsOf scottish) st) (meets numbered refNumbers st) (λ r g u. subst T (sym (meets-agree st p r g)) u) st p m
 
-new-fine : (p : Op) (x : Rec) → T (fine x) → T (all? fine (new p x))
+new-fine : (p : Op) (x : Rec) → T (fine scottish x) → T (all? (fine scottish) (new p x))
 new-fine ins x g = g
 new-fine upd x g = g
 new-fine del x g = tt
@@ -116,40 +117,40 @@ length-closed a n i l m =
 
 -- ---- a step that is not refused
 
-module _ (h f a : List ℕ) (room v : ℕ) (s : State) (y : Ready h f a room s) (g : T (fine (recordOf h f v))) (j : Judged) where
+module _ (h f a : List ℕ) (room v : ℕ) (s : State) (y : Ready h f a room s) (g : T (fine scottish (recordOf h f v))) (j : Judged) where
   -- a step that is refused leaves everything as it was
   pub step-refused : (o t : List ℕ) (p : Op) (r : Stepped) → Judges h f a room (change p (recordOf h f v)) s j → (j .code ≡ 0 → ⊥) → r ≡ record { code = j .code; state = s; before = v } → Steps h f a a o t room (change p (recordOf h f v)) s r
   step-refused o t p r q n e = rw e (record { coded = q .coded; left = λ z. absurd (n z) })
 
   module _ (p : Op) (q : Judges h f a room (change p (recordOf h f v)) s j) (z : j .code ≡ 0) where
-    passed : T (allowed p (get keyed (keyOf (recordOf h f v)) (says h f a (s .count)))) × T (passes (stepTests room) (after keyed (says h f a (s .count)) (change p (recordOf h f v))))
-    passed = ok-judge keyed (stepTests room) (says h f a (s .count)) (change p (recordOf h f v)) (code-none room (j .code) (says h f a (s .count)) (change p (recordOf h f v)) (q .coded) z)
+    passed : T (allowed p (get (keyed scottish) (keyOf scottish (recordOf h f v)) (says h f a (s .count)))) × T (passes (stepTests scottish room) (after (keyed scottish) (says h f a (s .count)) (change p (recordOf h f v))))
+    passed = ok-judge (keyed scottish) (stepTests scottish room) (says h f a (s .count)) (change p (recordOf h f v)) (code-none room (j .code) (says h f a (s .count)) (change p (recordOf h f v)) (q .coded) z)
 
-    few-after : T (few (after keyed (says h f a (s .count)) (change p (recordOf h f v))))
+    few-after : T (few (after (keyed scottish) (says h f a (s .count)) (change p (recordOf h f v))))
     unfolding stepTests
-    few-after = and-l (few (after keyed (says h f a (s .count)) (change p (recordOf h f v)))) _ (passed .1)
+    few-after = and-l (few (after (keyed scottish) (says h f a (s .count)) (change p (recordOf h f v)))) _ (passed .1)
 
-    met-after : T (met keyed refsOf (after keyed (says h f a (s .count)) (change p (recordOf h f v))))
+    met-after : T (met (keyed scottish) (refsOf scottish) (after (keyed scottish) (says h f a (s .count)) (change p (recordOf h f v))))
     unfolding stepTests
-    met-after = and-l (met keyed refsOf (after keyed (says h f a (s .count)) (change p (recordOf h f v)))) _ (and-r (few (after keyed (says h f a (s .count)) (change p (recordOf h f v)))) _ (passed .1))
+    met-after = and-l (met (keyed scottish) (refsOf scottish) (after (keyed scottish) (says h f a (s .count)) (change p (recordOf h f v)))) _ (and-r (few (after (keyed scottish) (says h f a (s .count)) (change p (recordOf h f v)))) _ (passed .1))
 
-    fits-after : length (written (after keyed (says h f a (s .count)) (change p (recordOf h f v)))) ≤ room
+    fits-after : length (written (after (keyed scottish) (says h f a (s .count)) (change p (recordOf h f v)))) ≤ room
     unfolding stepTests fits
     fits-after =
-        leb→le (length (written (after keyed (says h f a (s .count)) (change p (recordOf h f v))))) room
-        (and-l (leb (length (written (after keyed (says h f a (s .count)) (change p (recordOf h f v))))) room) _
-        (and-r (met keyed refsOf (after keyed (says h f a (s .count)) (change p (recordOf h f v)))) _ (and-r (few (after keyed (says h f a (s .count)) (change p (recordOf h f v)))) _ (passed .1))))
+        leb→le (length (written (after (keyed scottish) (says h f a (s .count)) (change p (recordOf h f v))))) room
+        (and-l (leb (length (written (after (keyed scottish) (says h f a (s .count)) (change p (recordOf h f v))))) room) _
+        (and-r (met (keyed scottish) (refsOf scottish) (after (keyed scottish) (says h f a (s .count)) (change p (recordOf h f v)))) _ (and-r (few (after (keyed scottish) (says h f a (s .count)) (change p (recordOf h f v)))) _ (passed .1))))
 
-    fines-after : T (all fine (after keyed (says h f a (s .count)) (change p (recordOf h f v))))
+    fines-after : T (all (fine scottish) (after (keyed scottish) (says h f a (s .count)) (change p (recordOf h f v))))
     unfolding after
-    fines-after = all-put keyed fine (keyOf (recordOf h f v)) (new p (recordOf h f v)) (says h f a (s .count)) (new-fine p (recordOf h f v) g) (y .fines)
+    fines-after = all-put (keyed scottish) (fine scottish) (keyOf scottish (recordOf h f v)) (new p (recordOf h f v)) (says h f a (s .count)) (new-fine p (recordOf h f v) g) (y .fines)
 
-    ready-next : (b : List ℕ) (m : ℕ) → says h f b m ≡ after keyed (says h f a (s .count)) (change p (recordOf h f v)) → m ≡ length (after keyed (says h f a (s .count)) (change p (recordOf h f v))) → length b ≡ length a
+    ready-next : (b : List ℕ) (m : ℕ) → says h f b m ≡ after (keyed scottish) (says h f a (s .count)) (change p (recordOf h f v)) → m ≡ length (after (keyed scottish) (says h f a (s .count)) (change p (recordOf h f v))) → length b ≡ length a
         → Ready h f b room (record { count = m; size = j .size })
     ready-next b m e n l = record {
-      asc = subst (Asc keyed) (sym e) (asc-after keyed (says h f a (s .count)) (change p (recordOf h f v)) (y .asc));
-      fines = subst (λ x. T (all fine x)) (sym e) fines-after;
-      pass = subst (λ x. T (passes always x)) (sym e) (and-in (few (after keyed (says h f a (s .count)) (change p (recordOf h f v)))) _ few-after (and-in (met keyed refsOf (after keyed (says h f a (s .count)) (change p (recordOf h f v)))) true met-after tt));
+      asc = subst (Asc (keyed scottish)) (sym e) (asc-after (keyed scottish) (says h f a (s .count)) (change p (recordOf h f v)) (y .asc));
+      fines = subst (λ x. T (all (fine scottish) x)) (sym e) fines-after;
+      pass = subst (λ x. T (passes (always scottish) x)) (sym e) (and-in (few (after (keyed scottish) (says h f a (s .count)) (change p (recordOf h f v)))) _ few-after (and-in (met (keyed scottish) (refsOf scottish) (after (keyed scottish) (says h f a (s .count)) (change p (recordOf h f v)))) true met-after tt));
       counted = n ∙ ap length (sym e);
       sized = q .sized z ∙ ap (λ x. length (written x)) (sym e);
       fits = omega (arith, q .sized z, fits-after);
@@ -159,27 +160,27 @@ module _ (h f a : List ℕ) (room v : ℕ) (s : State) (y : Ready h f a room s) 
       fileShort = y .fileShort;
     }
 
-    stepped : (b o t : List ℕ) (m u : ℕ) → says h f b m ≡ after keyed (says h f a (s .count)) (change p (recordOf h f v)) → m ≡ length (after keyed (says h f a (s .count)) (change p (recordOf h f v))) → length b ≡ length a
-        → Tagged h f b o m → take m t ≡ byKey (tally (says h f b m)) (says h f b m) → 8192 ≤ length t → recordOf h f u ≡ Option·getD (get keyed (keyOf (recordOf h f v)) (says h f a (s .count))) (recordOf h f v)
+    stepped : (b o t : List ℕ) (m u : ℕ) → says h f b m ≡ after (keyed scottish) (says h f a (s .count)) (change p (recordOf h f v)) → m ≡ length (after (keyed scottish) (says h f a (s .count)) (change p (recordOf h f v))) → length b ≡ length a
+        → Tagged h f b o m → take m t ≡ byKey (tally (says h f b m)) (says h f b m) → 8192 ≤ length t → recordOf h f u ≡ Option·getD (get (keyed scottish) (keyOf scottish (recordOf h f v)) (says h f a (s .count))) (recordOf h f v)
         → Steps h f a b o t room (change p (recordOf h f v)) s (record { code = 0; state = record { count = m; size = j .size }; before = u })
     stepped b o t m u e n l i c d w = record { coded = sym z ∙ q .coded; left = λ x. record { said = e; ready = ready-next b m e n l; tagged = i; tallied = record { space = d; told = c }; stood = w } }
 
-    meets-after : T (all (meets numbered refNumbers (after keyed (says h f a (s .count)) (change p (recordOf h f v)))) (after keyed (says h f a (s .count)) (change p (recordOf h f v))))
-    meets-after = met-told (after keyed (says h f a (s .count)) (change p (recordOf h f v))) fines-after met-after
+    meets-after : T (all (meets numbered refNumbers (after (keyed scottish) (says h f a (s .count)) (change p (recordOf h f v)))) (after (keyed scottish) (says h f a (s .count)) (change p (recordOf h f v))))
+    meets-after = met-told (after (keyed scottish) (says h f a (s .count)) (change p (recordOf h f v))) fines-after met-after
 
-    put-both : (o : Option Rec) → put numbered (keyNumbers (recordOf h f v)) o (says h f a (s .count)) ≡ put keyed (keyOf (recordOf h f v)) o (says h f a (s .count))
-    put-both o = put-alike (says h f a (s .count)) (y .fines) (keyNumbers (recordOf h f v)) (keyOf (recordOf h f v)) (own-agrees (recordOf h f v) g) o
+    put-both : (o : Option Rec) → put numbered (keyNumbers (recordOf h f v)) o (says h f a (s .count)) ≡ put (keyed scottish) (keyOf scottish (recordOf h f v)) o (says h f a (s .count))
+    put-both o = put-alike (says h f a (s .count)) (y .fines) (keyNumbers (recordOf h f v)) (keyOf scottish (recordOf h f v)) (own-agrees (recordOf h f v) g) o
 
-    stood-at : T (some? (get keyed (keyOf (recordOf h f v)) (says h f a (s .count)))) → T (some? (get numbered (keyNumbers (recordOf h f v)) (says h f a (s .count))))
+    stood-at : T (some? (get (keyed scottish) (keyOf scottish (recordOf h f v)) (says h f a (s .count)))) → T (some? (get numbered (keyNumbers (recordOf h f v)) (says h f a (s .count))))
     stood-at t = subst (λ o. T (some? o)) (sym (get-both (says h f a (s .count)) (recordOf h f v) (y .fines) g)) t
 
-    found : T (some? (get keyed (keyOf (recordOf h f v)) (says h f a (s .count)))) → get numbered (keyNumbers (recordOf h f v)) (says h f a (s .count)) ≡ some (recordOf h f (getD a (j .place) 0))
+    found : T (some? (get (keyed scottish) (keyOf scottish (recordOf h f v)) (says h f a (s .count)))) → get numbered (keyNumbers (recordOf h f v)) (says h f a (s .count)) ≡ some (recordOf h f (getD a (j .place) 0))
     found t = found-at h f a (keyNumbers (recordOf h f v)) (s .count) (j .place) (ready-in h f a room s y) (q .placed) (stood-at t)
 
-    found-key : T (some? (get keyed (keyOf (recordOf h f v)) (says h f a (s .count)))) → get keyed (keyOf (recordOf h f v)) (says h f a (s .count)) ≡ some (recordOf h f (getD a (j .place) 0))
+    found-key : T (some? (get (keyed scottish) (keyOf scottish (recordOf h f v)) (says h f a (s .count)))) → get (keyed scottish) (keyOf scottish (recordOf h f v)) (says h f a (s .count)) ≡ some (recordOf h f (getD a (j .place) 0))
     found-key t = sym (get-both (says h f a (s .count)) (recordOf h f v) (y .fines) g) ∙ found t
 
-    found-in : T (some? (get keyed (keyOf (recordOf h f v)) (says h f a (s .count)))) → j .place < s .count
+    found-in : T (some? (get (keyed scottish) (keyOf scottish (recordOf h f v)) (says h f a (s .count)))) → j .place < s .count
     found-in t = stands-in h f a (s .count) (j .place) (keyNumbers (recordOf h f v)) (ready-in h f a room s y) (q .placed) (some? (get numbered (keyNumbers (recordOf h f v)) (says h f a (s .count)))) refl (T-true _ (stood-at t))
 
   -- ---- counts
@@ -195,7 +196,7 @@ module _ (h f a : List ℕ) (room v : ℕ) (s : State) (y : Ready h f a room s) 
   asc-now = asc-told st (y .asc) (y .fines)
 
   met-now : T (all (meets numbered refNumbers st) st)
-  met-now = met-told st (y .fines) (and-l (met keyed refsOf st) _ (and-r (few st) _ (y .pass)))
+  met-now = met-told st (y .fines) (and-l (met (keyed scottish) (refsOf scottish) st) _ (and-r (few st) _ (y .pass)))
 
   new-asc : (b : List ℕ) (m : ℕ) → says h f b m ≡ put numbered (keyNumbers x) (some x) st → Asc numbered (says h f b m)
   new-asc b m e = subst (Asc numbered) (sym e) (asc-put numbered (keyNumbers x) (some x) st refl asc-now)
@@ -207,17 +208,17 @@ module _ (h f a : List ℕ) (room v : ℕ) (s : State) (y : Ready h f a room s) 
   -- ---- insert
 
   module _ (q : Judges h f a room (change ins (recordOf h f v)) s j) (z : j .code ≡ 0) where
-    ins-none : get keyed (keyOf (recordOf h f v)) (says h f a (s .count)) ≡ none
-    ins-none = none-of (get keyed (keyOf (recordOf h f v)) (says h f a (s .count))) (T-false _ (passed ins q z .0))
+    ins-none : get (keyed scottish) (keyOf scottish (recordOf h f v)) (says h f a (s .count)) ≡ none
+    ins-none = none-of (get (keyed scottish) (keyOf scottish (recordOf h f v)) (says h f a (s .count))) (T-false _ (passed ins q z .0))
 
-    ins-count : length (after keyed (says h f a (s .count)) (change ins (recordOf h f v))) ≡ s .count + 1
+    ins-count : length (after (keyed scottish) (says h f a (s .count)) (change ins (recordOf h f v))) ≡ s .count + 1
     unfolding after
-    ins-count = omega (arith, rw ins-none at (length-put keyed (keyOf (recordOf h f v)) (some (recordOf h f v)) (says h f a (s .count))), y .counted)
+    ins-count = omega (arith, rw ins-none at (length-put (keyed scottish) (keyOf scottish (recordOf h f v)) (some (recordOf h f v)) (says h f a (s .count))), y .counted)
 
     -- there is room for one entry more
     pub ins-in : s .count < length a
     unfolding few
-    ins-in = omega (arith, ins-count, y .space, leb→le (length (after keyed (says h f a (s .count)) (change ins (recordOf h f v)))) most (few-after ins q z))
+    ins-in = omega (arith, ins-count, y .space, leb→le (length (after (keyed scottish) (says h f a (s .count)) (change ins (recordOf h f v)))) most (few-after ins q z))
 
     -- its place is among the entries, or after them
     pub ins-place : j .place ≤ s .count
@@ -227,7 +228,7 @@ module _ (h f a : List ℕ) (room v : ℕ) (s : State) (y : Ready h f a room s) 
     pub ins-fits : Fits w64 (s .count + 1)
     ins-fits = record { fits = omega (arith, ready-few h f a room s y) }
 
-    ins-says : says h f (opened a (s .count) (j .place) v) (s .count + 1) ≡ after keyed (says h f a (s .count)) (change ins (recordOf h f v))
+    ins-says : says h f (opened a (s .count) (j .place) v) (s .count + 1) ≡ after (keyed scottish) (says h f a (s .count)) (change ins (recordOf h f v))
     unfolding after
     ins-says =
         put-says h f a (keyNumbers (recordOf h f v)) (s .count) (j .place) (q .placed) v ins-in (q .within) (get-both (says h f a (s .count)) (recordOf h f v) (y .fines) g ∙ ins-none)
@@ -235,7 +236,7 @@ module _ (h f a : List ℕ) (room v : ℕ) (s : State) (y : Ready h f a room s) 
 
     ins-space : (o : List ℕ) → 8192 ≤ length o → s .count < length o
     unfolding few
-    ins-space o l = omega (arith, ins-count, leb→le (length (after keyed st (change ins x))) most (few-after ins q z))
+    ins-space o l = omega (arith, ins-count, leb→le (length (after (keyed scottish) st (change ins x))) most (few-after ins q z))
 
     -- there is room for one tag more
     pub ins-tags : (o : List ℕ) → Tagged h f a o (s .count) → s .count < length o
@@ -271,7 +272,7 @@ module _ (h f a : List ℕ) (room v : ℕ) (s : State) (y : Ready h f a room s) 
 
         ins-meets : T (meets numbered refNumbers (put numbered (keyNumbers x) (some x) st) x)
         unfolding after
-        ins-meets = rw (put-both ins q z (some x)) (put-all? keyed (meets numbered refNumbers (put keyed (keyOf x) (some x) st)) (keyOf x) (some x) st (meets-after ins q z))
+        ins-meets = rw (put-both ins q z (some x)) (put-all? (keyed scottish) (meets numbered refNumbers (put (keyed scottish) (keyOf scottish x) (some x) st)) (keyOf scottish x) (some x) st (meets-after ins q z))
 
         -- an entry more at its place, and its references counted in
         pub ins-step : (d : List ℕ) (o : Bool) → Notes true (says h f b (s .count + 1)) x u d o → Steps h f a b c d room (change ins x) s (record { code = 0; state = record { count = s .count + 1; size = j .size }; before = v })
@@ -286,15 +287,15 @@ module _ (h f a : List ℕ) (room v : ℕ) (s : State) (y : Ready h f a room s) 
   -- ---- update
 
   module _ (q : Judges h f a room (change upd (recordOf h f v)) s j) (z : j .code ≡ 0) where
-    upd-count : length (after keyed (says h f a (s .count)) (change upd (recordOf h f v))) ≡ s .count
+    upd-count : length (after (keyed scottish) (says h f a (s .count)) (change upd (recordOf h f v))) ≡ s .count
     unfolding after
-    upd-count = omega (arith, rw (found-key upd q z (passed upd q z .0)) at (length-put keyed (keyOf (recordOf h f v)) (some (recordOf h f v)) (says h f a (s .count))), y .counted)
+    upd-count = omega (arith, rw (found-key upd q z (passed upd q z .0)) at (length-put (keyed scottish) (keyOf scottish (recordOf h f v)) (some (recordOf h f v)) (says h f a (s .count))), y .counted)
 
     -- the entry is in the array
     pub upd-in : j .place < length a
     upd-in = omega (arith, found-in upd q z (passed upd q z .0), ready-in h f a room s y)
 
-    upd-says : says h f (set a (j .place) v) (s .count) ≡ after keyed (says h f a (s .count)) (change upd (recordOf h f v))
+    upd-says : says h f (set a (j .place) v) (s .count) ≡ after (keyed scottish) (says h f a (s .count)) (change upd (recordOf h f v))
     unfolding after
     upd-says =
         set-says h f a (keyNumbers (recordOf h f v)) (s .count) (j .place) (q .placed) (recordOf h f (getD a (j .place) 0)) (ready-in h f a room s y) (found-in upd q z (passed upd q z .0)) (found upd q z (passed upd q z .0)) v
@@ -342,7 +343,7 @@ module _ (h f a : List ℕ) (room v : ℕ) (s : State) (y : Ready h f a room s) 
 
         upd-meets : T (meets numbered refNumbers (put numbered (keyNumbers x) (some x) st) x)
         unfolding after
-        upd-meets = rw (put-both upd q z (some x)) (put-all? keyed (meets numbered refNumbers (put keyed (keyOf x) (some x) st)) (keyOf x) (some x) st (meets-after upd q z))
+        upd-meets = rw (put-both upd q z (some x)) (put-all? (keyed scottish) (meets numbered refNumbers (put (keyed scottish) (keyOf scottish x) (some x) st)) (keyOf scottish x) (some x) st (meets-after upd q z))
 
         -- another entry at its place, the old references counted out and the new ones in
         pub upd-step : (d : List ℕ) (p : Bool) → Notes true (says h f (set a (j .place) v) (s .count)) x u d p
@@ -374,11 +375,11 @@ module _ (h f a : List ℕ) (room v : ℕ) (s : State) (y : Ready h f a room s) 
     pub del-one : 1 ≤ s .count
     del-one = omega (arith, del-place)
 
-    del-count : length (after keyed (says h f a (s .count)) (change del (recordOf h f v))) + 1 ≡ s .count
+    del-count : length (after (keyed scottish) (says h f a (s .count)) (change del (recordOf h f v))) + 1 ≡ s .count
     unfolding after
-    del-count = omega (arith, rw (found-key del q z (passed del q z .0)) at (length-put keyed (keyOf (recordOf h f v)) none (says h f a (s .count))), y .counted)
+    del-count = omega (arith, rw (found-key del q z (passed del q z .0)) at (length-put (keyed scottish) (keyOf scottish (recordOf h f v)) none (says h f a (s .count))), y .counted)
 
-    del-says : says h f (closed a (s .count) (j .place)) (s .count - 1) ≡ after keyed (says h f a (s .count)) (change del (recordOf h f v))
+    del-says : says h f (closed a (s .count) (j .place)) (s .count - 1) ≡ after (keyed scottish) (says h f a (s .count)) (change del (recordOf h f v))
     unfolding after
     del-says =
         close-says h f a (keyNumbers (recordOf h f v)) (s .count) (j .place) (q .placed) (recordOf h f (getD a (j .place) 0)) (ready-in h f a room s y) del-place (found del q z (passed del q z .0))
@@ -463,17 +464,17 @@ held-is Lpi = refl
 held-is Metadata = refl
 held-is Trailer = refl
 
-fine-held : (x : Rec) → T (fine x) → T (isHeld (role (x .kind)))
-unfolding fine
-fine-held x g = and-l (isHeld (role (x .kind))) _ g
+fine-held : (x : Rec) → T (fine scottish x) → T (isHeld (role (x .kind)))
+unfolding isHeld
+fine-held x g = rw (fine-body scottish x g) tt
 
 module _ (h f : List ℕ) (at : ℕ) (l : Line) (q : Carries f at l) where
   filed : recordOf h f (2 * at + 1) ≡ recOf (lineAt f at)
   filed = entry-odd h f at (2 * at + 1) (omega arith)
 
   -- the entry of a line is of a sound record
-  pub line-fine : T (fine (recordOf h f (2 * at + 1)))
-  line-fine = subst (λ x. T (fine x)) (sym filed) (q .sound)
+  pub line-fine : T (fine scottish (recordOf h f (2 * at + 1)))
+  line-fine = subst (λ x. T (fine scottish x)) (sym filed) (q .sound)
 
   -- it can be written down
   pub twice-fits : (a : List ℕ) (room : ℕ) (s : State) → Ready h f a room s → Fits w64 (2 * at)

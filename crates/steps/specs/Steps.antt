@@ -7,6 +7,7 @@ use lib.Dec.{T}
 use lib.ListN.{length}
 use Rattle.theory.specs.Store.{get}
 use Rattle.theory.specs.Step.{Change, judge, after}
+use Rattle.meaning.specs.Table.{scottish}
 use Rattle.meaning.specs.Records.{Rec, keyed, keyOf}
 use Rattle.meaning.specs.Load.{stepTests}
 use Rattle.laws.specs.Body.{fine}
@@ -24,20 +25,20 @@ use Rattle.steps.specs.declared.step.Stepped.{Stepped}
 
 -- the array says the state after the change, ready for the next, tagged and counted, and the entry before is of the record that stood at the key, or of the change's own
 pub record Leaves (h f a b g t : List ℕ) (room : ℕ) (c : Change Rec) (s : State) (r : Stepped) : Type 0 where
-  pub said : says h f b (r .state .count) ≡ after keyed (says h f a (s .count)) c
+  pub said : says h f b (r .state .count) ≡ after (keyed scottish) (says h f a (s .count)) c
   pub ready : Ready h f b room (r .state)
   pub tagged : Tagged h f b g (r .state .count)
   pub tallied : Counted h f b t (r .state .count)
-  pub stood : recordOf h f (r .before) ≡ Option·getD (get keyed (keyOf (c .rec)) (says h f a (s .count))) (c .rec)
+  pub stood : recordOf h f (r .before) ≡ Option·getD (get (keyed scottish) (keyOf scottish (c .rec)) (says h f a (s .count))) (c .rec)
 
 -- a step: its code, and where that is 0 what it leaves
 pub record Steps (h f a b g t : List ℕ) (room : ℕ) (c : Change Rec) (s : State) (r : Stepped) : Type 0 where
-  pub coded : r .code ≡ codeNumber (judge keyed (stepTests room) (says h f a (s .count)) c)
+  pub coded : r .code ≡ codeNumber (judge (keyed scottish) (stepTests scottish room) (says h f a (s .count)) c)
   pub left : r .code ≡ 0 → Leaves h f a b g t room c s r
 
 -- the line at `at` carries a sound record, and its kind and change are those that were read
 pub record Carries (f : List ℕ) (at : ℕ) (l : Line) : Type 0 where
   pub inside : at ≤ length f
-  pub sound : T (fine (changeAt f at .rec))
+  pub sound : T (fine scottish (changeAt f at .rec))
   pub kinded : kindMeant (l .kind) ≡ changeAt f at .rec .kind
   pub changed : changeMeant (l .change) ≡ changeAt f at .op

@@ -3,6 +3,7 @@ ghost use mathlib.Core.Path.{_≡_};
 ghost use Prim.Native.Nat.{_≤_};
 ghost use lib.Dec.{T};
 ghost use lib.ListN.{length};
+ghost use Rattle.meaning.specs.Table.{scottish};
 ghost use Rattle.meaning.specs.File.{readFile};
 ghost use Rattle.text.specs.Places.{lineEnd};
 ghost use Rattle.layout.specs.Meant.{kindMeant};
@@ -64,7 +65,7 @@ pub fn run(
     start: State,
     room: usize,
 ) -> Ran
-    requires { ⌜ Ready (now holding) (now file) (now places) room start × Counted (now holding) (now file) (now places) (now counts) (start .count) × T (isFile (readFile (now file))) × (4096 ≤ length (now steps)) × (4096 ≤ length (now before)) × Tagged (now holding) (now file) (now places) (now tags) (start .count) ⌝ }
+    requires { ⌜ Ready (now holding) (now file) (now places) room start × Counted (now holding) (now file) (now places) (now counts) (start .count) × T (isFile (readFile scottish (now file))) × (4096 ≤ length (now steps)) × (4096 ≤ length (now before)) × Tagged (now holding) (now file) (now places) (now tags) (start .count) ⌝ }
     ensures { λ r. ⌜ Runs (now (holding .entry)) (now (file .entry)) (now (places .entry)) (now (places .exit)) (now (steps .exit)) (now (before .exit)) room start r ⌝ }
 {
     let mut at = line_end(file, 0) + 2;

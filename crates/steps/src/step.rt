@@ -2,6 +2,7 @@
 ghost use mathlib.Core.Path.{_≡_};
 ghost use lib.Dec.{T};
 ghost use Rattle.theory.specs.Step.{ins, upd, del};
+ghost use Rattle.meaning.specs.Table.{scottish};
 ghost use Rattle.laws.specs.Body.{fine};
 ghost use Rattle.entries.specs.Entries.{recordOf};
 ghost use Rattle.places.specs.Counts.{Counted};
@@ -51,7 +52,7 @@ fn insert(
     state: State,
     room: usize,
 ) -> Stepped
-    requires { ⌜ Ready (now holding) (now file) (now places) room state × Counted (now holding) (now file) (now places) (now counts) (state .count) × T (fine (recordOf (now holding) (now file) entry)) × Tagged (now holding) (now file) (now places) (now tags) (state .count) ⌝ }
+    requires { ⌜ Ready (now holding) (now file) (now places) room state × Counted (now holding) (now file) (now places) (now counts) (state .count) × T (fine scottish (recordOf (now holding) (now file) entry)) × Tagged (now holding) (now file) (now places) (now tags) (state .count) ⌝ }
     ensures { λ r. ⌜ Steps (now (holding .entry)) (now (file .entry)) (now (places .entry)) (now (places .exit)) (now (tags .exit)) (now (counts .exit)) room (change ins (recordOf (now (holding .entry)) (now (file .entry)) entry)) state r ⌝ }
 {
     let judged = judge_insert(holding, file, places, tags, entry, state, room);
@@ -85,7 +86,7 @@ fn update(
     state: State,
     room: usize,
 ) -> Stepped
-    requires { ⌜ Ready (now holding) (now file) (now places) room state × Counted (now holding) (now file) (now places) (now counts) (state .count) × T (fine (recordOf (now holding) (now file) entry)) × Tagged (now holding) (now file) (now places) (now tags) (state .count) ⌝ }
+    requires { ⌜ Ready (now holding) (now file) (now places) room state × Counted (now holding) (now file) (now places) (now counts) (state .count) × T (fine scottish (recordOf (now holding) (now file) entry)) × Tagged (now holding) (now file) (now places) (now tags) (state .count) ⌝ }
     ensures { λ r. ⌜ Steps (now (holding .entry)) (now (file .entry)) (now (places .entry)) (now (places .exit)) (now (tags .entry)) (now (counts .exit)) room (change upd (recordOf (now (holding .entry)) (now (file .entry)) entry)) state r ⌝ }
 {
     let judged = judge_update(holding, file, places, tags, entry, state, room);
@@ -127,7 +128,7 @@ fn delete(
     state: State,
     room: usize,
 ) -> Stepped
-    requires { ⌜ Ready (now holding) (now file) (now places) room state × Counted (now holding) (now file) (now places) (now counts) (state .count) × T (fine (recordOf (now holding) (now file) entry)) × Tagged (now holding) (now file) (now places) (now tags) (state .count) ⌝ }
+    requires { ⌜ Ready (now holding) (now file) (now places) room state × Counted (now holding) (now file) (now places) (now counts) (state .count) × T (fine scottish (recordOf (now holding) (now file) entry)) × Tagged (now holding) (now file) (now places) (now tags) (state .count) ⌝ }
     ensures { λ r. ⌜ Steps (now (holding .entry)) (now (file .entry)) (now (places .entry)) (now (places .exit)) (now (tags .exit)) (now (counts .exit)) room (change del (recordOf (now (holding .entry)) (now (file .entry)) entry)) state r ⌝ }
 {
     let judged = judge_delete(holding, file, places, tags, counts, entry, state, room);

@@ -16,6 +16,7 @@ use lib.ListN.{length, take, drop, length-append, length-drop}
 use lib.Seq.{length-take-le, take-all}
 use Rattle.base.specs.Lists.{pick, zeros}
 use Rattle.theory.specs.Answer.{Answer, took, refused}
+use Rattle.meaning.specs.Table.{scottish}
 use Rattle.meaning.specs.Holding.{written}
 use Rattle.meaning.specs.Load.{six, filled, load, undoBytes, undone, undoFile}
 use Rattle.text.specs.Front.{inFront}
@@ -161,9 +162,9 @@ module _ (h f b t u : List ℕ) (room space : ℕ) (r : Loaded) (w : Loads h f b
   -- what the load refuses
   pub undo-refused : (a : Six′) (out work : List ℕ) → (r .answer .code ≡ 0 → ⊥) → a ≡ r .answer → out ≡ zeros room → work ≡ zeros space → UndoOutcome h f room space a out work
   unfolding undoFile undone
-  undo-refused a out work n p o z = go (load space h f) (w .answered)
+  undo-refused a out work n p o z = go (load scottish space h f) (w .answered)
     where
-      go : (x : Answer) → r .answer ≡ answerOf (numbers x) → (a ≡ answerOf (undone room space (undoBytes h f) x .answer)) × (out ≡ undone room space (undoBytes h f) x .output) × (work ≡ undone room space (undoBytes h f) x .work)
+      go : (x : Answer) → r .answer ≡ answerOf (numbers x) → (a ≡ answerOf (undone room space (undoBytes scottish h f) x .answer)) × (out ≡ undone room space (undoBytes scottish h f) x .output) × (work ≡ undone room space (undoBytes scottish h f) x .work)
       go (took new i s d) q = absurd (n (ap (λ y. y .code) q))
       go (refused c l x) q = (p ∙ q, o, z)
 
@@ -178,9 +179,9 @@ module _ (h f b t u : List ℕ) (room space : ℕ) (r : Loaded) (w : Loads h f b
 
     module _ (c : Bool) (e : c ≡ leb (length (undoText h f t u (r .steps) (r .end))) room) (out work : List ℕ)
         (o : out ≡ pick {A = List ℕ} c (filled room (undoText h f t u (r .steps) (r .end))) (zeros room)) (z : work ≡ zeros space) where
-      tells : undoFile h f room space ≡ undone room space (undoText h f t u (r .steps) (r .end)) (took (written (says h f b (r .count))) (r .answer .inserts) (r .answer .updates) (r .answer .deletes))
+      tells : undoFile scottish h f room space ≡ undone room space (undoText h f t u (r .steps) (r .end)) (took (written (says h f b (r .count))) (r .answer .inserts) (r .answer .updates) (r .answer .deletes))
       unfolding undoFile
-      tells = ap (λ x. undone room space x (load space h f)) (w .taken m .undoes) ∙ ap (undone room space (undoText h f t u (r .steps) (r .end))) (w .taken m .loaded)
+      tells = ap (λ x. undone room space x (load scottish space h f)) (w .taken m .undoes) ∙ ap (undone room space (undoText h f t u (r .steps) (r .end))) (w .taken m .loaded)
 
       -- the undo
       pub undo-done : c ≡ true → UndoOutcome h f room space (r .answer) out work

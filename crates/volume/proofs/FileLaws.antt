@@ -14,7 +14,9 @@ use Rattle.theory.specs.Decimal.{value}
 use Rattle.theory.specs.Step.{Op, ins, upd, del}
 use Rattle.theory.specs.Answer.{Read, fault, file, isOp, count}
 use Rattle.meaning.specs.Lines.{linesOf, identifier, fieldsOf, hasFields}
-use Rattle.meaning.specs.Table.{Kind, kindOf, Role, headerLine, bodyLine, metadataLine, trailerLine, role, fields, named, placeFrom, endDate, proOrder, recordCount}
+use Rattle.meaning.specs.Kinds.{Kind, Role, headerLine, bodyLine, metadataLine, trailerLine, role}
+use Rattle.meaning.specs.Format.{kindOf, named, placeFrom, endDate, proOrder, recordCount}
+use Rattle.meaning.specs.Table.{fields, scottish}
 use Rattle.meaning.specs.Sound.{Fault}
 use Rattle.meaning.specs.Records.{opOf, changeOf}
 use Rattle.meaning.specs.File.{Place, atStart, next, hasRoom, countFault, Judged, bad, good, lineFault, verdict, judgeKind, judgeText, judgeLine, Sheet, addLine, adds, bodyAfter, onLine, readFrom, readFile}
@@ -47,10 +49,10 @@ fully n t (bad f) = bad f
 fully n t (good k q) = verdict (pick (eqb (lowest k t) 0) (closes n k t) (some (5, lowest k t))) k q
 
 -- that is the meaning's judgement
-judge-is : (p : Place) (n : ℕ) (b : Bool) (t : List ℕ) → pick b (judgeText p n t (kindOf (identifier t))) (bad (1, 0)) ≡ fully n t (opens p n b t)
+judge-is : (p : Place) (n : ℕ) (b : Bool) (t : List ℕ) → pick b (judgeText scottish p n t (kindOf scottish (identifier t))) (bad (1, 0)) ≡ fully n t (opens p n b t)
 unfolding opens opensAs opensAt judgeText judgeKind verdict lineFault closes ask
 judge-is p n false t = refl
-judge-is p n true t = kinded (kindOf (identifier t))
+judge-is p n true t = kinded (kindOf scottish (identifier t))
   where
     asked : (k : Kind) (q : Place) (r f : Bool) (rest : Option Fault)
         → verdict (ask r (9, 0) (ask f (4, 0) rest)) k q ≡ pick r (pick f (verdict rest k q) (bad (4, 0))) (bad (9, 0))
@@ -65,14 +67,14 @@ judge-is p n true t = kinded (kindOf (identifier t))
     opened k q true false = refl
     opened k q false f = refl
 
-    placed : (k : Kind) (o : Option Place) → judgeKind n t k o ≡ fully n t (opensAt n t k o)
+    placed : (k : Kind) (o : Option Place) → judgeKind scottish n t k o ≡ fully n t (opensAt n t k o)
     placed k none = refl
     placed k (some q) =
-        rw (fault-is k t (countFault (role k) n k t))
+        rw (fault-is k t (countFault scottish (role k) n k t))
         (asked k q (hasRoom (role k) n) (hasFields (length (fields k)) t) (pick (eqb (lowest k t) 0) (closes n k t) (some (5, lowest k t)))
         ∙ opened k q (hasRoom (role k) n) (hasFields (length (fields k)) t))
 
-    kinded : (o : Option Kind) → judgeText p n t o ≡ fully n t (opensAs p n t o)
+    kinded : (o : Option Kind) → judgeText scottish p n t o ≡ fully n t (opensAs p n t o)
     kinded none = refl
     kinded (some k) = placed k (next p (role k))
 
@@ -80,7 +82,7 @@ judge-is p n true t = kinded (kindOf (identifier t))
 opened-fields : (p : Place) (n : ℕ) (b : Bool) (t : List ℕ) (k : Kind) (q : Place) → good k q ≡ opens p n b t → hasFields (length (fields k)) t ≡ true
 unfolding opens opensAs opensAt verdict ask
 opened-fields p n false t k q e = let z : good k q ≡ bad (1, 0) = e in cc
-opened-fields p n true t k q e = kinded (kindOf (identifier t)) e
+opened-fields p n true t k q e = kinded (kindOf scottish (identifier t)) e
   where
     asked : (k′ : Kind) (q′ : Place) (r f : Bool) → good k q ≡ verdict (ask {A = Fault} r (9, 0) (ask {A = Fault} f (4, 0) none)) k′ q′ → f ≡ hasFields (length (fields k′)) t → hasFields (length (fields k)) t ≡ true
     asked k′ q′ true true e h = let z : good k q ≡ good k′ q′ = e in cc
@@ -110,7 +112,7 @@ closes-told n k t z = dated (kindDates k (fieldsOf t)) (role k) z
     asked true c f z = refl
     asked false c f z = absurd (omega (arith, z))
 
-    dated : (b : Bool) (r : Role) → told (ask {A = Fault} b (6, placeFrom 1 endDate (fields k)) (countFault r n k t)) .code ≡ 0 → ask {A = Fault} b (6, placeFrom 1 endDate (fields k)) (countFault r n k t) ≡ none
+    dated : (b : Bool) (r : Role) → told (ask {A = Fault} b (6, placeFrom 1 endDate (fields k)) (countFault scottish r n k t)) .code ≡ 0 → ask {A = Fault} b (6, placeFrom 1 endDate (fields k)) (countFault scottish r n k t) ≡ none
     dated false r z = absurd (omega (arith, z))
     dated true headerLine z = refl
     dated true bodyLine z = asked (eqb (value (named proOrder (fields k) (fieldsOf t))) (suc n)) 6 (placeFrom 1 proOrder (fields k)) z
@@ -152,7 +154,7 @@ counted-none (file s) = rw (zero-add (count ins (s .1)), zero-add (count upd (s 
 
 -- what is left answers what the file does, and no number has passed the bytes that were read
 pub record Reading (s : List ℕ) (w : Walk) (at : ℕ) : Type 0 where
-  pub left : leftOf w (linesOf (drop at s)) ≡ checkFile s
+  pub left : leftOf w (linesOf (drop at s)) ≡ checkFile scottish s
   pub within : Within w at
   pub stands : at ≤ length s + 2
 
@@ -160,19 +162,19 @@ pub record Reading (s : List ℕ) (w : Walk) (at : ℕ) : Type 0 where
 pub read-start : (s : List ℕ) (w : Walk) → w ≡ unwalked → Reading s w 0
 unfolding leftOf checkFile readFile
 read-start s w e = rw e (record {
-  left = counted-none (readFrom 1 atStart 0 (linesOf s));
+  left = counted-none (readFrom scottish 1 atStart 0 (linesOf s));
   within = record { lines = omega arith; bodies = omega arith; insertsIn = omega arith; updatesIn = omega arith; deletesIn = omega arith };
   stands = omega arith;
 })
 
 -- it ends where no line is left
-pub read-done : (s : List ℕ) (w : Walk) (at : ℕ) (r : Answer) → Reading s w at → length s ≤ at → r ≡ answerOf (leftOf w []) → r ≡ answerOf (checkFile s)
+pub read-done : (s : List ℕ) (w : Walk) (at : ℕ) (r : Answer) → Reading s w at → length s ≤ at → r ≡ answerOf (leftOf w []) → r ≡ answerOf (checkFile scottish s)
 read-done s w at r v h e = e ∙ ap answerOf (rw (lines-end s at h) at (v .left))
 
 module _ (s : List ℕ) (w : Walk) (at e : ℕ) (h : at < length s) (q : e ≡ plainEnd s at) where
   -- the lines after this one
   abbrev rest : Kind → Place → Read Sheet
-  rest k p = readFrom (suc (w .line)) p (bodyAfter (role k) (w .body)) (linesOf (drop (e + 2) s))
+  rest k p = readFrom scottish (suc (w .line)) p (bodyAfter (role k) (w .body)) (linesOf (drop (e + 2) s))
 
   -- the line, as its bytes and its ending say
   line-left : leftOf w (linesOf (drop at s))
@@ -187,10 +189,10 @@ module _ (s : List ℕ) (w : Walk) (at e : ℕ) (h : at < length s) (q : e ≡ p
       n = lineLen (drop at s)
 
       after : List ℕ → Judged
-      after t = judgeText (placeMeant (w .place)) (w .body) t (kindOf (identifier t))
+      after t = judgeText scottish (placeMeant (w .place)) (w .body) t (kindOf scottish (identifier t))
 
       go : (b : Bool) → endsHere (drop e s) ≡ b
-          → checkedFrom w (onLine (w .line) (take n (drop at s)) (pick b (after (take n (drop at s))) (bad (1, 0))) (λ k p. readFrom (suc (w .line)) p (bodyAfter (role k) (w .body)) (linesOf (drop (at + (n + 2)) s))))
+          → checkedFrom w (onLine (w .line) (take n (drop at s)) (pick b (after (take n (drop at s))) (bad (1, 0))) (λ k p. readFrom scottish (suc (w .line)) p (bodyAfter (role k) (w .body)) (linesOf (drop (at + (n + 2)) s))))
           ≡ checkedFrom w (onLine (w .line) (take (e - at) (drop at s)) (pick b (after (take (e - at) (drop at s))) (bad (1, 0))) rest)
       go false f = refl
       go true f =
@@ -201,17 +203,17 @@ module _ (s : List ℕ) (w : Walk) (at e : ℕ) (h : at < length s) (q : e ≡ p
   module _ (v : Reading s w at) (b : Bool) (i : b ≡ endsHere (drop e s)) (o : Opened)
       (j : judgedAs o ≡ opens (placeMeant (w .place)) (w .body) b (take (e - at) (drop at s))) where
     -- the line, as it was opened
-    line-opened : checkFile s ≡ checkedFrom w (onLine (w .line) (take (e - at) (drop at s)) (fully (w .body) (take (e - at) (drop at s)) (judgedAs o)) rest)
+    line-opened : checkFile scottish s ≡ checkedFrom w (onLine (w .line) (take (e - at) (drop at s)) (fully (w .body) (take (e - at) (drop at s)) (judgedAs o)) rest)
     line-opened = sym (v .left) ∙ line-left ∙ rw (j, i)
 
     -- 1, 2, 3, 9 or 4 is the file's fault
-    pub read-opened : (c f : ℕ) → o ≡ Bad c f → (r : Answer) → r ≡ answerOf (six c (w .line) f 0 0 0) → r ≡ answerOf (checkFile s)
+    pub read-opened : (c f : ℕ) → o ≡ Bad c f → (r : Answer) → r ≡ answerOf (six c (w .line) f 0 0 0) → r ≡ answerOf (checkFile scottish s)
     unfolding onLine checkedFrom
     read-opened c f d r g = g ∙ ap answerOf (sym (line-opened ∙ rw d))
 
     module _ (kind : Named) (place : PlaceNamed) (z : o ≡ Good kind place) where
       -- a line without a fault so far
-      line-good : checkFile s
+      line-good : checkFile scottish s
           ≡ checkedFrom w (onLine (w .line) (take (e - at) (drop at s)) (fully (w .body) (take (e - at) (drop at s)) (good (kindMeant kind) (placeMeant place))) rest)
       line-good = line-opened ∙ rw z
 
@@ -221,20 +223,20 @@ module _ (s : List ℕ) (w : Walk) (at e : ℕ) (h : at < length s) (q : e ≡ p
           sym (opened-fields (placeMeant (w .place)) (w .body) b (take (e - at) (drop at s)) (kindMeant kind) (placeMeant place) (rw z at j))
 
       -- 5 is the file's fault
-      pub read-malformed : (r : Answer) (k n : ℕ) → k + 1 ≡ lowest (kindMeant kind) (take (e - at) (drop at s)) → n ≡ k + 1 → r ≡ answerOf (six 5 (w .line) n 0 0 0) → r ≡ answerOf (checkFile s)
+      pub read-malformed : (r : Answer) (k n : ℕ) → k + 1 ≡ lowest (kindMeant kind) (take (e - at) (drop at s)) → n ≡ k + 1 → r ≡ answerOf (six 5 (w .line) n 0 0 0) → r ≡ answerOf (checkFile scottish s)
       unfolding onLine checkedFrom verdict
       read-malformed r k n m d g = g ∙ ap answerOf (rw d (sym (line-good ∙ rw (← m, ne-eqb (k + 1) 0 (λ u. omega (arith, u))))))
 
       module _ (y : 0 ≡ lowest (kindMeant kind) (take (e - at) (drop at s))) (f : FaultTold) (g : f ≡ told (closes (w .body) (kindMeant kind) (take (e - at) (drop at s)))) where
         -- 6, 7 or 8 is the file's fault
-        pub read-closed : (r : Answer) → (f .code ≡ 0 → ⊥) → r ≡ answerOf (six (f .code) (w .line) (f .field) 0 0 0) → r ≡ answerOf (checkFile s)
+        pub read-closed : (r : Answer) → (f .code ≡ 0 → ⊥) → r ≡ answerOf (six (f .code) (w .line) (f .field) 0 0 0) → r ≡ answerOf (checkFile scottish s)
         unfolding onLine checkedFrom verdict
         read-closed r m u =
             u ∙ ap answerOf (sym (line-good ∙ rw (eq-eqb (lowest (kindMeant kind) (take (e - at) (drop at s))) 0 (sym y), told-some (closes (w .body) (kindMeant kind) (take (e - at) (drop at s))) f g m)))
 
         -- a good line is passed
         passed : f .code ≡ 0
-            → checkFile s
+            → checkFile scottish s
             ≡ leftOf (walkedOn w (role (kindMeant kind)) (opOf (getD (fieldsOf (take (e - at) (drop at s))) 1 [])) place) (linesOf (drop (e + 2) s))
         unfolding onLine verdict leftOf walkedOn
         passed m =

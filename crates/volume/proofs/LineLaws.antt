@@ -17,7 +17,9 @@ use Rattle.theory.specs.Step.{ins, upd, del}
 use Rattle.theory.specs.Decimal.{value}
 use Rattle.meaning.specs.Forms.{Form, number, atLeast1, decimal, date, time, text, changeType, xrefType, fileType, keyText, isNumber, hasForm, isTextual, isEmpty, isDigit, soundAs}
 use Rattle.meaning.specs.Lines.{identifier, fieldsOf}
-use Rattle.meaning.specs.Table.{Kind, kinds, kindOf, Role, headerLine, bodyLine, metadataLine, trailerLine, role, fields, named, placeFrom, proOrder, recordCount}
+use Rattle.meaning.specs.Kinds.{Kind, kinds, Role, headerLine, bodyLine, metadataLine, trailerLine, role}
+use Rattle.meaning.specs.Format.{kindOf, named, placeFrom, proOrder, recordCount}
+use Rattle.meaning.specs.Table.{fields, scottish}
 use Rattle.meaning.specs.Records.{letter, opOf}
 use Rattle.meaning.specs.File.{Place, afterTrailer, next, hasRoom, countFault, bad, good, verdict}
 use Rattle.laws.specs.Kinds.{every}
@@ -108,7 +110,7 @@ unfolding kinds role fields placeFrom rowOf
 third k = every (λ k. numbered (role k) k) tt k
 
 -- a sound number of at most 16 digits is no longer
-narrow-short : (m : Form) (b : Bool) (f : List ℕ) → T (narrow m) → soundAs m b f ≡ true → length f ≤ 16
+narrow-short : (m : Form) (b : Bool) (f : List ℕ) → T (narrow m) → soundAs (scottish .textRule) m b f ≡ true → length f ≤ 16
 unfolding soundAs isEmpty isTextual same hasForm isNumber
 narrow-short (number w) b [] n s = omega arith
 narrow-short (number w) b (x ∷ f) n s =
@@ -130,9 +132,9 @@ sound-short : (n : ℕ) (ds : List Row) (fs : List (List ℕ)) (i : ℕ) → 0 �
 unfolding lowestBad
 sound-short n [] fs i z h w = absurd (omega arith)
 sound-short n (d ∷ ds) [] i z h w = omega arith
-sound-short n (d ∷ ds) (f ∷ fs) i z h w = go (soundAs (d .0) (d .1) f) refl i h w z (sound-short (suc n) ds fs)
+sound-short n (d ∷ ds) (f ∷ fs) i z h w = go (soundAs (scottish .textRule) (d .0) (d .1) f) refl i h w z (sound-short (suc n) ds fs)
   where
-    go : (b : Bool) → soundAs (d .0) (d .1) f ≡ b → (i : ℕ) → i < suc (length ds) → T (narrow (getD (d ∷ ds) i noRow .0)) → 0 ≡ pick b (lowestBad (suc (suc n)) ds fs) (suc n)
+    go : (b : Bool) → soundAs (scottish .textRule) (d .0) (d .1) f ≡ b → (i : ℕ) → i < suc (length ds) → T (narrow (getD (d ∷ ds) i noRow .0)) → 0 ≡ pick b (lowestBad (suc (suc n)) ds fs) (suc n)
         → ((i : ℕ) → 0 ≡ lowestBad (suc (suc n)) ds fs → i < length ds → T (narrow (getD ds i noRow .0)) → length (getD fs i []) ≤ 16) → length (getD (f ∷ fs) i []) ≤ 16
     go false s i h w z ih = absurd (omega arith)
     go true s zero h w z ih = narrow-short (d .0) (d .1) f w s
@@ -166,7 +168,7 @@ module _ (p : Place) (n : ℕ) (t : List ℕ) (b : Bool) where
   unfolding opens
   open-unended e = rw e
 
-  module _ (e : b ≡ true) (kf : KindFound) (g : kindFound kf ≡ kindOf (identifier t)) where
+  module _ (e : b ≡ true) (kf : KindFound) (g : kindFound kf ≡ kindOf scottish (identifier t)) where
     -- 2
     pub open-unknown : kf ≡ Unknown → bad (2, 1) ≡ opens p n b t
     unfolding opens opensAs

@@ -8,7 +8,7 @@ use native.Mathlib.Omega.{arith}
 use borrow.Author.Needs.{needs}
 use Rattle.theory.specs.Step.{Op, ins, upd, del}
 use Rattle.theory.specs.Answer.{count}
-use Rattle.meaning.specs.Table.{Kind, Role, headerLine, bodyLine, metadataLine, trailerLine, role}
+use Rattle.meaning.specs.Kinds.{Kind, Role, headerLine, bodyLine, metadataLine, trailerLine, role}
 use Rattle.meaning.specs.File.{bodyAfter, atEnd, readFrom}
 use Rattle.meaning.specs.Load.{six}
 use Rattle.layout.specs.declared.kinds.Role.the-variants.{HeaderLine, BodyLine, MetadataLine, TrailerLine}

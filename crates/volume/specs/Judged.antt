@@ -6,7 +6,9 @@ use Prim.Native.Nat.{ℕ}
 use lib.ListN.{length}
 use Rattle.base.specs.Lists.{pick, ask}
 use Rattle.meaning.specs.Lines.{identifier, fieldsOf, hasFields}
-use Rattle.meaning.specs.Table.{Kind, kindOf, role, fields, placeFrom, endDate}
+use Rattle.meaning.specs.Kinds.{Kind, role}
+use Rattle.meaning.specs.Format.{kindOf, placeFrom, endDate}
+use Rattle.meaning.specs.Table.{fields, scottish}
 use Rattle.meaning.specs.Sound.{Fault}
 use Rattle.meaning.specs.File.{Place, next, hasRoom, countFault, Judged, bad, good, verdict}
 use Rattle.layout.specs.Meant.{kindMeant}
@@ -27,11 +29,11 @@ opensAs p n t (some k) = opensAt n t k (next p (role k))
 
 -- a line before its fields are judged: 1 where it does not end well
 unfoldable pub opens : Place → ℕ → Bool → List ℕ → Judged
-opens p n ended t = pick ended (opensAs p n t (kindOf (identifier t))) (bad (1, 0))
+opens p n ended t = pick ended (opensAs p n t (kindOf scottish (identifier t))) (bad (1, 0))
 
 -- a line after its fields: 6, then 7 or 8
 unfoldable pub closes : ℕ → Kind → List ℕ → Option Fault
-closes n k t = ask (kindDates k (fieldsOf t)) (6, placeFrom 1 endDate (fields k)) (countFault (role k) n k t)
+closes n k t = ask (kindDates k (fieldsOf t)) (6, placeFrom 1 endDate (fields k)) (countFault scottish (role k) n k t)
 
 -- a line that was opened, as the meaning judges it: a fault, or its kind and the place after it
 abbrev pub judgedAs : Opened → Judged

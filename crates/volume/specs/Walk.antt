@@ -4,7 +4,8 @@ use Prim.Native.Nat.{ℕ, suc, _+_, _≤_}
 use Rattle.theory.specs.Step.{Op, ins, upd, del}
 use Rattle.theory.specs.Answer.{Read, fault, file, isOp, count}
 use Rattle.meaning.specs.Lines as meant
-use Rattle.meaning.specs.Table.{Role, headerLine, bodyLine, metadataLine, trailerLine}
+use Rattle.meaning.specs.Kinds.{Role, headerLine, bodyLine, metadataLine, trailerLine}
+use Rattle.meaning.specs.Table.{scottish}
 use Rattle.meaning.specs.File.{Sheet, bodyAfter, readFrom}
 use Rattle.meaning.specs.Load.{Six, six}
 use Rattle.volume.specs.declared.places.Place.{Place}
@@ -52,7 +53,7 @@ checkedFrom w (file s) = six 0 0 0 (w .inserts + count ins (s .1)) (w .updates +
 
 -- what the walk answers of the lines that are left
 unfoldable pub leftOf : Walk → List meant.Line → Six
-leftOf w ls = checkedFrom w (readFrom (w .line) (placeMeant (w .place)) (w .body) ls)
+leftOf w ls = checkedFrom w (readFrom scottish (w .line) (placeMeant (w .place)) (w .body) ls)
 
 -- no number of the walk has passed the bytes before n
 pub record Within (w : Walk) (n : ℕ) : Type 0 where

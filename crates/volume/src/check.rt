@@ -1,6 +1,7 @@
 // Lines are judged from the first, and within a line its fields: the numbers of the check of a file.
 ghost use mathlib.Core.Path.{_≡_};
 ghost use mathlib.Core.List.{[]};
+ghost use Rattle.meaning.specs.Table.{scottish};
 ghost use Rattle.meaning.specs.Load.{checkFile, six};
 ghost use Rattle.volume.specs.Walk.{leftOf};
 ghost use Rattle.volume.specs.Answer.{answerOf};
@@ -63,7 +64,7 @@ fn ended(walk: Walk) -> Answer
 
 // The check of a file.
 pub fn check_file(file: &[u8]) -> Answer
-    ensures { λ r. ⌜ r ≡ answerOf (checkFile (now (file .entry))) ⌝ }
+    ensures { λ r. ⌜ r ≡ answerOf (checkFile scottish (now (file .entry))) ⌝ }
 {
     let mut ends = [0usize; 32];
     let mut walk = Walk::at_start();

@@ -1,7 +1,7 @@
 // The walk of a file's lines: where it stands, and what is counted so far.
 ghost use mathlib.Core.Path.{_≡_};
 ghost use Prim.Native.Nat.{_+_, _^_};
-ghost use Rattle.meaning.specs.Table.{role};
+ghost use Rattle.meaning.specs.Kinds.{role};
 ghost use Rattle.layout.specs.Meant.{kindMeant};
 ghost use Rattle.volume.specs.Meant.{changeMeant};
 ghost use Rattle.volume.specs.Walk.{unwalked, walkedOn, countedIn, Within};

@@ -8,7 +8,7 @@ use lib.ListN.{length, getD}
 use Rattle.theory.specs.Step.{Op, inv}
 use Rattle.theory.specs.Decimal.{width}
 use Rattle.meaning.specs.Lines.{fieldsOf}
-use Rattle.meaning.specs.Table.{Kind}
+use Rattle.meaning.specs.Kinds.{Kind}
 use Rattle.meaning.specs.Records.{Rec, opOf}
 use Rattle.text.specs.Front.{inFront}
 use Rattle.entries.specs.Entries.{recOf, lineAt, recordOf}

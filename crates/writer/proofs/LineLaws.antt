@@ -12,7 +12,7 @@ use Rattle.base.specs.ListLaws.{same-eq}
 use Rattle.theory.specs.Step.{Op, ins, upd, del}
 use Rattle.theory.specs.Decimal.{width, widthF, dec, value, valueF}
 use Rattle.theory.specs.DecimalLaws.{length-dec}
-use Rattle.meaning.specs.Table.{Kind, kinds, ident}
+use Rattle.meaning.specs.Kinds.{Kind, kinds, ident}
 use Rattle.meaning.specs.Records.{letter, changeText}
 use Rattle.laws.specs.Kinds.{every}
 use Rattle.text.specs.Front.{inFront}

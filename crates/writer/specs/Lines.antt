@@ -2,7 +2,7 @@
 use mathlib.Core.List.{List, [], _∷_, _++_}
 use Prim.Native.Nat.{ℕ}
 use Rattle.theory.specs.Step.{Op, Change}
-use Rattle.meaning.specs.Table.{Kind, ident}
+use Rattle.meaning.specs.Kinds.{Kind, ident}
 use Rattle.meaning.specs.Records.{Rec, letter, changeText}
 
 -- the line of a change, numbered n, with its CR LF

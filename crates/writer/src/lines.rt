@@ -3,7 +3,7 @@ ghost use mathlib.Core.Path.{_≡_};
 ghost use Prim.Native.Nat.{_+_, _≤_};
 ghost use lib.ListN.{length};
 ghost use Rattle.theory.specs.Decimal.{width};
-ghost use Rattle.meaning.specs.Table.{ident};
+ghost use Rattle.meaning.specs.Kinds.{ident};
 ghost use Rattle.text.specs.Front.{inFront};
 ghost use Rattle.layout.specs.Meant.{kindMeant};
 ghost use Rattle.volume.specs.Meant.{changeMeant};

@@ -1,6 +1,6 @@
 -- `layout::rules::kind_numbered` meets its contract.
 use borrow.Author.Tests.{ne-eqb}
-use Rattle.meaning.specs.Table.{kinds, ident, numberedAmong}
+use Rattle.meaning.specs.Kinds.{kinds, ident, numberedAmong}
 use Rattle.base.specs.Lists.{bytes}
 use Rattle.theory.specs.Decimal.{value, valueF}
 use Rattle.layout.proofs.rules.kind_numbered.Statement.{statement}

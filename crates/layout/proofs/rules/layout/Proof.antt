@@ -1,6 +1,8 @@
 -- `layout::rules::layout` meets its contract.
 use borrow.Author.Needs.{needs}
-use Rattle.meaning.specs.Table.{ident, role, fields, keyNames, refersTo, placeFrom}
+use Rattle.meaning.specs.Kinds.{ident, role}
+use Rattle.meaning.specs.Format.{placeFrom}
+use Rattle.meaning.specs.Table.{fields, keyNames, refersTo}
 use Rattle.base.specs.Lists.{bytes, zeros}
 use Rattle.theory.specs.Decimal.{value, valueF}
 use Rattle.layout.specs.Rows.{laidOut, placesOf, padded, targets, sources}
