@@ -93,7 +93,7 @@ module _ (F : Format) where
   forms-shaped n (d ∷ ds) [] rest r = r
   forms-shaped n (d ∷ ds) (f ∷ fs) rest r = ask-shaped (soundField F d f) (5, suc n) (forms F (suc (suc n)) ds fs rest) (five n) (forms-shaped (suc n) ds fs rest r)
 
-  -- a known kind has an END_DATE, or none at all
+  -- END_DATE's place in a known kind is such a number, or 0 where the kind has no END_DATE
   end-or-none : (k : Kind) → T (knows F k) → T (endNumber (placeFrom 1 endDate (fields k)) || eqb (placeFrom 1 endDate (fields k)) 0)
   unfolding endNumber kindOf
   end-or-none k h = go (placeFrom 1 endDate (fields k)) refl

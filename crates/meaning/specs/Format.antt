@@ -1,5 +1,5 @@
--- What a format is: the kinds that it knows, the fields, key and references of each, and its rule for texts. Every definition after this one is
--- stated of any format; paper 01's is the one value `scottish`, in Table.
+-- What a format is: the kinds that it knows, the fields, key and references of each, and its rule for texts. From Sound on, whatever hangs on a
+-- format is stated of any; paper 01's is the one value `scottish`, in Table.
 use mathlib.Core.Bool.{Bool, true, false}
 use mathlib.Core.Option.{Option}
 use mathlib.Core.List.{List, [], _∷_}
