@@ -5,8 +5,8 @@ use mathlib.Core.List.{List, [], _∷_}
 use Prim.Native.Nat.{ℕ, zero, suc, _-_}
 use Prim.Native.Char.{code}
 use Prim.Native.String.{String, [] as []ˢ, _∷_ as _∷ˢ_}
-use lib.Dec.{eqb}
-use lib.ListN.{take, drop}
+use lib.Dec.{eqb, leb}
+use lib.ListN.{length, take, drop}
 
 -- the first where the test holds, else the second
 abbrev pub pick {ℓ} : {A : Type ℓ} → Bool → A → A → A
@@ -32,6 +32,10 @@ some? (some x) = true
 abbrev pub all : {A : Type 0} → (A → Bool) → List A → Bool
 all p [] = true
 all p (x ∷ xs) = p x && all p xs
+
+-- there are at most n of them
+unfoldable pub atMost : {A : Type 0} → ℕ → List A → Bool
+atMost n xs = leb (length xs) n
 
 -- two runs of bytes are the same
 unfoldable pub same : List ℕ → List ℕ → Bool

@@ -18,9 +18,11 @@ use Rattle.meaning.specs.Lines.{plain, fieldsOf, oddQuotes, hasFields, identifi
 use Rattle.meaning.specs.Forms.{number, hasForm, isEmpty, soundAs, isNumber, isDigit, isTextual, changeType}
 use Rattle.meaning.specs.Kinds.{Kind, kinds, ident, bodyLine, role, kindAmong}
 use Rattle.meaning.specs.Format.{Format, Field, opening, kindOf, knows, named, placeFrom, man}
-use Rattle.meaning.specs.Sound.{Fault, soundField, forms, fieldFault, formFault}
+use Rattle.meaning.specs.Sound.{soundField, forms, fieldFault, formFault}
 use Rattle.meaning.specs.Records.{Rec, contentOf, ownFields, letter, changeText, changeOf}
 use Rattle.meaning.specs.Holding.{isHeld, isSound}
+use Rattle.meaning.specs.Answers.{Fault, ofLine, ofField}
+use Rattle.meaning.specs.Codes.{fieldMalformed, fieldCountWrong}
 use Rattle.laws.specs.Kinds.{every, ident-only, held-role}
 use Rattle.laws.specs.Regular.{holds, Regular}
 use Rattle.laws.specs.LinesAndFields.{quiet, leads, Made, made, Cut, cut3, cut-comma, Heads, noQuote, heads}
@@ -131,7 +133,7 @@ module _ (F : Format) where
 
   -- what is wrong with a content: 4, 5, 6, with the field's number in its line
   unfoldable pub contentFault : Kind → List ℕ → Option Fault
-  contentFault k c = ask (hasFields (length (ownFields F k)) c) (4, 0) (fieldFault F 4 (ownFields F k) (fieldsOf c) none)
+  contentFault k c = ask (hasFields (length (ownFields F k)) c) (ofLine fieldCountWrong) (fieldFault F 4 (ownFields F k) (fieldsOf c) none)
 
   -- a record that may stand in a holding or in a file
   unfoldable pub fine : Rec → Bool
@@ -155,8 +157,8 @@ module _ (F : Format) where
   -- the fields of a line are the three first and those of the content
   fault-split : (own : List Field) (f1 f2 f3 : List ℕ) (fs : List (List ℕ)) (rest : Option Fault)
       → fieldFault F 1 (opening ++ own) (f1 ∷ f2 ∷ f3 ∷ fs) rest
-      ≡ ask (soundField F (man "RECORD_IDENTIFIER" (number 2)) f1) (5, 1)
-      (ask (soundField F (man "CHANGE_TYPE" changeType) f2) (5, 2) (ask (soundField F (man "PRO_ORDER" (number 16)) f3) (5, 3) (fieldFault F 4 own fs rest)))
+      ≡ ask (soundField F (man "RECORD_IDENTIFIER" (number 2)) f1) (ofField fieldMalformed 1)
+      (ask (soundField F (man "CHANGE_TYPE" changeType) f2) (ofField fieldMalformed 2) (ask (soundField F (man "PRO_ORDER" (number 16)) f3) (ofField fieldMalformed 3) (fieldFault F 4 own fs rest)))
   unfolding fieldFault forms named placeFrom
   fault-split own f1 f2 f3 fs rest = refl
 
@@ -194,7 +196,7 @@ module _ (F : Format) where
     pub body-out : (k : Kind) (t : List ℕ) (rest : Option Fault) → T (holds F k) → formFault F k t rest ≡ none → BodyLine k t rest
     unfolding formFault hasFields contentFault
     body-out k t rest h e =
-        let a = ok-ask (not (oddQuotes t) && eqb (length (fieldsOf t)) (length (fields k))) (4, 0) (fieldFault F 1 (fields k) (fieldsOf t) rest) e in
+        let a = ok-ask (not (oddQuotes t) && eqb (length (fieldsOf t)) (length (fields k))) (ofLine fieldCountWrong) (fieldFault F 1 (fields k) (fieldsOf t) rest) e in
         let o : T (not (oddQuotes t)) = and-l (not (oddQuotes t)) _ (a .0) in
         let m : length (fieldsOf t) ≡ length (fields k) = eqb→eq _ _ (and-r (not (oddQuotes t)) _ (a .0)) in
         let l : length (fieldsOf t) ≡ 3 + length (ownFields F k) = m ∙ rw (opens k h) (omega arith) in
@@ -218,7 +220,7 @@ module _ (F : Format) where
               f3 = f3;
               cuts = c;
               left = r .0;
-              content = ask-ok (hasFields (length (ownFields F k)) u) (4, 0) (fieldFault F 4 (ownFields F k) (fieldsOf u) none) hf ∙ r .1 none;
+              content = ask-ok (hasFields (length (ownFields F k)) u) (ofLine fieldCountWrong) (fieldFault F 4 (ownFields F k) (fieldsOf u) none) hf ∙ r .1 none;
             }
 
         go : (fs : List (List ℕ)) → fieldsOf t ≡ fs → T (not (oddQuotes t)) → length (fieldsOf t) ≡ 3 + length (ownFields F k)
@@ -250,16 +252,16 @@ module _ (F : Format) where
         let m = change-made n c in
         let held : T (holds F k) = and-l (holds F k) _ f in
         let q : contentFault k u ≡ none = sound-none (contentFault k u) (and-r (all plain u) _ (and-r (holds F k) _ f)) in
-        let a = ok-ask (hasFields (length (ownFields F k)) u) (4, 0) (fieldFault F 4 (ownFields F k) (fieldsOf u) none) q in
+        let a = ok-ask (hasFields (length (ownFields F k)) u) (ofLine fieldCountWrong) (fieldFault F 4 (ownFields F k) (fieldsOf u) none) q in
         let o : T (not (oddQuotes u)) = and-l (not (oddQuotes u)) _ (a .0) in
         let l : length (fieldsOf u) ≡ length (ownFields F k) = eqb→eq _ _ (and-r (not (oddQuotes u)) _ (a .0)) in
         let l2 : length (ident k ∷ letter (c .op) ∷ dec n ∷ fieldsOf u) ≡ length (opening ++ ownFields F k) = omega (arith, l) in
         rw (m .fieldsM, m .oddM, opens k held)
-        (ask-ok _ (4, 0) _ (and-in (not (oddQuotes u)) _ o (yes-eqb l2))
+        (ask-ok _ (ofLine fieldCountWrong) _ (and-in (not (oddQuotes u)) _ o (yes-eqb l2))
         ∙ fault-split (ownFields F k) (ident k) (letter (c .op)) (dec n) (fieldsOf u) rest
-        ∙ ask-ok _ (5, 1) _ (ident-sound k)
-        ∙ ask-ok _ (5, 2) _ (letter-sound F (c .op))
-        ∙ ask-ok _ (5, 3) _ (dec-sound F n h)
+        ∙ ask-ok _ (ofField fieldMalformed 1) _ (ident-sound k)
+        ∙ ask-ok _ (ofField fieldMalformed 2) _ (letter-sound F (c .op))
+        ∙ ask-ok _ (ofField fieldMalformed 3) _ (dec-sound F n h)
         ∙ fault-rest 4 (ownFields F k) (fieldsOf u) none (a .1) .1 rest)
 
     -- ---- the same in the words of a sound line

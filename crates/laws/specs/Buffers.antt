@@ -7,9 +7,11 @@ use native.Mathlib.Omega.{arith}
 use lib.Dec.{T, leb}
 use lib.ListN.{length}
 use Rattle.base.specs.Lists.{pick, zeros}
-use Rattle.theory.specs.Answer.{Answer, took, refused}
+use Rattle.theory.specs.Answer.{took, refused}
 use Rattle.meaning.specs.Format.{Format}
-use Rattle.meaning.specs.Load.{load, undoBytes, filled, Undone, undone, undoFile}
+use Rattle.meaning.specs.Load.{load, thenZeros, Undone, undone, undoFile}
+use Rattle.meaning.specs.Answers.{Answer}
+use Rattle.meaning.specs.Undo.{undoBytes}
 use Rattle.laws.specs.Regular.{Regular}
 use Rattle.laws.specs.FileRefusals.{among}
 use Rattle.laws.specs.LoadRefusals.{loadCodes, AnswerIn, load-in}
@@ -29,8 +31,8 @@ module _ (F : Format) where
       either false x y p q = q
 
       go : (x : Answer) → undone out space (undoBytes F old b) x .work ≡ zeros space
-      go (took n i u d) = either (leb (length (undoBytes F old b)) out) _ _ refl refl
-      go (refused c l f) = refl
+      go (took n m) = either (leb (length (undoBytes F old b)) out) _ _ refl refl
+      go (refused r) = refl
 
   -- a refusal of undo leaves zeros, and the three counts are 0
   pub undo-refused-zeros : (old b : List ℕ) (out space : ℕ) → (undoFile F old b out space .answer .code ≡ 0 → ⊥)
@@ -47,12 +49,12 @@ module _ (F : Format) where
       either false x y p q = q
 
       go : (x : Answer) → Left (undone out space (undoBytes F old b) x)
-      go (took new i u d) = either (leb (length (undoBytes F old b)) out) _ _ (λ n. absurd (n refl)) (λ n. (refl, refl, refl, refl))
-      go (refused c l f) = λ n. (refl, refl, refl, refl)
+      go (took new m) = either (leb (length (undoBytes F old b)) out) _ _ (λ n. absurd (n refl)) (λ n. (refl, refl, refl, refl))
+      go (refused r) = λ n. (refl, refl, refl, refl)
 
   module _ (regular : Regular F) where
     -- where undo answers 0 its output is the undo's bytes, then zeros
-    pub undo-output : (old b : List ℕ) (out space : ℕ) → undoFile F old b out space .answer .code ≡ 0 → undoFile F old b out space .output ≡ filled out (undoBytes F old b)
+    pub undo-output : (old b : List ℕ) (out space : ℕ) → undoFile F old b out space .answer .code ≡ 0 → undoFile F old b out space .output ≡ thenZeros out (undoBytes F old b)
     unfolding undoFile undone
     undo-output old b out space e = go (load F space old b) (load-in F regular space old b) e
       where
@@ -60,6 +62,6 @@ module _ (F : Format) where
         fit true x y w p q e = p
         fit false x y w p q e = absurd (omega (arith, e, q))
 
-        go : (x : Answer) → AnswerIn x → undone out space (undoBytes F old b) x .answer .code ≡ 0 → undone out space (undoBytes F old b) x .output ≡ filled out (undoBytes F old b)
-        go (took new i u d) n e = fit (leb (length (undoBytes F old b)) out) _ _ _ refl refl e
-        go (refused c l f) n e = absurd (unfold among in subst (λ z. T (among z loadCodes)) e n)
+        go : (x : Answer) → AnswerIn x → undone out space (undoBytes F old b) x .answer .code ≡ 0 → undone out space (undoBytes F old b) x .output ≡ thenZeros out (undoBytes F old b)
+        go (took new m) n e = fit (leb (length (undoBytes F old b)) out) _ _ _ refl refl e
+        go (refused r) n e = absurd (unfold among in subst (λ z. T (among z loadCodes)) e n)

@@ -5,13 +5,14 @@ use Prim.Native.Nat.{ℕ, _+_, _≤_}
 use native.Mathlib.Omega.{arith}
 use lib.ListN.{length}
 use Rattle.theory.specs.Step.{ins, upd, del, Change}
-use Rattle.theory.specs.Answer.{Read, fault, file, count}
+use Rattle.theory.specs.Answer.{fault, file, count, counts}
 use Rattle.meaning.specs.Lines.{Line, linesOf}
 use Rattle.meaning.specs.Format.{Format}
 use Rattle.meaning.specs.Records.{Rec}
 use Rattle.meaning.specs.File.{Frame, Sheet, atStart, readFrom, readFile}
 use Rattle.meaning.specs.Holding.{Held, sound, unsound, readHolding, written}
-use Rattle.meaning.specs.Load.{six, three, checked, checkFile, heldNumbers, checkHolding}
+use Rattle.meaning.specs.Load.{checked, checkFile, heldNumbers, checkHolding}
+use Rattle.meaning.specs.Answers.{Read, noFault, takenWith}
 use Rattle.laws.specs.Regular.{Regular}
 use Rattle.laws.specs.LinesAndFields.{unlines, lines-join, unlines-ends}
 use Rattle.laws.specs.SoundHolding.{SoundHolding, sound-held, held-is-sound}
@@ -29,7 +30,7 @@ module _ (F : Format) where
     pub sounds : SoundFile F b frame changes
 
   -- a file whose every line is allowed in its place gets 0, and its body lines are counted
-  pub file-checked : (b : List ℕ) (fr : Frame) (cs : List (Change Rec)) → SoundFile F b fr cs → checkFile F b ≡ six 0 0 0 (count ins cs) (count upd cs) (count del cs)
+  pub file-checked : (b : List ℕ) (fr : Frame) (cs : List (Change Rec)) → SoundFile F b fr cs → checkFile F b ≡ takenWith (counts cs)
   unfolding checkFile checked
   file-checked b fr cs s = rw (sound-read F b fr cs s)
 
@@ -39,7 +40,7 @@ module _ (F : Format) where
   refused-counts b n = go (readFile F b) n
     where
       go : (r : Read Sheet) → (checked r .code ≡ 0 → ⊥) → (checked r .inserts ≡ 0) × (checked r .updates ≡ 0) × (checked r .deletes ≡ 0)
-      go (fault c l f) n = (refl, refl, refl)
+      go (fault r) n = (refl, refl, refl)
       go (file s) n = absurd (n refl)
 
   -- files that agree in their first lines get the same answer, where the first fault is at one of those
@@ -49,7 +50,7 @@ module _ (F : Format) where
       rw (p, q) (go (readFrom F 1 atStart 0 (ls ++ ms)) (readFrom F 1 atStart 0 (ls ++ ns)) (nothing-after F 1 atStart 0 ls ms ns) (rw p at n) (rw p at h))
     where
       go : (r s : Read Sheet) → SameFault (1 + length ls) r s → (checked r .code ≡ 0 → ⊥) → checked r .line ≤ length ls → checked s ≡ checked r
-      go (fault d l f) s i n h = ap checked (i (omega arith))
+      go (fault r) s i n h = ap checked (i (omega arith))
       go (file x) s i n h = absurd (n refl)
 
   -- ---- a holding
@@ -73,11 +74,11 @@ module _ (F : Format) where
     checked-file b e = go (readFile F b) refl (file-codes F regular b) e
       where
         go : (r : Read Sheet) → readFile F b ≡ r → ReadIn r → checked r .code ≡ 0 → SomeFile b
-        go (fault c l f) q i z = absurd (unfold among in (rw z at i))
+        go (fault r) q i z = absurd (unfold among in (rw z at i))
         go (file s) q i z = record { frame = s .0; changes = s .1; sounds = read-sound F b (s .0) (s .1) q }
 
     -- a sound holding gets 0
-    pub holding-checked : (b : List ℕ) (st : List Rec) → SoundHolding F b st → checkHolding F b ≡ three 0 0 0
+    pub holding-checked : (b : List ℕ) (st : List Rec) → SoundHolding F b st → checkHolding F b ≡ noFault
     unfolding checkHolding heldNumbers
     holding-checked b st s = rw (sound-held F regular b st s)
 

@@ -15,23 +15,24 @@ use Rattle.theory.specs.Refs.{met}
 use Rattle.theory.specs.Step.{ins, upd, del, Change, allowed, at, after, judge}
 use Rattle.theory.specs.Trail.{final, Each, Through}
 use Rattle.theory.specs.Run.{Taken, Good, last, free}
-use Rattle.theory.specs.Limits.{few}
-use Rattle.theory.specs.Answer.{Answer, took, refused, count}
+use Rattle.theory.specs.Answer.{took, refused, count, counts}
 use Rattle.theory.specs.StepLaws.{judge-ok, ok-judge}
 use Rattle.theory.specs.RunLaws.{frame, get-final, good-through}
 use Rattle.meaning.specs.Format.{Format}
 use Rattle.meaning.specs.Records.{Rec, keyed, refsOf}
 use Rattle.meaning.specs.File.{Frame}
 use Rattle.meaning.specs.Holding.{readHolding, written}
-use Rattle.meaning.specs.Load.{fits, load, six, filled, applied, apply}
+use Rattle.meaning.specs.Load.{load, thenZeros, applied, apply}
+use Rattle.meaning.specs.Steps.{few, fits, heldTests, roomTests, stepRules}
+use Rattle.meaning.specs.Answers.{Answer, takenWith}
 use Rattle.laws.specs.Regular.{Regular}
-use Rattle.laws.specs.HoldingReadBack.{always, heldRecords}
+use Rattle.laws.specs.HoldingReadBack.{heldRecords}
 use Rattle.laws.specs.SoundHolding.{SoundHolding, held-sound, sound-held, held-is-sound}
 use Rattle.laws.specs.SoundFile.{SoundFile, sound-read, read-sound}
 use Rattle.laws.specs.FileRefusals.{among}
 use Rattle.laws.specs.Checks.{held-only}
 use Rattle.laws.specs.LoadRefusals.{loadCodes, AnswerIn, load-in}
-use Rattle.laws.specs.Takes.{late, Takes, taken, TookSays, took-takes, good-old, new-held}
+use Rattle.laws.specs.Takes.{Takes, taken, TookSays, took-takes, good-old, new-held}
 
 -- what fits a buffer fits a longer one
 fits-more : (room space : ℕ) (st : List Rec) → room ≤ space → T (fits room st) → T (fits space st)
@@ -56,19 +57,19 @@ module _ (F : Format) where
   abbrev pub StepsAllowed : ℕ → List Rec → List (Change Rec) → Type 0
   StepsAllowed room = Each (after (keyed F)) (StepAllowed room)
 
-  allowed-ok : (room : ℕ) (st : List Rec) (c : Change Rec) → StepAllowed room st c → judge (keyed F) (always F ++ late room) st c ≡ none
+  allowed-ok : (room : ℕ) (st : List Rec) (c : Change Rec) → StepAllowed room st c → judge (keyed F) (stepRules F room) st c ≡ none
   unfolding fits
   allowed-ok room st c s =
       let st2 = after (keyed F) st c in
       let r = and-in (leb (length (written st2)) room) true (s .roomy) tt in
       let l = s .lawful in
-      judge-ok (keyed F) (always F ++ late room) st c (l .keyed?) (and-in (few st2) _ (l .fewRecords) (and-in (met (keyed F) (refsOf F) st2) _ (l .references) r))
+      judge-ok (keyed F) (stepRules F room) st c (l .keyed?) (and-in (few st2) _ (l .fewRecords) (and-in (met (keyed F) (refsOf F) st2) _ (l .references) r))
 
-  ok-allowed : (room : ℕ) (st : List Rec) (c : Change Rec) → judge (keyed F) (always F ++ late room) st c ≡ none → StepAllowed room st c
+  ok-allowed : (room : ℕ) (st : List Rec) (c : Change Rec) → judge (keyed F) (stepRules F room) st c ≡ none → StepAllowed room st c
   unfolding fits
   ok-allowed room st c e =
       let st2 = after (keyed F) st c in
-      let a = ok-judge (keyed F) (always F ++ late room) st c e in
+      let a = ok-judge (keyed F) (stepRules F room) st c e in
       let q = and-r (few st2) _ (a .1) in
       let r = and-r (met (keyed F) (refsOf F) st2) _ q in
       record {
@@ -76,11 +77,11 @@ module _ (F : Format) where
         roomy = and-l (leb (length (written st2)) room) true r;
       }
 
-  steps-ok : (room : ℕ) (st : List Rec) (cs : List (Change Rec)) → StepsAllowed room st cs → Taken (keyed F) (always F ++ late room) st cs
+  steps-ok : (room : ℕ) (st : List Rec) (cs : List (Change Rec)) → StepsAllowed room st cs → Taken (keyed F) (stepRules F room) st cs
   steps-ok room st [] s = tt
   steps-ok room st (c ∷ cs) s = (allowed-ok room st c (s .0), steps-ok room (after (keyed F) st c) cs (s .1))
 
-  ok-steps : (room : ℕ) (st : List Rec) (cs : List (Change Rec)) → Taken (keyed F) (always F ++ late room) st cs → StepsAllowed room st cs
+  ok-steps : (room : ℕ) (st : List Rec) (cs : List (Change Rec)) → Taken (keyed F) (stepRules F room) st cs → StepsAllowed room st cs
   ok-steps room st [] s = tt
   ok-steps room st (c ∷ cs) s = (ok-allowed room st c (s .0), ok-steps room (after (keyed F) st c) cs (s .1))
 
@@ -158,8 +159,8 @@ module _ (F : Format) where
     where
       go : (x : Answer) → (applied room x .answer .code ≡ 0 → ⊥)
           → (applied room x .output ≡ zeros room) × (applied room x .answer .inserts ≡ 0) × (applied room x .answer .updates ≡ 0) × (applied room x .answer .deletes ≡ 0)
-      go (took new i u d) n = absurd (n refl)
-      go (refused c l f) n = (refl, refl, refl, refl)
+      go (took new m) n = absurd (n refl)
+      go (refused r) n = (refl, refl, refl, refl)
 
   -- ---- the states of a run
 
@@ -170,7 +171,7 @@ module _ (F : Format) where
     pub fewRecords : T (few st)
     pub roomy : T (fits room st)
 
-  good-whole : (room : ℕ) (st : List Rec) → Good (keyed F) (always F ++ late room) st → Whole room st
+  good-whole : (room : ℕ) (st : List Rec) → Good (keyed F) (stepRules F room) st → Whole room st
   unfolding fits
   good-whole room st g =
       let q = and-r (few st) _ (g .pass) in
@@ -217,7 +218,7 @@ module _ (F : Format) where
 
     -- where all is allowed: 0, the counts of the body lines, and the new holding, then zeros
     pub allowed-done : (old b : List ℕ) (room : ℕ) (a : Allowed old b room)
-        → apply F old b room ≡ record { answer = six 0 0 0 (count ins (a .cs)) (count upd (a .cs)) (count del (a .cs)); output = filled room (written (afterAll a)) }
+        → apply F old b room ≡ record { answer = takenWith (counts (a .cs)); output = thenZeros room (written (afterAll a)) }
     unfolding allowed-takes
     allowed-done old b room a = taken F regular room old b (written (afterAll a)) (allowed-takes old b room a)
 
@@ -227,8 +228,8 @@ module _ (F : Format) where
     done-allowed old b room e = go (load F room old b) (took-takes F regular room old b) (load-in F regular room old b) e
       where
         go : (x : Answer) → TookSays F regular room old b x → AnswerIn x → applied room x .answer .code ≡ 0 → Allowed old b room
-        go (took new i u d) t n e = takes-allowed old b new room t
-        go (refused c l f) t n e = absurd (unfold among in subst (λ z. T (among z loadCodes)) e n)
+        go (took new m) t n e = takes-allowed old b new room t
+        go (refused r) t n e = absurd (unfold among in subst (λ z. T (among z loadCodes)) e n)
 
     -- a file is taken exactly if every line is allowed at its place and every step is allowed
     pub taken-exactly : (old b : List ℕ) (room : ℕ) → (apply F old b room .answer .code ≡ 0 → Allowed old b room) × (Allowed old b room → apply F old b room .answer .code ≡ 0)
@@ -272,8 +273,8 @@ module _ (F : Format) where
       pub at-every-state : Through (after (keyed F)) (Whole room) (a .st) (a .cs)
       unfolding allowed-takes
       at-every-state =
-          through-map (Good (keyed F) (always F ++ late room)) (Whole room) (good-whole room) (a .st) (a .cs)
-          (good-through (keyed F) (always F ++ late room) (a .st) (a .cs) (good-old F regular room old b (written (afterAll a)) takes) (takes .takes))
+          through-map (Good (keyed F) (stepRules F room)) (Whole room) (good-whole room) (a .st) (a .cs)
+          (good-through (keyed F) (stepRules F room) (a .st) (a .cs) (good-old F regular room old b (written (afterAll a)) takes) (takes .takes))
 
       -- at a key stands what the last line naming it says
       pub last-line : (k : List ℕ) → get (keyed F) k (afterAll a) ≡ last (keyed F) k (a .cs) (get (keyed F) k (a .st))

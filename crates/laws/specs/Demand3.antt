@@ -10,14 +10,17 @@ use Rattle.base.specs.Lists.{pick, zeros}
 use Rattle.theory.specs.Fold.{sum}
 use Rattle.theory.specs.Step.{Op, ins, upd, del, Change, after, inv, back}
 use Rattle.theory.specs.Trail.{final, undo}
-use Rattle.theory.specs.Answer.{file, Answer, took, refused, count, isOp}
+use Rattle.theory.specs.Answer.{file, took, refused, count, isOp, Counts, counts}
 use Rattle.theory.specs.TrailLaws.{length-undo}
 use Rattle.theory.specs.RunLaws.{fine-undo}
 use Rattle.meaning.specs.Format.{Format}
 use Rattle.meaning.specs.Records.{Rec, keyed, changeTexts}
 use Rattle.meaning.specs.File.{Frame, readFile, writeFile}
 use Rattle.meaning.specs.Holding.{readHolding, written}
-use Rattle.meaning.specs.Load.{load, undoBytes, six, filled, checked, checkFile, Undone, undone, undoFile, undoSheet, undoHeld}
+use Rattle.meaning.specs.Load.{load, thenZeros, checked, checkFile, Undone, undone, undoFile}
+use Rattle.meaning.specs.Answers.{Answer, takenWith, alone, refusedWith}
+use Rattle.meaning.specs.Undo.{undoBytes, undoSheet, undoHeld}
+use Rattle.meaning.specs.Codes.{undoTooLong}
 use Rattle.laws.specs.Regular.{Regular}
 use Rattle.laws.specs.LinesAndFields.{endsAll, unlines, lines-join, unlines-ends}
 use Rattle.laws.specs.Body.{fine}
@@ -43,6 +46,10 @@ op-inv upd del = refl
 op-inv del ins = refl
 op-inv del upd = refl
 op-inv del del = refl
+
+-- inserts and deletes exchanged
+abbrev pub exchanged : Counts → Counts
+exchanged n = record { inserts = n .deletes; updates = n .updates; deletes = n .inserts }
 
 module _ (F : Format) where
   -- ---- what the undo counts
@@ -91,7 +98,7 @@ module _ (F : Format) where
       undo-sound = read-sound F (undoBytes F old b) (a .fr) stepsBack undo-reads
 
       -- the check of it answers the file's counts with inserts and deletes exchanged
-      pub undo-checks : checkFile F (undoBytes F old b) ≡ six 0 0 0 (count del (a .cs)) (count upd (a .cs)) (count ins (a .cs))
+      pub undo-checks : checkFile F (undoBytes F old b) ≡ takenWith (exchanged (counts (a .cs)))
       unfolding checkFile checked
       undo-checks = rw (undo-reads, count-undo ins (a .st) (a .cs), count-undo upd (a .st) (a .cs), count-undo del (a .st) (a .cs))
 
@@ -110,8 +117,8 @@ module _ (F : Format) where
     -- undo of a taken file, with a work buffer in which the file would be taken: only 17 can refuse it
     pub undo-answers : (room space : ℕ) (old b new : List ℕ) (a : Takes F regular space old b new)
         → undoFile F old b room space ≡ pick (leb (length (undoBytes F old b)) room)
-        (record { answer = six 0 0 0 (count ins (a .cs)) (count upd (a .cs)) (count del (a .cs)); output = filled room (undoBytes F old b); work = zeros space })
-        (record { answer = six 17 0 0 0 0 0; output = zeros room; work = zeros space })
+        (record { answer = takenWith (counts (a .cs)); output = thenZeros room (undoBytes F old b); work = zeros space })
+        (record { answer = refusedWith (alone undoTooLong); output = zeros room; work = zeros space })
     unfolding undoFile undone
     undo-answers room space old b new a = rw (load-took F regular space old b new a)
 
@@ -121,14 +128,14 @@ module _ (F : Format) where
     undo-taken old b out space e = go (load F space old b) (took-takes F regular space old b) (load-in F regular space old b) e
       where
         go : (x : Answer) → TookSays F regular space old b x → AnswerIn x → undone out space (undoBytes F old b) x .answer .code ≡ 0 → (new : List ℕ) × Takes F regular space old b new
-        go (took new i u d) t n e = (new, t)
-        go (refused c l f) t n e = absurd (unfold among in subst (λ z. T (among z loadCodes)) e n)
+        go (took new m) t n e = (new, t)
+        go (refused r) t n e = absurd (unfold among in subst (λ z. T (among z loadCodes)) e n)
 
     -- then it counts the file's body lines, and the undo fits its output
     pub undo-done : (old b : List ℕ) (out space : ℕ) → undoFile F old b out space .answer .code ≡ 0
         → (new : List ℕ)
         × (a : Takes F regular space old b new)
-        × (undoFile F old b out space .answer ≡ six 0 0 0 (count ins (a .cs)) (count upd (a .cs)) (count del (a .cs)))
+        × (undoFile F old b out space .answer ≡ takenWith (counts (a .cs)))
         × (length (undoBytes F old b) ≤ out)
     undo-done old b out space e =
         let w = undo-taken old b out space e in

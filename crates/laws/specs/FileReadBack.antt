@@ -16,6 +16,7 @@ use Rattle.theory.specs.DecimalLaws.{value-dec}
 use Rattle.meaning.specs.Lines.{plain}
 use Rattle.meaning.specs.Kinds.{Kind, Role, headerLine, metadataLine, trailerLine, role}
 use Rattle.meaning.specs.Format.{Format, named}
+use Rattle.meaning.specs.Answers.{Refusal}
 use Rattle.meaning.specs.Records.{Rec, changeText, changeOf, changeTexts}
 use Rattle.meaning.specs.File.{Place, Judged, bad, good, judgeLine, Frame, atStart, inBody, afterMetadata, afterTrailer, readFile, writeFile, mostBody}
 use Rattle.laws.specs.Kinds.{isRole, role-refl, is-role}
@@ -141,5 +142,5 @@ module _ (F : Format) where
         (and-in (leb n mostBody) _ l frame, changes-fine 1 (s .texts) cs (s .body))
 
     -- files of this format, as the theory asks for them
-    abbrev pub files : Files Rec (fine F)
+    abbrev pub files : Files Refusal Rec (fine F)
     files = record { Frame = Frame; suits = suits; readFile = readFile F; writeFile = writeFile; reads = file-reads; says = file-says }

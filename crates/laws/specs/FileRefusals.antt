@@ -11,13 +11,15 @@ use lib.Text.{eqt}
 use mir.Facts.{yes-eqb}
 use Rattle.base.specs.Tests.{and-in, or-l}
 use Rattle.base.specs.Lists.{pick, ask}
-use Rattle.theory.specs.Answer.{Read, fault, file}
+use Rattle.theory.specs.Answer.{fault, file}
 use Rattle.meaning.specs.Lines.{fieldsOf, identifier, Line, linesOf, endsWell}
 use Rattle.meaning.specs.Kinds.{Kind, ident, Role, headerLine, bodyLine, metadataLine, trailerLine, role}
 use Rattle.meaning.specs.Format.{Format, Field, kindOf, knows, named, placeFrom, proOrder, recordCount, startDate, endDate}
-use Rattle.meaning.specs.Sound.{Fault, soundField, forms, datesAgree, fieldFault, formFault}
+use Rattle.meaning.specs.Sound.{soundField, forms, datesAgree, fieldFault, formFault}
 use Rattle.meaning.specs.File.{Place, next, countFault, Judged, bad, good, lineFault, verdict, judgeKind, judgeText, judgeLine, Sheet, adds, bodyAfter, atStart, inBody, afterMetadata, afterTrailer, atEnd, onLine, readFrom, readFile}
 use Rattle.meaning.specs.Holding.{isHeld}
+use Rattle.meaning.specs.Answers.{Read, Fault, ofLine, ofField}
+use Rattle.meaning.specs.Codes.{fieldMalformed, fieldCountWrong, tooManyBodyLines, endingWrong, endBeforeStart, notRunningNumber, recordCountWrong, identifierUnknown, outOfPlace}
 use Rattle.laws.specs.Kinds.{any, found-any}
 use Rattle.laws.specs.Regular.{holds, Regular}
 use Rattle.laws.specs.Body.{kind-in, kind-known}
@@ -42,11 +44,12 @@ among c (x ∷ xs) = eqb c x || among c xs
 
 -- the codes of the file check
 abbrev pub fileCodes : List ℕ
-fileCodes = 1 ∷ 2 ∷ 3 ∷ 4 ∷ 5 ∷ 6 ∷ 7 ∷ 8 ∷ 9 ∷ []
+fileCodes =
+    endingWrong ∷ identifierUnknown ∷ outOfPlace ∷ fieldCountWrong ∷ fieldMalformed ∷ endBeforeStart ∷ notRunningNumber ∷ recordCountWrong ∷ tooManyBodyLines ∷ []
 
 -- a fault that is read has one of those codes
 abbrev pub ReadIn : Read Sheet → Type 0
-ReadIn (fault c l f) = T (among c fileCodes)
+ReadIn (fault r) = T (among (r .code) fileCodes)
 ReadIn (file s) = Unit {0}
 
 module _ (F : Format) where
@@ -61,15 +64,15 @@ module _ (F : Format) where
   -- code and field: 1, 3, 4 and 9 with no field, 2 with field 1, 5 with a field, 6 with END_DATE, 7 and 8 with field 3
   unfoldable pub shaped : Fault → Bool
   shaped f =
-      (eqb (f .0) 1 && eqb (f .1) 0)
-      || ((eqb (f .0) 2 && eqb (f .1) 1)
-      || ((eqb (f .0) 3 && eqb (f .1) 0)
-      || ((eqb (f .0) 4 && eqb (f .1) 0)
-      || ((eqb (f .0) 5 && leb 1 (f .1))
-      || ((eqb (f .0) 6 && endNumber (f .1))
-      || ((eqb (f .0) 7 && eqb (f .1) 3)
-      || ((eqb (f .0) 8 && eqb (f .1) 3)
-      || (eqb (f .0) 9 && eqb (f .1) 0))))))))
+      (eqb (f .code) endingWrong && eqb (f .field) 0)
+      || ((eqb (f .code) identifierUnknown && eqb (f .field) 1)
+      || ((eqb (f .code) outOfPlace && eqb (f .field) 0)
+      || ((eqb (f .code) fieldCountWrong && eqb (f .field) 0)
+      || ((eqb (f .code) fieldMalformed && leb 1 (f .field))
+      || ((eqb (f .code) endBeforeStart && endNumber (f .field))
+      || ((eqb (f .code) notRunningNumber && eqb (f .field) 3)
+      || ((eqb (f .code) recordCountWrong && eqb (f .field) 3)
+      || (eqb (f .code) tooManyBodyLines && eqb (f .field) 0))))))))
 
   -- a fault, where there is one, has that shape
   abbrev Shaped : Option Fault → Type 0
@@ -83,7 +86,7 @@ module _ (F : Format) where
 
   -- ---- of a line
 
-  five : (n : ℕ) → T (shaped (5, suc n))
+  five : (n : ℕ) → T (shaped (ofField fieldMalformed (suc n)))
   unfolding shaped
   five n = or-l (leb 1 (suc n)) _ (le→leb 1 (suc n) (omega arith))
 
@@ -91,7 +94,7 @@ module _ (F : Format) where
   unfolding forms
   forms-shaped n [] fs rest r = r
   forms-shaped n (d ∷ ds) [] rest r = r
-  forms-shaped n (d ∷ ds) (f ∷ fs) rest r = ask-shaped (soundField F d f) (5, suc n) (forms F (suc (suc n)) ds fs rest) (five n) (forms-shaped (suc n) ds fs rest r)
+  forms-shaped n (d ∷ ds) (f ∷ fs) rest r = ask-shaped (soundField F d f) (ofField fieldMalformed (suc n)) (forms F (suc (suc n)) ds fs rest) (five n) (forms-shaped (suc n) ds fs rest r)
 
   -- END_DATE's place in a known kind is such a number, or 0 where the kind has no END_DATE
   end-or-none : (k : Kind) → T (knows F k) → T (endNumber (placeFrom 1 endDate (fields k)) || eqb (placeFrom 1 endDate (fields k)) 0)
@@ -109,15 +112,15 @@ module _ (F : Format) where
 
   -- 6 names END_DATE: a kind that has none isn't given it
   six-shaped : (k : Kind) (fs : List (List ℕ)) (rest : Option Fault) → T (knows F k) → Shaped rest
-      → Shaped (ask (datesAgree (named startDate (fields k) fs) (named endDate (fields k) fs)) (6, placeFrom 1 endDate (fields k)) rest)
+      → Shaped (ask (datesAgree (named startDate (fields k) fs) (named endDate (fields k) fs)) (ofField endBeforeStart (placeFrom 1 endDate (fields k))) rest)
   unfolding shaped ask datesAgree
   six-shaped k fs rest h r = go (endNumber (placeFrom 1 endDate (fields k))) refl (end-or-none k h)
     where
       agree : Bool
       agree = datesAgree (named startDate (fields k) fs) (named endDate (fields k) fs)
 
-      go : (c : Bool) → endNumber (placeFrom 1 endDate (fields k)) ≡ c → T (c || eqb (placeFrom 1 endDate (fields k)) 0) → Shaped (ask agree (6, placeFrom 1 endDate (fields k)) rest)
-      go true e t = ask-shaped agree (6, placeFrom 1 endDate (fields k)) rest (or-l (endNumber (placeFrom 1 endDate (fields k))) _ (rw e tt)) r
+      go : (c : Bool) → endNumber (placeFrom 1 endDate (fields k)) ≡ c → T (c || eqb (placeFrom 1 endDate (fields k)) 0) → Shaped (ask agree (ofField endBeforeStart (placeFrom 1 endDate (fields k))) rest)
+      go true e t = ask-shaped agree (ofField endBeforeStart (placeFrom 1 endDate (fields k))) rest (or-l (endNumber (placeFrom 1 endDate (fields k))) _ (rw e tt)) r
       go false e t =
           let z : named endDate (fields k) fs ≡ [] = none-named 0 endDate (fields k) fs (eqb→eq _ 0 t) in
           rw z r
@@ -131,12 +134,12 @@ module _ (F : Format) where
 
   -- the same of what is read
   abbrev pub ReadShaped : Read Sheet → Type 0
-  ReadShaped (fault c l f) = T (shaped (c, f))
+  ReadShaped (fault r) = T (shaped (ofField (r .code) (r .field)))
   ReadShaped (file s) = Unit {0}
 
   adds-shaped : (o : Role) (k : Kind) (t : List ℕ) (r : Read Sheet) → ReadShaped r → ReadShaped (adds o k t r)
   unfolding adds
-  adds-shaped o k t (fault c l f) i = i
+  adds-shaped o k t (fault r) i = i
   adds-shaped o k t (file s) i = tt
 
   on-shaped : (i : ℕ) (t : List ℕ) (go : Kind → Place → Read Sheet) → ((k : Kind) (q : Place) → ReadShaped (go k q))
@@ -145,7 +148,7 @@ module _ (F : Format) where
   on-shaped i t go h (bad f) b = b
   on-shaped i t go h (good k q) b = adds-shaped (role k) k t (go k q) (h k q)
 
-  shaped-among : (c f : ℕ) → T (shaped (c, f)) → T (among c fileCodes)
+  shaped-among : (c f : ℕ) → T (shaped (ofField c f)) → T (among c fileCodes)
   unfolding shaped among
   shaped-among c f =
       or (eqb c 1) (eqb f 0) _ _ (or (eqb c 2) (eqb f 1) _ _ (or (eqb c 3) (eqb f 0) _ _ (or (eqb c 4) (eqb f 0) _ _ (or (eqb c 5) (leb 1 f) _ _
@@ -164,26 +167,26 @@ module _ (F : Format) where
 
     -- ---- every refusal has that shape, and so its code is one of 1 to 9
 
-    seven-shaped : (k : Kind) → T (knows F k) → role k ≡ bodyLine → T (shaped (7, placeFrom 1 proOrder (fields k)))
+    seven-shaped : (k : Kind) → T (knows F k) → role k ≡ bodyLine → T (shaped (ofField notRunningNumber (placeFrom 1 proOrder (fields k))))
     unfolding shaped placeFrom holds isHeld
     seven-shaped k h e = rw (opens k (and-in (knows F k) (isHeld (role k)) h (rw e tt))) tt
 
-    eight-shaped : (k : Kind) → T (knows F k) → role k ≡ trailerLine → T (shaped (8, placeFrom 1 recordCount (fields k)))
+    eight-shaped : (k : Kind) → T (knows F k) → role k ≡ trailerLine → T (shaped (ofField recordCountWrong (placeFrom 1 recordCount (fields k))))
     unfolding shaped
     eight-shaped k h e = rw (count-third k h e) tt
 
     count-shaped : (o : Role) (n : ℕ) (k : Kind) (t : List ℕ) → T (knows F k) → role k ≡ o → Shaped (countFault F o n k t)
     unfolding countFault
     count-shaped headerLine n k t h e = tt
-    count-shaped bodyLine n k t h e = ask-shaped _ (7, placeFrom 1 proOrder (fields k)) none (seven-shaped k h e) tt
+    count-shaped bodyLine n k t h e = ask-shaped _ (ofField notRunningNumber (placeFrom 1 proOrder (fields k))) none (seven-shaped k h e) tt
     count-shaped metadataLine n k t h e = tt
-    count-shaped trailerLine n k t h e = ask-shaped _ (8, placeFrom 1 recordCount (fields k)) none (eight-shaped k h e) tt
+    count-shaped trailerLine n k t h e = ask-shaped _ (ofField recordCountWrong (placeFrom 1 recordCount (fields k))) none (eight-shaped k h e) tt
 
     line-shaped : (k : Kind) (n : ℕ) (t : List ℕ) → T (knows F k) → Shaped (lineFault F k n t)
     unfolding lineFault formFault fieldFault shaped
     line-shaped k n t h =
-        ask-shaped _ (9, 0) _ tt
-        (ask-shaped _ (4, 0) _ tt
+        ask-shaped _ (ofLine tooManyBodyLines) _ tt
+        (ask-shaped _ (ofLine fieldCountWrong) _ tt
         (forms-shaped 0 (fields k) (fieldsOf t) _
         (six-shaped k (fieldsOf t) _ h (count-shaped (role k) n k t h refl))))
 
@@ -203,7 +206,7 @@ module _ (F : Format) where
         kinded none e = tt
         kinded (some k) e = placed k (next p (role k)) (kind-known F (identifier (l .text)) k e)
 
-        ended : (c : Bool) → BadShaped (pick c (judgeText F p n (l .text) (kindOf F (identifier (l .text)))) (bad (1, 0)))
+        ended : (c : Bool) → BadShaped (pick c (judgeText F p n (l .text) (kindOf F (identifier (l .text)))) (bad (ofLine endingWrong)))
         ended true = kinded (kindOf F (identifier (l .text))) refl
         ended false = tt
 
@@ -227,5 +230,5 @@ module _ (F : Format) where
     file-codes b = go (readFile F b) (file-shape b)
       where
         go : (r : Read Sheet) → ReadShaped r → ReadIn r
-        go (fault c l f) s = shaped-among c f s
+        go (fault r) s = shaped-among (r .code) (r .field) s
         go (file s) i = tt

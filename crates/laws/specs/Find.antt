@@ -16,7 +16,7 @@ use Rattle.theory.specs.Tri.{Tri, lt, eq, gt, flip}
 use Rattle.theory.specs.Lex.{lex}
 use Rattle.theory.specs.Decimal.{value}
 use Rattle.theory.specs.Store.{get, Asc, Low, gets}
-use Rattle.theory.specs.Run.{inserts}
+use Rattle.theory.specs.Run.{asInserts}
 use Rattle.theory.specs.LexLaws.{lex-order}
 use Rattle.theory.specs.StoreLaws.{low-down}
 use Rattle.meaning.specs.Lines.{linesOf}
@@ -24,8 +24,8 @@ use Rattle.meaning.specs.Kinds.{Kind, ident, numberedAmong}
 use Rattle.meaning.specs.Format.{Format}
 use Rattle.meaning.specs.Records.{Rec, changeText, keyed, changeTexts, keyOf}
 use Rattle.meaning.specs.Holding.{Held, sound, unsound, readHolding}
-use Rattle.meaning.specs.Load.{three}
 use Rattle.meaning.specs.Enquiries.{Found, first, refusal, partOf, heldAt, heldPart, findIn, findKind, find}
+use Rattle.meaning.specs.Answers.{noFault}
 use Rattle.laws.specs.Regular.{Regular}
 use Rattle.laws.specs.LinesAndFields.{ends, endsAll}
 use Rattle.laws.specs.HoldingReadBack.{insertOf}
@@ -33,7 +33,7 @@ use Rattle.laws.specs.SoundHolding.{SoundHolding, sound-held, held-is-so
 use Rattle.laws.specs.LinePart.{noLine, part-is}
 
 line-at : (n : ℕ) (pre : List Rec) (r : Rec) (post : List Rec)
-    → getD (endsAll (changeTexts n (inserts (pre ++ (r ∷ post))))) (length pre) noLine ≡ ends (changeText (n + length pre) (insertOf r))
+    → getD (endsAll (changeTexts n (asInserts (pre ++ (r ∷ post))))) (length pre) noLine ≡ ends (changeText (n + length pre) (insertOf r))
 unfolding changeTexts
 line-at n [] r post = rw (add-zero n)
 line-at n (x ∷ pre) r post = line-at (suc n) pre r post ∙ ap (λ m. ends (changeText m (insertOf r))) (shift n (length pre))
@@ -41,7 +41,7 @@ line-at n (x ∷ pre) r post = line-at (suc n) pre r post ∙ ap (λ m. ends (ch
     shift : (n m : ℕ) → suc n + m ≡ n + suc m
     shift n m = omega arith
 
-line-there : (n : ℕ) (pre : List Rec) (r : Rec) (post : List Rec) → length pre < length (endsAll (changeTexts n (inserts (pre ++ (r ∷ post)))))
+line-there : (n : ℕ) (pre : List Rec) (r : Rec) (post : List Rec) → length pre < length (endsAll (changeTexts n (asInserts (pre ++ (r ∷ post)))))
 unfolding changeTexts
 line-there n [] r post = omega arith
 line-there n (x ∷ pre) r post = omega (arith, line-there (suc n) pre r post)
@@ -126,7 +126,7 @@ module _ (F : Format) where
       → take (partOf first (linesOf old) i .size) (drop (partOf first (linesOf old) i .start) old) ≡ changeText (suc i) (insertOf r)
   place-line old st pre r post i h e d =
       let ls = linesOf old in
-      let l : ls ≡ endsAll (changeTexts 1 (inserts (pre ++ (r ∷ post)))) = h .lines ∙ ap (λ x. endsAll (changeTexts 1 (inserts x))) e in
+      let l : ls ≡ endsAll (changeTexts 1 (asInserts (pre ++ (r ∷ post)))) = h .lines ∙ ap (λ x. endsAll (changeTexts 1 (asInserts x))) e in
       let t : length pre < length ls = subst (λ x. length pre < length x) (sym l) (line-there 1 pre r post) in
       let a : getD ls (length pre) noLine ≡ ends (changeText (1 + length pre) (insertOf r)) = ap (λ x. getD x (length pre) noLine) l ∙ line-at 1 pre r post in
       rw d (part-is first old (length pre) t ∙ ap (λ x. x .text) a ∙ ap (λ m. changeText m (insertOf r)) (one-add (length pre)))
@@ -140,7 +140,7 @@ module _ (F : Format) where
       go none l = absurd (some≢none (sym g ∙ l))
       go (some i) l =
           let e : l .1 ≡ r = Option·some-injective (l .1) r (sym (l .5) ∙ g) in
-          let a = h .lines ∙ ap (λ x. endsAll (changeTexts 1 (inserts x))) (l .3) in (
+          let a = h .lines ∙ ap (λ x. endsAll (changeTexts 1 (asInserts x))) (l .3) in (
             length (l .0),
             ap (λ x. getD x (length (l .0)) noLine) a
                 ∙ line-at 1 (l .0) (l .1) (l .2)
@@ -157,7 +157,7 @@ module _ (F : Format) where
       (r : Rec)
       × (q ≡ keyOf F r)
       × (take (heldPart old (some i) .size) (drop (heldPart old (some i) .start) old) ≡ changeText (suc i) (insertOf r))
-      × (heldPart old (some i) .answer ≡ three 0 0 0)
+      × (heldPart old (some i) .answer ≡ noFault)
 
   -- and that is so of every key
   pub find-says : (old q : List ℕ) (st : List Rec) → SoundHolding F old st → FindSays old q st (heldAt F q 0 st)
@@ -205,12 +205,12 @@ module _ (F : Format) where
 
     -- and where such a record is held, it is found
     pub finds-find : (old : List ℕ) (k : Kind) (kind n : ℕ) (st : List Rec) (r : Rec) → numberedAmong enquiries kind ≡ some k → SoundHolding F old st
-        → get (keyed F) (kind ∷ n ∷ []) st ≡ some r → find F old kind n .answer ≡ three 0 0 0
+        → get (keyed F) (kind ∷ n ∷ []) st ≡ some r → find F old kind n .answer ≡ noFault
     unfolding find findKind findIn
     finds-find old k kind n st r e h g =
         let i : value (ident k) ≡ kind = subst (EnquiredIs kind) e (enquired-is enquiries kind) in
         rw (e, i, sound-held F regular old st h) (go (heldAt F (kind ∷ n ∷ []) 0 st) (held-looks (kind ∷ n ∷ []) st (h .ascending)))
       where
-        go : (o : Option ℕ) → Looks (kind ∷ n ∷ []) st o → heldPart old o .answer ≡ three 0 0 0
+        go : (o : Option ℕ) → Looks (kind ∷ n ∷ []) st o → heldPart old o .answer ≡ noFault
         go none l = absurd (some≢none (sym g ∙ l))
         go (some j) l = unfold heldPart partOf in refl

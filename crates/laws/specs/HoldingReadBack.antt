@@ -8,15 +8,14 @@ use native.Mathlib.Omega.{arith}
 use lib.Dec.{T, leb, le→leb, leb→le}
 use lib.ListN.{length, getD}
 use Rattle.base.specs.ListLaws.{same-refl, same-eq}
-use Rattle.base.specs.Lists.{all, pick, same, keepIf}
+use Rattle.base.specs.Lists.{all, pick, same, keepIf, atMost}
 use Rattle.base.specs.Tests.{and-in, and-l, and-r, bools, T-true}
 use Rattle.theory.specs.Lex.{lex}
 use Rattle.theory.specs.Decimal.{dec}
 use Rattle.theory.specs.Store.{Asc, Low}
 use Rattle.theory.specs.Refs.{met, meets}
 use Rattle.theory.specs.Step.{ins, Change, Test}
-use Rattle.theory.specs.Run.{inserts}
-use Rattle.theory.specs.Limits.{few, most}
+use Rattle.theory.specs.Run.{asInserts}
 use Rattle.theory.specs.ReadBack.{Sound, Holding}
 use Rattle.theory.specs.TriLaws.{is-lt}
 use Rattle.meaning.specs.Lines.{plain, fieldsOf, identifier, Line, linesOf, endsWell}
@@ -24,7 +23,8 @@ use Rattle.meaning.specs.Kinds.{Kind, ident, role}
 use Rattle.meaning.specs.Format.{Format, kindOf, knows}
 use Rattle.meaning.specs.Sound.{formFault}
 use Rattle.meaning.specs.Records.{Rec, contentOf, letter, changeText, keyed, refsOf, changeTexts, keyOf}
-use Rattle.meaning.specs.Holding.{isHeld, isSound, Held, sound, unsound, readHolding, written, heldTest, heldKind, heldLine, addRec, above, onHeld, scan, referring, onScan}
+use Rattle.meaning.specs.Holding.{isHeld, isSound, Held, sound, unsound, readHolding, written, heldTest, heldKind, heldLine, addRec, above, onHeld, scan, referring, onScan, mostRecords}
+use Rattle.meaning.specs.Steps.{few, heldTests}
 use Rattle.laws.specs.Regular.{holds, Regular}
 use Rattle.laws.specs.LinesAndFields.{ends, endsAll, line-ends, unlines, lines-join, lines-in, unlines-ends, cut-is}
 use Rattle.laws.specs.Body.{ident-in, kind-out, kind-known, fine-known, fine-body, first-field, fine, sound-none, none-sound, body-out, content-fine, change-made, plain-change, body-in}
@@ -74,11 +74,11 @@ module _ (F : Format) where
 
   -- the lines, numbered from n on, are those of fine records whose keys ascend, and not too many
   pub record Reads (n : ℕ) (lo : Option (List ℕ)) (ls : List Line) (st : List Rec) : Type 0 where
-    pub lines : ls ≡ endsAll (changeTexts n (inserts st))
+    pub lines : ls ≡ endsAll (changeTexts n (asInserts st))
     pub fines : T (all (fine F) st)
     pub aboves : Above lo st
     pub asc : Asc (keyed F) st
-    pub short : n + length st ≤ suc most
+    pub short : n + length st ≤ suc mostRecords
 
   -- the same of what the first pass comes to
   abbrev pub Scanned : ℕ → Option (List ℕ) → List Line → Held → Type 0
@@ -97,16 +97,16 @@ module _ (F : Format) where
     short = omega (arith, i .short);
   }
 
-  scanned-line : (n : ℕ) (lo : Option (List ℕ)) (l : Line) (ls : List Line) (go : Rec → Held) → (n ≤ most → (r : Rec) → Scanned (suc n) (some (keyOf F r)) ls (go r))
+  scanned-line : (n : ℕ) (lo : Option (List ℕ)) (l : Line) (ls : List Line) (go : Rec → Held) → (n ≤ mostRecords → (r : Rec) → Scanned (suc n) (some (keyOf F r)) ls (go r))
       → (o : Option Rec) → HeldIs n l o → Scanned n lo (l ∷ ls) (onHeld F n lo o go)
   unfolding onHeld
   scanned-line n lo l ls go i none w = tt
-  scanned-line n lo l ls go i (some r) w = when (above F lo r && leb n most) refl
+  scanned-line n lo l ls go i (some r) w = when (above F lo r && leb n mostRecords) refl
     where
-      when : (c : Bool) → (above F lo r && leb n most) ≡ c → Scanned n lo (l ∷ ls) (pick c (addRec r (go r)) (unsound n))
+      when : (c : Bool) → (above F lo r && leb n mostRecords) ≡ c → Scanned n lo (l ∷ ls) (pick c (addRec r (go r)) (unsound n))
       when true q =
-          let t : T (above F lo r && leb n most) = rw q tt in
-          scanned-add n lo l ls r w (and-l (above F lo r) (leb n most) t) (go r) (i (leb→le n most (and-r (above F lo r) (leb n most) t)) r)
+          let t : T (above F lo r && leb n mostRecords) = rw q tt in
+          scanned-add n lo l ls r w (and-l (above F lo r) (leb n mostRecords) t) (go r) (i (leb→le n mostRecords (and-r (above F lo r) (leb n mostRecords) t)) r)
       when false q = tt
 
   -- ---- references
@@ -134,10 +134,6 @@ module _ (F : Format) where
 
   -- ---- whole holdings
 
-  -- the tests that every sound holding passes
-  abbrev pub always : List (Test Rec)
-  always = (16, few) ∷ (12, met (keyed F) (refsOf F)) ∷ []
-
   -- the lines of changes to fine records are plain
   pub plain-texts : (n : ℕ) (cs : List (Change Rec)) → T (all (λ c. fine F (c .rec)) cs) → T (all (all plain) (changeTexts n cs))
   unfolding changeTexts
@@ -146,14 +142,14 @@ module _ (F : Format) where
       and-in (all plain (changeText n c)) _ (plain-change F n c (and-l (fine F (c .rec)) _ f)) (plain-texts (suc n) cs (and-r (fine F (c .rec)) _ f))
 
   -- records are as fine as their inserts
-  pub fine-inserts : (st : List Rec) → T (all (fine F) st) → T (all (λ c. fine F (c .rec)) (inserts st))
+  pub fine-inserts : (st : List Rec) → T (all (fine F) st) → T (all (λ c. fine F (c .rec)) (asInserts st))
   fine-inserts [] f = tt
   fine-inserts (r ∷ rs) f = and-in (fine F r) _ (and-l (fine F r) _ f) (fine-inserts rs (and-r (fine F r) _ f))
 
   -- the bytes are what would be written of the records, and these are sound
   abbrev HeldSays : List ℕ → Option (List Rec) → Type 0
   HeldSays b none = Unit {0}
-  HeldSays b (some st) = (b ≡ written st) × Sound (keyed F) (fine F) always st
+  HeldSays b (some st) = (b ≡ written st) × Sound (keyed F) (fine F) (heldTests F) st
 
   module _ (regular : Regular F) where
     -- ---- one line, written and read back
@@ -210,17 +206,17 @@ module _ (F : Format) where
 
     -- ---- all lines, written and read back
 
-    scan-in : (n : ℕ) (lo : Option (List ℕ)) (st : List Rec) → T (all (fine F) st) → Above lo st → Asc (keyed F) st → n + length st ≤ suc most
-        → scan F n lo (endsAll (changeTexts n (inserts st))) ≡ sound st
+    scan-in : (n : ℕ) (lo : Option (List ℕ)) (st : List Rec) → T (all (fine F) st) → Above lo st → Asc (keyed F) st → n + length st ≤ suc mostRecords
+        → scan F n lo (endsAll (changeTexts n (asInserts st))) ≡ sound st
     unfolding scan changeTexts onHeld addRec
     scan-in n lo [] f h a c = refl
     scan-in n lo (r ∷ rs) f h a c =
-        let o : T (above F lo r && leb n most) = and-in (above F lo r) (leb n most) (above-in lo r rs h) (le→leb n most (omega arith)) in
+        let o : T (above F lo r && leb n mostRecords) = and-in (above F lo r) (leb n mostRecords) (above-in lo r rs h) (le→leb n mostRecords (omega arith)) in
         let i = scan-in (suc n) (some (keyOf F r)) rs (and-r (fine F r) (all (fine F) rs) f) (a .0) (a .1) (omega arith) in
-        rw (held-in n r (omega arith) (and-l (fine F r) (all (fine F) rs) f), T-true (above F lo r && leb n most) o, i)
+        rw (held-in n r (omega arith) (and-l (fine F r) (all (fine F) rs) f), T-true (above F lo r && leb n mostRecords) o, i)
 
     -- the records that the first pass comes to are fine, in order and not too many
-    pub scanned : (n : ℕ) (lo : Option (List ℕ)) (ls : List Line) → n ≤ suc most → Scanned n lo ls (scan F n lo ls)
+    pub scanned : (n : ℕ) (lo : Option (List ℕ)) (ls : List Line) → n ≤ suc mostRecords → Scanned n lo ls (scan F n lo ls)
     unfolding scan changeTexts
     scanned n lo [] h = record { lines = refl; fines = tt; aboves = above-nil lo; asc = tt; short = omega arith }
     scanned n lo (l ∷ ls) h =
@@ -229,13 +225,13 @@ module _ (F : Format) where
     -- ---- whole holdings, written and read back
 
     -- the written bytes of sound records are read as those records
-    pub writes : (st : List Rec) → Sound (keyed F) (fine F) always st → heldRecords (readHolding F (written st)) ≡ some st
-    unfolding heldRecords readHolding written onScan met few
+    pub writes : (st : List Rec) → Sound (keyed F) (fine F) (heldTests F) st → heldRecords (readHolding F (written st)) ≡ some st
+    unfolding heldRecords readHolding written onScan met atMost
     writes st s =
         let q = s .pass in
-        let c : length st ≤ most = leb→le (length st) most (search bools) in
+        let c : length st ≤ mostRecords = leb→le (length st) mostRecords (search bools) in
         let m : T (all (meets (keyed F) (refsOf F) st) st) = search bools in
-        let l = lines-in (changeTexts 1 (inserts st)) (plain-texts 1 (inserts st) (fine-inserts st (s .fines))) in
+        let l = lines-in (changeTexts 1 (asInserts st)) (plain-texts 1 (asInserts st) (fine-inserts st (s .fines))) in
         rw (l, scan-in 1 none st (s .fines) tt (s .asc) (omega arith), refer-in st 1 st m)
 
     -- and bytes that are read are what would be written of sound records
@@ -245,10 +241,10 @@ module _ (F : Format) where
       where
         refd : (st : List Rec) → Reads 1 none (linesOf b) st → (h : Held) → Refers st st h → HeldSays b (heldRecords h)
         refd st r (unsound n) i = unfold heldRecords in tt
-        refd st r (sound s) i = unfold heldRecords written met few in
-            let p = and-in (leb (length st) most) _ (le→leb (length st) most (omega (arith, r .short))) (and-in (all (meets (keyed F) (refsOf F) st) st) true (i .1) tt) in
+        refd st r (sound s) i = unfold heldRecords written met atMost in
+            let p = and-in (leb (length st) mostRecords) _ (le→leb (length st) mostRecords (omega (arith, r .short))) (and-in (all (meets (keyed F) (refsOf F) st) st) true (i .1) tt) in
             subst (λ x. HeldSays b (some x)) (sym (i .0)) (
-              sym (lines-join b) ∙ ap unlines (r .lines) ∙ unlines-ends (changeTexts 1 (inserts st)),
+              sym (lines-join b) ∙ ap unlines (r .lines) ∙ unlines-ends (changeTexts 1 (asInserts st)),
               record { asc = r .asc; fines = r .fines; pass = p },
             )
 
@@ -260,7 +256,7 @@ module _ (F : Format) where
     abbrev pub holding : Holding (keyed F)
     holding = record {
       fine = fine F;
-      always = always;
+      always = (heldTests F);
       write = written;
       hold = λ b. heldRecords (readHolding F b);
       writes = writes;

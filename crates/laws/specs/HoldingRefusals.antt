@@ -8,12 +8,11 @@ use native.Mathlib.Omega.{arith}
 use lib.Dec.{leb}
 use lib.ListN.{length}
 use Rattle.base.specs.Lists.{pick}
-use Rattle.theory.specs.Limits.{most}
 use Rattle.theory.specs.Refs.{meets}
 use Rattle.meaning.specs.Lines.{Line, linesOf}
 use Rattle.meaning.specs.Format.{Format}
 use Rattle.meaning.specs.Records.{Rec, keyed, keyOf, refsOf}
-use Rattle.meaning.specs.Holding.{Held, sound, unsound, heldLine, addRec, above, onHeld, scan, referring, onScan, readHolding}
+use Rattle.meaning.specs.Holding.{Held, sound, unsound, heldLine, addRec, above, onHeld, scan, referring, onScan, readHolding, mostRecords}
 
 -- the lowest faulty line is one of the m lines from n on; where there is none, each is a record
 abbrev ScanAt : ℕ → ℕ → Held → Type 0
@@ -34,7 +33,7 @@ module _ (F : Format) where
   on-at : (n m : ℕ) (lo : Option (List ℕ)) (go : Rec → Held) → ((r : Rec) → ScanAt (suc n) m (go r)) → (o : Option Rec) → ScanAt n (suc m) (onHeld F n lo o go)
   unfolding onHeld
   on-at n m lo go i none = (omega arith, omega arith)
-  on-at n m lo go i (some r) = when (above F lo r && leb n most)
+  on-at n m lo go i (some r) = when (above F lo r && leb n mostRecords)
     where
       when : (c : Bool) → ScanAt n (suc m) (pick c (addRec r (go r)) (unsound n))
       when true = add-at n m r (go r) (i r)

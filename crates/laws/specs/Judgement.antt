@@ -12,8 +12,10 @@ use Rattle.theory.specs.Decimal.{value}
 use Rattle.meaning.specs.Lines.{plain, fieldsOf, identifier, Line, endsWell}
 use Rattle.meaning.specs.Kinds.{Kind, Role, bodyLine, trailerLine, role}
 use Rattle.meaning.specs.Format.{Format, kindOf, named, placeFrom, proOrder, recordCount}
-use Rattle.meaning.specs.Sound.{Fault, formFault}
+use Rattle.meaning.specs.Sound.{formFault}
 use Rattle.meaning.specs.File.{Place, next, hasRoom, countFault, Judged, bad, good, lineFault, verdict, judgeKind, judgeText, judgeLine, mostBody}
+use Rattle.meaning.specs.Answers.{Fault, ofLine, ofField}
+use Rattle.meaning.specs.Codes.{tooManyBodyLines, endingWrong, notRunningNumber, recordCountWrong}
 use Rattle.laws.specs.LinesAndFields.{ends, line-ends}
 use Rattle.laws.specs.SoundLine.{SoundLine, form-sound, sound-form}
 
@@ -52,7 +54,7 @@ module _ (F : Format) where
       kinded e none i = tt
       kinded e (some k) i = placed k e i (next p (role k)) refl
 
-      ended : (c : Bool) → endsWell l ≡ c → JudgedIs p n l (pick c (judgeText F p n (l .text) (kindOf F (identifier (l .text)))) (bad (1, 0)))
+      ended : (c : Bool) → endsWell l ≡ c → JudgedIs p n l (pick c (judgeText F p n (l .text) (kindOf F (identifier (l .text)))) (bad (ofLine endingWrong)))
       ended true e = kinded (rw e tt) (kindOf F (identifier (l .text))) refl
       ended false e = tt
 
@@ -72,7 +74,7 @@ module _ (F : Format) where
   unfolding endsWell lineFault
   line-sound p n l k q j =
       let t = l .text in
-      let a = ok-ask (hasRoom (role k) n) (9, 0) (formFault F k t (countFault F (role k) n k t)) (j .form) in
+      let a = ok-ask (hasRoom (role k) n) (ofLine tooManyBodyLines) (formFault F k t (countFault F (role k) n k t)) (j .form) in
       let s = form-sound F k t (countFault F (role k) n k t) (and-r (l .ended) (all plain t) (j .ending)) (j .kind) (a .1) in
       (line-ends l (j .ending), s .0, record { room = a .0; count = s .1 })
 
@@ -86,7 +88,7 @@ module _ (F : Format) where
         ending = s .plains;
         kind = s .identified;
         place = ap (next p) r ∙ x;
-        form = rw r (ask-ok (hasRoom o n) (9, 0) (formFault F k t (countFault F o n k t)) (u .room) ∙ sound-form F k t (countFault F o n k t) s ∙ u .count);
+        form = rw r (ask-ok (hasRoom o n) (ofLine tooManyBodyLines) (formFault F k t (countFault F o n k t)) (u .room) ∙ sound-form F k t (countFault F o n k t) s ∙ u .count);
       })
 
   -- ---- code 7 and code 8
@@ -94,12 +96,12 @@ module _ (F : Format) where
   -- code 7 is not given: PRO_ORDER is the running number
   pub count-order : (n : ℕ) (k : Kind) (t : List ℕ) → countFault F bodyLine n k t ≡ none → value (named proOrder (fields k) (fieldsOf t)) ≡ suc n
   unfolding countFault
-  count-order n k t e = eqb→eq _ _ (ok-ask (eqb (value (named proOrder (fields k) (fieldsOf t))) (suc n)) (7, placeFrom 1 proOrder (fields k)) none e .0)
+  count-order n k t e = eqb→eq _ _ (ok-ask (eqb (value (named proOrder (fields k) (fieldsOf t))) (suc n)) (ofField notRunningNumber (placeFrom 1 proOrder (fields k))) none e .0)
 
   -- code 8 is not given: RECORD_COUNT is the number of body lines
   pub count-lines : (n : ℕ) (k : Kind) (t : List ℕ) → countFault F trailerLine n k t ≡ none → value (named recordCount (fields k) (fieldsOf t)) ≡ n
   unfolding countFault
-  count-lines n k t e = eqb→eq _ _ (ok-ask (eqb (value (named recordCount (fields k) (fieldsOf t))) n) (8, placeFrom 1 recordCount (fields k)) none e .0)
+  count-lines n k t e = eqb→eq _ _ (ok-ask (eqb (value (named recordCount (fields k) (fieldsOf t))) n) (ofField recordCountWrong (placeFrom 1 recordCount (fields k))) none e .0)
 
   -- a body line with the running number, while there is room, has the right numbers
   pub order-counts : (n : ℕ) (k : Kind) (t : List ℕ) → n < mostBody → value (named proOrder (fields k) (fieldsOf t)) ≡ suc n → Numbers bodyLine n k t

@@ -8,24 +8,27 @@ use lib.Dec.{T, eqb}
 use lib.ListN.{length}
 use Rattle.base.specs.Lists.{pick, ask}
 use Rattle.theory.specs.Store.{get}
-use Rattle.theory.specs.Step.{Op, ins, upd, del, Change, Test, fails, allowed, codeOf, at, after, judge}
+use Rattle.theory.specs.Step.{Op, ins, upd, del, Change, Test, fails, allowed, at, after, judge}
 use Rattle.theory.specs.Run.{Out, done, stop, on, run}
-use Rattle.theory.specs.Answer.{Read, fault, file, Answer, took, refused}
+use Rattle.theory.specs.Answer.{fault, file, took, refused}
 use Rattle.meaning.specs.Format.{Format}
 use Rattle.meaning.specs.Records.{Rec, keyed}
 use Rattle.meaning.specs.File.{Sheet, readFile}
 use Rattle.meaning.specs.Holding.{Held, sound, unsound, readHolding}
-use Rattle.meaning.specs.Load.{fits, stepTests, outcome, fromStart, onFile, onHolding, load}
+use Rattle.meaning.specs.Load.{outcome, fromStart, onFile, onHolding, load}
+use Rattle.meaning.specs.Steps.{keyCode, fits, stepRules, steps}
+use Rattle.meaning.specs.Answers.{Read, Answer, alone}
+use Rattle.meaning.specs.Codes.{holdingTooLong, keyHeld, keyAbsent, tooManyRecords, referenceUnmet, holdingUnsound}
 use Rattle.laws.specs.Regular.{Regular}
 use Rattle.laws.specs.FileRefusals.{among, fileCodes, ReadIn, file-codes}
 
 -- the codes of the steps, and 13 for the start
 abbrev pub stepCodes : List ℕ
-stepCodes = 10 ∷ 11 ∷ 16 ∷ 12 ∷ 13 ∷ []
+stepCodes = keyHeld ∷ keyAbsent ∷ tooManyRecords ∷ referenceUnmet ∷ holdingTooLong ∷ []
 
 -- the codes of apply: the holding's, the file's, the steps'
 abbrev pub loadCodes : List ℕ
-loadCodes = 14 ∷ (fileCodes ++ stepCodes)
+loadCodes = holdingUnsound ∷ (fileCodes ++ stepCodes)
 
 among-l : (c : ℕ) (xs ys : List ℕ) → T (among c xs) → T (among c (xs ++ ys))
 unfolding among
@@ -67,7 +70,7 @@ unfolding fails
 fails-in [] st i = tt
 fails-in (t ∷ ts) st i = ask-in (t .1 st) (t .0) (fails ts st) (i .0) (fails-in ts st (i .1))
 
-op-in : (o : Op) → T (among (codeOf o) stepCodes)
+op-in : (o : Op) → T (among (keyCode o) stepCodes)
 unfolding among
 op-in ins = tt
 op-in upd = tt
@@ -80,25 +83,25 @@ OutIn n m (stop l w) = T (among w stepCodes) × (n ≤ l) × (l < n + m)
 
 -- a refusal has one of the codes of apply
 abbrev pub AnswerIn : Answer → Type 0
-AnswerIn (took new i u d) = Unit {0}
-AnswerIn (refused c l f) = T (among c loadCodes)
+AnswerIn (took new n) = Unit {0}
+AnswerIn (refused r) = T (among (r .code) loadCodes)
 
 module _ (F : Format) where
   -- ---- every refusal looks so
 
-  step-in : (room : ℕ) (st : List Rec) (c : Change Rec) → CodeIn (judge (keyed F) (stepTests F room) st c)
+  step-in : (room : ℕ) (st : List Rec) (c : Change Rec) → CodeIn (judge (keyed F) (stepRules F room) st c)
   unfolding judge
   step-in room st c =
-      ask-in (allowed (c .op) (get (keyed F) (at (keyed F) c) st)) (codeOf (c .op)) (fails (stepTests F room) (after (keyed F) st c)) (op-in (c .op))
-      (fails-in (stepTests F room) (after (keyed F) st c) (unfold stepTests among in (tt, (tt, (tt, tt)))))
+      ask-in (allowed (c .op) (get (keyed F) (at (keyed F) c) st)) (keyCode (c .op)) (fails (stepRules F room .tests) (after (keyed F) st c)) (op-in (c .op))
+      (fails-in (stepRules F room .tests) (after (keyed F) st c) (unfold among in (tt, (tt, (tt, tt)))))
 
   -- a run of steps stops so
-  pub run-in : (room n : ℕ) (st : List Rec) (cs : List (Change Rec)) → OutIn n (length cs) (run (keyed F) (stepTests F room) n st cs)
+  pub run-in : (room n : ℕ) (st : List Rec) (cs : List (Change Rec)) → OutIn n (length cs) (run (keyed F) (stepRules F room) n st cs)
   unfolding run
   run-in room n st [] = tt
   run-in room n st (c ∷ cs) =
       let st2 = after (keyed F) st c in
-      go (judge (keyed F) (stepTests F room) st c) (step-in room st c) (run (keyed F) (stepTests F room) (suc n) st2 cs) (run-in room (suc n) st2 cs)
+      go (judge (keyed F) (stepRules F room) st c) (step-in room st c) (run (keyed F) (stepRules F room) (suc n) st2 cs) (run-in room (suc n) st2 cs)
     where
       go : (o : Option ℕ) → CodeIn o → (r : Out (List Rec)) → OutIn (suc n) (length cs) r → OutIn n (length (c ∷ cs)) (on o n r)
       go none i (done s) h = unfold on in tt
@@ -113,14 +116,14 @@ module _ (F : Format) where
       where
         ran : (cs : List (Change Rec)) (o : Out (List Rec)) → OutIn 2 (length cs) o → AnswerIn (outcome cs o)
         ran cs (done st) i = tt
-        ran cs (stop l w) i = among-r w (14 ∷ fileCodes) stepCodes (i .0)
+        ran cs (stop l w) i = among-r w (holdingUnsound ∷ fileCodes) stepCodes (i .0)
 
-        starts : (c : Bool) (st : List Rec) (s : Sheet) → AnswerIn (pick c (outcome (s .1) (run (keyed F) (stepTests F room) 2 st (s .1))) (refused 13 0 0))
-        starts true st s = ran (s .1) (run (keyed F) (stepTests F room) 2 st (s .1)) (run-in room 2 st (s .1))
+        starts : (c : Bool) (st : List Rec) (s : Sheet) → AnswerIn (pick c (outcome (s .1) (steps F room st (s .1))) (refused (alone holdingTooLong)))
+        starts true st s = ran (s .1) (steps F room st (s .1)) (run-in room 2 st (s .1))
         starts false st s = tt
 
         files : (st : List Rec) (r : Read Sheet) → ReadIn r → AnswerIn (onFile F room st r)
-        files st (fault c l f) i = among-r c (14 ∷ []) (fileCodes ++ stepCodes) (among-l c fileCodes stepCodes i)
+        files st (fault r) i = among-r (r .code) (holdingUnsound ∷ []) (fileCodes ++ stepCodes) (among-l (r .code) fileCodes stepCodes i)
         files st (file s) i = starts (fits room st) st s
 
         holds : (h : Held) → AnswerIn (onHolding F room b h)

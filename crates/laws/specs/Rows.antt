@@ -13,15 +13,19 @@ use Rattle.base.specs.Tests.{and-in, T-true, or-l, or-r}
 use Rattle.theory.specs.Decimal.{value}
 use Rattle.theory.specs.Step.{Op, ins, upd, del, Change}
 use Rattle.theory.specs.Run.{Out, done, stop, run}
-use Rattle.theory.specs.Answer.{Read, fault, file, Answer, took, refused}
+use Rattle.theory.specs.Answer.{fault, file, took, refused}
 use Rattle.meaning.specs.Lines.{linesOf, fieldsOf, oddQuotes}
 use Rattle.meaning.specs.Kinds.{Kind, ident, numberedAmong}
 use Rattle.meaning.specs.Format.{Format}
 use Rattle.meaning.specs.Records.{Rec, keyed}
 use Rattle.meaning.specs.File.{Sheet, readFile}
 use Rattle.meaning.specs.Holding.{Held, sound, unsound, readHolding}
-use Rattle.meaning.specs.Load.{Six, three, fits, stepTests, outcome, fromStart, onFile, onHolding, load, checked, checkFile, heldNumbers, checkHolding, applied, apply, undoBytes, Undone, undone, undoFile}
-use Rattle.meaning.specs.Enquiries.{Found, refusal, spanned, partOf, heldAt, heldPart, findIn, findKind, find, lastNaming, named, inForcePart, inForceFile, inForceHeld, inForceKind, inForce, fieldPart, fieldIn, fieldOf, first, second}
+use Rattle.meaning.specs.Load.{outcome, fromStart, onFile, onHolding, load, checked, checkFile, heldNumbers, checkHolding, applied, apply, Undone, undone, undoFile}
+use Rattle.meaning.specs.Enquiries.{Found, refusal, spanned, partOf, heldAt, heldPart, findIn, findKind, find, lastNaming, unlessDeleted, inForcePart, inForceFile, inForceHeld, inForceKind, inForce, fieldPart, fieldIn, fieldOf, first, second}
+use Rattle.meaning.specs.Answers.{Read, Answer, Numbers, noFault, alone, ofLine, ofField, Refusal, atLine}
+use Rattle.meaning.specs.Steps.{fits, stepRules, steps}
+use Rattle.meaning.specs.Undo.{undoBytes}
+use Rattle.meaning.specs.Codes.{holdingTooLong, allDone, endingWrong, identifierUnknown, outOfPlace, fieldCountWrong, fieldMalformed, endBeforeStart, notRunningNumber, recordCountWrong, tooManyBodyLines, keyAbsent, holdingUnsound, kindNotAsked, undoTooLong, noSuchPart}
 use Rattle.laws.specs.Regular.{Regular}
 use Rattle.laws.specs.LinesAndFields.{endsAll}
 use Rattle.laws.specs.LinePart.{noLine}
@@ -106,27 +110,27 @@ length-ends (t ∷ ts) = ap suc (length-ends ts)
 
 -- a refusal stands in these rows
 abbrev RefusalIn : List Row → Answer → Type 0
-RefusalIn rs (took new i u d) = Unit {0}
-RefusalIn rs (refused c l f) = T (given rs c l f)
+RefusalIn rs (took new n) = Unit {0}
+RefusalIn rs (refused r) = T (given rs (r .code) (r .line) (r .field))
 
--- the six numbers stand in these rows
-abbrev SixIn : List Row → Six → Type 0
-SixIn rs s = T (given rs (s .code) (s .line) (s .field))
+-- the numbers stand in these rows
+abbrev NumbersIn : List Row → Numbers → Type 0
+NumbersIn rs s = T (given rs (s .code) (s .line) (s .field))
 
 -- the three numbers stand in these rows, and a refusal hands back an empty part
 pub record FoundIn (rs : List Row) (f : Found) : Type 0 where
   pub numbers : T (given rs (f .answer .code) (f .answer .line) (f .answer .field))
   pub empty : (f .answer .code ≡ 0 → ⊥) → f .size ≡ 0
 
-refusal-in : (rs : List Row) (c l f : ℕ) → T (given rs c l f) → FoundIn rs (refusal c l f)
+refusal-in : (rs : List Row) (r : Refusal) → T (given rs (r .code) (r .line) (r .field)) → FoundIn rs (refusal r)
 unfolding refusal
-refusal-in rs c l f t = record { numbers = t; empty = λ n. refl }
+refusal-in rs r t = record { numbers = t; empty = λ n. refl }
 
 -- ---- one field of a line
 
 -- 0 or 19
 unfoldable pub fieldRows : List Row
-fieldRows = rows nought (0 ∷ 19 ∷ [])
+fieldRows = rows nought (allDone ∷ noSuchPart ∷ [])
 
 -- the three numbers of one field of a line
 pub field-given : (b : List ℕ) (l f : ℕ) → FoundIn fieldRows (fieldOf b l f)
@@ -136,27 +140,27 @@ field-given b l f = lined (leb 1 l && leb l (length (linesOf b)))
     t : List ℕ
     t = getD (linesOf b) (l - 1) noLine .text
 
-    fielded : (at size : ℕ) (c : Bool) → FoundIn fieldRows (pick c (record { answer = three 0 0 0; slice = first; start = at; size = size }) (refusal 19 0 0))
+    fielded : (at size : ℕ) (c : Bool) → FoundIn fieldRows (pick c (record { answer = noFault; slice = first; start = at; size = size }) (refusal (alone noSuchPart)))
     fielded at size true = record { numbers = tt; empty = λ n. absurd (n refl) }
-    fielded at size false = refusal-in _ 19 0 0 tt
+    fielded at size false = refusal-in _ (alone noSuchPart) tt
 
-    quoted : (at : ℕ) (c : Bool) → FoundIn fieldRows (pick c (refusal 19 0 0) (fieldPart at (fieldsOf t) f))
-    quoted at true = refusal-in _ 19 0 0 tt
+    quoted : (at : ℕ) (c : Bool) → FoundIn fieldRows (pick c (refusal (alone noSuchPart)) (fieldPart at (fieldsOf t) f))
+    quoted at true = refusal-in _ (alone noSuchPart) tt
     quoted at false = fielded _ _ (leb 1 f && leb f (length (fieldsOf t)))
 
-    lined : (c : Bool) → FoundIn fieldRows (pick c (fieldIn (spanned (take (l - 1) (linesOf b))) t f) (refusal 19 0 0))
+    lined : (c : Bool) → FoundIn fieldRows (pick c (fieldIn (spanned (take (l - 1) (linesOf b))) t f) (refusal (alone noSuchPart)))
     lined true = quoted (spanned (take (l - 1) (linesOf b))) (oddQuotes t)
-    lined false = refusal-in _ 19 0 0 tt
+    lined false = refusal-in _ (alone noSuchPart) tt
 
 -- ---- the table, by what is asked
 
 -- a holding of n lines
 unfoldable pub heldRows : ℕ → List Row
-heldRows n = rows (within 1 n) (14 ∷ [])
+heldRows n = rows (within 1 n) (holdingUnsound ∷ [])
 
 -- check a holding: 0, or 14 at its line
 unfoldable pub holdingRows : List ℕ → List Row
-holdingRows old = rows nought (0 ∷ []) ++ heldRows (length (linesOf old))
+holdingRows old = rows nought (allDone ∷ []) ++ heldRows (length (linesOf old))
 
 -- the steps: body lines stand from line 2 to the second before the last
 unfoldable pub stepRows : List ℕ → List Row
@@ -164,7 +168,7 @@ stepRows b = rows (within 2 (length (linesOf b) - 2)) stepCodes
 
 -- find: 0, 15, 11, or 14 at its line
 unfoldable pub findRows : List ℕ → List Row
-findRows old = rows nought (0 ∷ 15 ∷ 11 ∷ []) ++ heldRows (length (linesOf old))
+findRows old = rows nought (allDone ∷ kindNotAsked ∷ keyAbsent ∷ []) ++ heldRows (length (linesOf old))
 
 module _ (F : Format) where
   open Format F using (enquiries)
@@ -172,32 +176,32 @@ module _ (F : Format) where
   -- a file of n lines: a file that ends before its trailer gets 3 at the line after its last
   unfoldable pub fileRows : ℕ → List Row
   fileRows n =
-      row 1 (within 1 n) nought
-      ∷ row 2 (within 1 n) (λ f. eqb f 1)
-      ∷ row 3 (within 1 (suc n)) nought
-      ∷ row 4 (within 1 n) nought
-      ∷ row 5 (within 1 n) (leb 1)
-      ∷ row 6 (within 1 n) (endNumber F)
-      ∷ row 7 (within 1 n) (λ f. eqb f 3)
-      ∷ row 8 (within 1 n) (λ f. eqb f 3)
-      ∷ row 9 (within 1 n) nought
+      row endingWrong (within 1 n) nought
+      ∷ row identifierUnknown (within 1 n) (λ f. eqb f 1)
+      ∷ row outOfPlace (within 1 (suc n)) nought
+      ∷ row fieldCountWrong (within 1 n) nought
+      ∷ row fieldMalformed (within 1 n) (leb 1)
+      ∷ row endBeforeStart (within 1 n) (endNumber F)
+      ∷ row notRunningNumber (within 1 n) (λ f. eqb f 3)
+      ∷ row recordCountWrong (within 1 n) (λ f. eqb f 3)
+      ∷ row tooManyBodyLines (within 1 n) nought
       ∷ []
 
   -- check a file: 0, or 1 to 9
   unfoldable pub checkRows : List ℕ → List Row
-  checkRows b = rows nought (0 ∷ []) ++ fileRows (length (linesOf b))
+  checkRows b = rows nought (allDone ∷ []) ++ fileRows (length (linesOf b))
 
   -- what refuses a file over a holding: 14, the file check, 13 for the start, the steps
   unfoldable pub loadRows : List ℕ → List ℕ → List Row
-  loadRows old b = heldRows (length (linesOf old)) ++ (fileRows (length (linesOf b)) ++ (rows nought (13 ∷ []) ++ stepRows b))
+  loadRows old b = heldRows (length (linesOf old)) ++ (fileRows (length (linesOf b)) ++ (rows nought (holdingTooLong ∷ []) ++ stepRows b))
 
   -- apply: 0, or what refuses the file
   unfoldable pub applyRows : List ℕ → List ℕ → List Row
-  applyRows old b = rows nought (0 ∷ []) ++ loadRows old b
+  applyRows old b = rows nought (allDone ∷ []) ++ loadRows old b
 
   -- undo: the same, or 17
   unfoldable pub undoRows : List ℕ → List ℕ → List Row
-  undoRows old b = rows nought (0 ∷ 17 ∷ []) ++ loadRows old b
+  undoRows old b = rows nought (allDone ∷ undoTooLong ∷ []) ++ loadRows old b
 
   -- the record in force: what find gives, or the file check
   unfoldable pub forceRows : List ℕ → List ℕ → List Row
@@ -205,7 +209,7 @@ module _ (F : Format) where
 
   -- ---- the file
 
-  shaped-given : (n c l f : ℕ) → T (shaped F (c, f)) → 1 ≤ l → l ≤ 1 + n → (l ≡ 1 + n → c ≡ 3) → T (given (fileRows n) c l f)
+  shaped-given : (n c l f : ℕ) → T (shaped F (ofField c f)) → 1 ≤ l → l ≤ 1 + n → (l ≡ 1 + n → c ≡ outOfPlace) → T (given (fileRows n) c l f)
   unfolding given fileRows shaped
   shaped-given n c l f s a b e = go (decLe l n)
     where
@@ -216,19 +220,19 @@ module _ (F : Format) where
       last = T-true (leb l (suc n)) (le→leb l (suc n) (omega (arith, b)))
 
       go : Dec (l ≤ n) → T (given (fileRows n) c l f)
-      go (yes h) = rw (first, last, T-true (leb l n) (le→leb l n h), or-false (eqb c 9 && eqb f 0)) s
-      go (no h) = let z : c ≡ 3 = e (omega arith) in rw (z, first, last) (rw z at s)
+      go (yes h) = rw (first, last, T-true (leb l n) (le→leb l n h), or-false (eqb c tooManyBodyLines && eqb f 0)) s
+      go (no h) = let z : c ≡ outOfPlace = e (omega arith) in rw (z, first, last) (rw z at s)
 
   -- a file's fault stands in its rows; a file without one has three lines beside its body
   abbrev FileGiven : List ℕ → Read Sheet → Type 0
-  FileGiven b (fault c l f) = T (given (fileRows (length (linesOf b))) c l f)
+  FileGiven b (fault r) = T (given (fileRows (length (linesOf b))) (r .code) (r .line) (r .field))
   FileGiven b (file s) = length (linesOf b) ≡ length (s .1) + 3
 
   -- ---- the holding
 
-  held-given : (n l : ℕ) → (1 ≤ l) × (l < 1 + n) → T (given (heldRows n) 14 l 0)
+  held-given : (n l : ℕ) → (1 ≤ l) × (l < 1 + n) → T (given (heldRows n) holdingUnsound l 0)
   unfolding heldRows
-  held-given n l i = rows-given (within 1 n) (14 ∷ []) 14 l (in-lines 1 n l (i .0) (omega (arith, i .1))) (unfold among in tt)
+  held-given n l i = rows-given (within 1 n) (holdingUnsound ∷ []) holdingUnsound l (in-lines 1 n l (i .0) (omega (arith, i .1))) (unfold among in tt)
 
   -- the three numbers of the check of a holding
   pub holding-given : (b : List ℕ) → T (given (holdingRows b) (checkHolding F b .code) (checkHolding F b .line) (checkHolding F b .field))
@@ -236,20 +240,20 @@ module _ (F : Format) where
   holding-given b = go (readHolding F b) (holding-fault-at F b)
     where
       go : (h : Held) → HeldAt 1 (length (linesOf b)) h
-          → T (given (rows nought (0 ∷ []) ++ heldRows (length (linesOf b))) (heldNumbers h .code) (heldNumbers h .line) (heldNumbers h .field))
-      go (unsound l) i = given-r (rows nought (0 ∷ [])) _ 14 l 0 (held-given (length (linesOf b)) l i)
+          → T (given (rows nought (allDone ∷ []) ++ heldRows (length (linesOf b))) (heldNumbers h .code) (heldNumbers h .line) (heldNumbers h .field))
+      go (unsound l) i = given-r (rows nought (allDone ∷ [])) _ holdingUnsound l 0 (held-given (length (linesOf b)) l i)
       go (sound st) i = unfold given in tt
 
   -- ---- enquiries
 
   held-in : (old : List ℕ) (o : Option ℕ) → FoundIn (findRows old) (heldPart old o)
   unfolding heldPart partOf findRows given
-  held-in old none = refusal-in _ 11 0 0 tt
+  held-in old none = refusal-in _ (alone keyAbsent) tt
   held-in old (some i) = record { numbers = tt; empty = λ n. absurd (n refl) }
 
-  unsound-in : (old : List ℕ) (l : ℕ) → (1 ≤ l) × (l < 1 + length (linesOf old)) → FoundIn (findRows old) (refusal 14 l 0)
+  unsound-in : (old : List ℕ) (l : ℕ) → (1 ≤ l) × (l < 1 + length (linesOf old)) → FoundIn (findRows old) (refusal (atLine l (ofLine holdingUnsound)))
   unfolding findRows
-  unsound-in old l i = refusal-in _ 14 l 0 (given-r (rows nought (0 ∷ 15 ∷ 11 ∷ [])) _ 14 l 0 (held-given (length (linesOf old)) l i))
+  unsound-in old l i = refusal-in _ (atLine l (ofLine holdingUnsound)) (given-r (rows nought (allDone ∷ kindNotAsked ∷ keyAbsent ∷ [])) _ holdingUnsound l 0 (held-given (length (linesOf old)) l i))
 
   -- the three numbers of find
   pub find-given : (old : List ℕ) (kind n : ℕ) → FoundIn (findRows old) (find F old kind n)
@@ -261,7 +265,7 @@ module _ (F : Format) where
       held q (sound st) i = held-in old (heldAt F q 0 st)
 
       asked : (o : Option Kind) → FoundIn (findRows old) (findKind F old n o)
-      asked none = refusal-in _ 15 0 0 (unfold findRows given in tt)
+      asked none = refusal-in _ (alone kindNotAsked) (unfold findRows given in tt)
       asked (some k) = held (value (ident k) ∷ n ∷ []) (readHolding F old) (holding-fault-at F old)
 
   more-in : (old b : List ℕ) (f : Found) → FoundIn (findRows old) f → FoundIn (forceRows old b) f
@@ -275,20 +279,20 @@ module _ (F : Format) where
     file-given b = go (readFile F b) refl (file-shape F regular b) (file-fault-at F b)
       where
         go : (r : Read Sheet) → readFile F b ≡ r → ReadShaped F r → FaultAt 1 (length (linesOf b)) r → FileGiven b r
-        go (fault c l f) e s a = shaped-given (length (linesOf b)) c l f s (a .0) (a .1) (a .2)
+        go (fault r) e s a = shaped-given (length (linesOf b)) (r .code) (r .line) (r .field) s (a .0) (a .1) (a .2)
         go (file s) e h a =
             let w = read-sound F b (s .0) (s .1) e in
             let fr = s .0 in
             let all = fr .headerText ∷ (w .texts ++ (fr .metadataText ∷ fr .trailerText ∷ [])) in
             ap length (w .lines) ∙ length-ends all ∙ omega (arith, length-append (w .texts) (fr .metadataText ∷ fr .trailerText ∷ []), says-length F 1 (w .texts) (s .1) (w .body))
 
-    -- the six numbers of the check of a file
+    -- the numbers of the check of a file
     pub check-given : (b : List ℕ) → T (given (checkRows b) (checkFile F b .code) (checkFile F b .line) (checkFile F b .field))
     unfolding checkRows checkFile checked
     check-given b = go (readFile F b) (file-given b)
       where
-        go : (r : Read Sheet) → FileGiven b r → T (given (rows nought (0 ∷ []) ++ fileRows (length (linesOf b))) (checked r .code) (checked r .line) (checked r .field))
-        go (fault c l f) i = given-r (rows nought (0 ∷ [])) _ c l f i
+        go : (r : Read Sheet) → FileGiven b r → T (given (rows nought (allDone ∷ []) ++ fileRows (length (linesOf b))) (checked r .code) (checked r .line) (checked r .field))
+        go (fault r) i = given-r (rows nought (allDone ∷ [])) _ (r .code) (r .line) (r .field) i
         go (file s) i = unfold given in tt
 
     -- ---- apply and undo
@@ -300,48 +304,48 @@ module _ (F : Format) where
         n : ℕ
         n = length (linesOf b)
 
-        steps : (c l f : ℕ) → T (given (rows nought (13 ∷ []) ++ stepRows b) c l f) → T (given (loadRows old b) c l f)
-        steps c l f t = given-r (heldRows (length (linesOf old))) _ c l f (given-r (fileRows n) _ c l f t)
+        stepped : (c l f : ℕ) → T (given (rows nought (holdingTooLong ∷ []) ++ stepRows b) c l f) → T (given (loadRows old b) c l f)
+        stepped c l f t = given-r (heldRows (length (linesOf old))) _ c l f (given-r (fileRows n) _ c l f t)
 
         ran : (cs : List (Change Rec)) → n ≡ length cs + 3 → (o : Out (List Rec)) → OutIn 2 (length cs) o → RefusalIn (loadRows old b) (outcome cs o)
         ran cs e (done st) i = tt
         ran cs e (stop l w) i =
-            steps w l 0 (given-r (rows nought (13 ∷ [])) _ w l 0 (rows-given (within 2 (n - 2)) stepCodes w l (in-lines 2 (n - 2) l (i .1) (omega (arith, i .2, e))) (i .0)))
+            stepped w l 0 (given-r (rows nought (holdingTooLong ∷ [])) _ w l 0 (rows-given (within 2 (n - 2)) stepCodes w l (in-lines 2 (n - 2) l (i .1) (omega (arith, i .2, e))) (i .0)))
 
         starts : (c : Bool) (st : List Rec) (s : Sheet) → n ≡ length (s .1) + 3
-            → RefusalIn (loadRows old b) (pick c (outcome (s .1) (run (keyed F) (stepTests F room) 2 st (s .1))) (refused 13 0 0))
-        starts true st s e = ran (s .1) e (run (keyed F) (stepTests F room) 2 st (s .1)) (run-in F room 2 st (s .1))
-        starts false st s e = steps 13 0 0 (unfold given in tt)
+            → RefusalIn (loadRows old b) (pick c (outcome (s .1) (steps F room st (s .1))) (refused (alone holdingTooLong)))
+        starts true st s e = ran (s .1) e (steps F room st (s .1)) (run-in F room 2 st (s .1))
+        starts false st s e = stepped holdingTooLong 0 0 (unfold given in tt)
 
         files : (st : List Rec) (r : Read Sheet) → FileGiven b r → RefusalIn (loadRows old b) (onFile F room st r)
-        files st (fault c l f) i = given-r (heldRows (length (linesOf old))) _ c l f (given-l (fileRows n) _ c l f i)
+        files st (fault r) i = given-r (heldRows (length (linesOf old))) _ (r .code) (r .line) (r .field) (given-l (fileRows n) _ (r .code) (r .line) (r .field) i)
         files st (file s) i = starts (fits room st) st s i
 
         holds : (h : Held) → HeldAt 1 (length (linesOf old)) h → RefusalIn (loadRows old b) (onHolding F room b h)
-        holds (unsound l) i = given-l (heldRows (length (linesOf old))) _ 14 l 0 (held-given (length (linesOf old)) l i)
+        holds (unsound l) i = given-l (heldRows (length (linesOf old))) _ holdingUnsound l 0 (held-given (length (linesOf old)) l i)
         holds (sound st) i = files st (readFile F b) (file-given b)
 
-    -- the six numbers of apply
-    pub apply-given : (old b : List ℕ) (room : ℕ) → SixIn (applyRows old b) (apply F old b room .answer)
+    -- the numbers of apply
+    pub apply-given : (old b : List ℕ) (room : ℕ) → NumbersIn (applyRows old b) (apply F old b room .answer)
     unfolding applyRows apply applied
     apply-given old b room = go (load F room old b) (load-given room old b)
       where
-        go : (x : Answer) → RefusalIn (loadRows old b) x → SixIn (rows nought (0 ∷ []) ++ loadRows old b) (applied room x .answer)
-        go (took new i u d) t = unfold given in tt
-        go (refused c l f) t = given-r (rows nought (0 ∷ [])) _ c l f t
+        go : (x : Answer) → RefusalIn (loadRows old b) x → NumbersIn (rows nought (allDone ∷ []) ++ loadRows old b) (applied room x .answer)
+        go (took new n) t = unfold given in tt
+        go (refused r) t = given-r (rows nought (allDone ∷ [])) _ (r .code) (r .line) (r .field) t
 
-    -- the six numbers of undo
-    pub undo-given : (old b : List ℕ) (out space : ℕ) → SixIn (undoRows old b) (undoFile F old b out space .answer)
+    -- the numbers of undo
+    pub undo-given : (old b : List ℕ) (out space : ℕ) → NumbersIn (undoRows old b) (undoFile F old b out space .answer)
     unfolding undoRows undoFile undone
     undo-given old b out space = go (load F space old b) (load-given space old b)
       where
-        either : (c : Bool) (x y : Undone) (rs : List Row) → SixIn rs (x .answer) → SixIn rs (y .answer) → SixIn rs (pick c x y .answer)
+        either : (c : Bool) (x y : Undone) (rs : List Row) → NumbersIn rs (x .answer) → NumbersIn rs (y .answer) → NumbersIn rs (pick c x y .answer)
         either true x y rs p q = p
         either false x y rs p q = q
 
-        go : (x : Answer) → RefusalIn (loadRows old b) x → SixIn (rows nought (0 ∷ 17 ∷ []) ++ loadRows old b) (undone out space (undoBytes F old b) x .answer)
-        go (took new i u d) t = either (leb (length (undoBytes F old b)) out) _ _ _ (unfold given in tt) (unfold given in tt)
-        go (refused c l f) t = given-r (rows nought (0 ∷ 17 ∷ [])) _ c l f t
+        go : (x : Answer) → RefusalIn (loadRows old b) x → NumbersIn (rows nought (allDone ∷ undoTooLong ∷ []) ++ loadRows old b) (undone out space (undoBytes F old b) x .answer)
+        go (took new n) t = either (leb (length (undoBytes F old b)) out) _ _ _ (unfold given in tt) (unfold given in tt)
+        go (refused r) t = given-r (rows nought (allDone ∷ undoTooLong ∷ [])) _ (r .code) (r .line) (r .field) t
 
     -- ---- the record in force
 
@@ -350,17 +354,17 @@ module _ (F : Format) where
     unfolding inForce inForceKind inForceHeld inForceFile inForcePart
     force-given old b kind n = asked (numberedAmong enquiries kind)
       where
-        named-in : (o : Op) (i : ℕ) → FoundIn (findRows old) (named o (partOf second (linesOf b) i))
-        named-in ins i = unfold named partOf findRows given in record { numbers = tt; empty = λ n. absurd (n refl) }
-        named-in upd i = unfold named partOf findRows given in record { numbers = tt; empty = λ n. absurd (n refl) }
-        named-in del i = unfold named findRows given in refusal-in _ 11 0 0 tt
+        named-in : (o : Op) (i : ℕ) → FoundIn (findRows old) (unlessDeleted o (partOf second (linesOf b) i))
+        named-in ins i = unfold unlessDeleted partOf findRows given in record { numbers = tt; empty = λ n. absurd (n refl) }
+        named-in upd i = unfold unlessDeleted partOf findRows given in record { numbers = tt; empty = λ n. absurd (n refl) }
+        named-in del i = unfold unlessDeleted findRows given in refusal-in _ (alone keyAbsent) tt
 
         part : (q : List ℕ) (st : List Rec) (o : Option (ℕ × Op)) → FoundIn (forceRows old b) (inForcePart F old b q st o)
         part q st none = more-in old b _ (held-in old (heldAt F q 0 st))
         part q st (some l) = more-in old b _ (named-in (l .1) (l .0))
 
         files : (q : List ℕ) (st : List Rec) (r : Read Sheet) → FileGiven b r → FoundIn (forceRows old b) (inForceFile F old b q st r)
-        files q st (fault c l f) i = refusal-in _ c l f (unfold forceRows in given-r (findRows old) _ c l f i)
+        files q st (fault r) i = refusal-in _ r (unfold forceRows in given-r (findRows old) _ (r .code) (r .line) (r .field) i)
         files q st (file s) i = part q st (lastNaming F q 1 (s .1) none)
 
         held : (q : List ℕ) (h : Held) → HeldAt 1 (length (linesOf old)) h → FoundIn (forceRows old b) (inForceHeld F old b q h)
@@ -368,5 +372,5 @@ module _ (F : Format) where
         held q (sound st) i = files q st (readFile F b) (file-given b)
 
         asked : (o : Option Kind) → FoundIn (forceRows old b) (inForceKind F old b n o)
-        asked none = more-in old b _ (refusal-in _ 15 0 0 (unfold findRows given in tt))
+        asked none = more-in old b _ (refusal-in _ (alone kindNotAsked) (unfold findRows given in tt))
         asked (some k) = held (value (ident k) ∷ n ∷ []) (readHolding F old) (holding-fault-at F old)

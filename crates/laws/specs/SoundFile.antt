@@ -10,12 +10,13 @@ use lib.ListN.{length}
 use Rattle.base.specs.Tests.{some≢none}
 use Rattle.theory.specs.Decimal.{value}
 use Rattle.theory.specs.Step.{Change}
-use Rattle.theory.specs.Answer.{Read, fault, file}
+use Rattle.theory.specs.Answer.{fault, file}
 use Rattle.meaning.specs.Lines.{fieldsOf, Line, linesOf}
 use Rattle.meaning.specs.Kinds.{Kind, Role, headerLine, bodyLine, metadataLine, trailerLine, role}
 use Rattle.meaning.specs.Format.{Format, named, proOrder, recordCount}
 use Rattle.meaning.specs.Records.{Rec, changeOf}
 use Rattle.meaning.specs.File.{Place, next, hasRoom, countFault, Judged, bad, good, judgeLine, Frame, Sheet, adds, bodyAfter, atStart, inBody, afterMetadata, afterTrailer, atEnd, onLine, readFrom, readFile, mostBody, blank, addLine}
+use Rattle.meaning.specs.Answers.{Read}
 use Rattle.laws.specs.LinesAndFields.{ends, endsAll}
 use Rattle.laws.specs.SoundLine.{SoundLine}
 use Rattle.laws.specs.Judgement.{Judges, JudgedIs, judged, Numbers, line-sound, sound-line, count-order, count-lines, order-counts, lines-counts}
@@ -154,7 +155,7 @@ module _ (F : Format) where
 
   -- the same of what is read, where that may be a fault
   abbrev ReadsAt : Place → ℕ → List Line → Read Sheet → Type 0
-  ReadsAt p n ls (fault c l f) = Unit {0}
+  ReadsAt p n ls (fault r) = Unit {0}
   ReadsAt p n ls (file s) = ReadAt p n ls s
 
   -- a header in front changes nothing of what is said from the body on
@@ -218,7 +219,7 @@ module _ (F : Format) where
   reads-adds : (p q : Place) (n : ℕ) (l : Line) (ls : List Line) (k : Kind) → n ≤ mostBody → Judges F p n l k q
       → (s : Read Sheet) → ReadsAt q (bodyAfter (role k) n) ls s → ReadsAt p n (l ∷ ls) (adds (role k) k (l .text) s)
   unfolding adds
-  reads-adds p q n l ls k h j (fault c m f) w = tt
+  reads-adds p q n l ls k h j (fault r) w = tt
   reads-adds p q n l ls k h j (file s) w = let a = line-sound F p n l k q j in reads-file p q n l ls k (role k) h (a .0) (a .1) (a .2) refl (j .place) s w
 
   reads-line : (i : ℕ) (p : Place) (n : ℕ) (l : Line) (ls : List Line) (go : Kind → Place → Read Sheet) → n ≤ mostBody

@@ -12,7 +12,9 @@ use Rattle.base.specs.Tests.{and-in, and-l, and-r, T-false, ask-ok, ok-ask}
 use Rattle.meaning.specs.Lines.{plain, fieldsOf, oddQuotes, hasFields, identifier}
 use Rattle.meaning.specs.Kinds.{Kind}
 use Rattle.meaning.specs.Format.{Format, Field, kindOf, named, placeFrom, startDate, endDate}
-use Rattle.meaning.specs.Sound.{Fault, soundField, forms, fieldFault, formFault, datesAgree}
+use Rattle.meaning.specs.Sound.{soundField, forms, fieldFault, formFault, datesAgree}
+use Rattle.meaning.specs.Answers.{Fault, ofLine, ofField}
+use Rattle.meaning.specs.Codes.{fieldMalformed, fieldCountWrong, endBeforeStart}
 
 module _ (F : Format) where
   open Format F using (fields)
@@ -38,7 +40,7 @@ module _ (F : Format) where
   forms-each n [] fs x e = (tt, e)
   forms-each n (d ∷ ds) [] x e = (tt, e)
   forms-each n (d ∷ ds) (f ∷ fs) x e =
-      let a = ok-ask (soundField F d f) (5, n) (forms F (suc n) ds fs x) e in
+      let a = ok-ask (soundField F d f) (ofField fieldMalformed n) (forms F (suc n) ds fs x) e in
       let i = forms-each (suc n) ds fs x (a .1) in
       ((a .0, i .0), i .1)
 
@@ -47,15 +49,15 @@ module _ (F : Format) where
   unfolding forms
   each-forms n [] fs x s = refl
   each-forms n (d ∷ ds) [] x s = refl
-  each-forms n (d ∷ ds) (f ∷ fs) x s = ask-ok (soundField F d f) (5, n) (forms F (suc n) ds fs x) (s .0) ∙ each-forms (suc n) ds fs x (s .1)
+  each-forms n (d ∷ ds) (f ∷ fs) x s = ask-ok (soundField F d f) (ofField fieldMalformed n) (forms F (suc n) ds fs x) (s .0) ∙ each-forms (suc n) ds fs x (s .1)
 
   -- a line without fault is a sound line of its kind, and what is asked afterwards finds nothing
   pub form-sound : (k : Kind) (t : List ℕ) (rest : Option Fault) → T (all plain t) → kindOf F (identifier t) ≡ some k → formFault F k t rest ≡ none → SoundLine k t × (rest ≡ none)
   unfolding formFault fieldFault hasFields
   form-sound k t rest p i e =
-      let a = ok-ask _ (4, 0) _ e in
+      let a = ok-ask _ (ofLine fieldCountWrong) _ e in
       let f = forms-each 1 (fields k) (fieldsOf t) _ (a .1) in
-      let d = ok-ask _ (6, placeFrom 1 endDate (fields k)) rest (f .1) in (
+      let d = ok-ask _ (ofField endBeforeStart (placeFrom 1 endDate (fields k))) rest (f .1) in (
         record {
           plains = p;
           identified = i;
@@ -73,4 +75,4 @@ module _ (F : Format) where
   sound-form k t rest s =
       let o : T (not (oddQuotes t)) = rw (s .evenQuotes) tt in
       let c : T (not (oddQuotes t) && eqb (length (fieldsOf t)) (length (fields k))) = and-in (not (oddQuotes t)) _ o (yes-eqb (s .counted)) in
-      ask-ok _ (4, 0) _ c ∙ each-forms 1 (fields k) (fieldsOf t) _ (s .formed) ∙ ask-ok _ (6, placeFrom 1 endDate (fields k)) rest (s .dated)
+      ask-ok _ (ofLine fieldCountWrong) _ c ∙ each-forms 1 (fields k) (fieldsOf t) _ (s .formed) ∙ ask-ok _ (ofField endBeforeStart (placeFrom 1 endDate (fields k))) rest (s .dated)

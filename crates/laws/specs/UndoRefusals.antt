@@ -12,58 +12,60 @@ use Rattle.theory.specs.Store.{get}
 use Rattle.theory.specs.Refs.{met}
 use Rattle.theory.specs.Step.{Change, fails, allowed, at, after, judge}
 use Rattle.theory.specs.Run.{Out, done, stop, on, run, Taken}
-use Rattle.theory.specs.Limits.{few}
-use Rattle.theory.specs.Answer.{Answer, took, refused}
+use Rattle.theory.specs.Answer.{took, refused}
 use Rattle.theory.specs.StepLaws.{ok-judge}
 use Rattle.meaning.specs.Format.{Format}
 use Rattle.meaning.specs.Records.{Rec, keyed, refsOf}
 use Rattle.meaning.specs.Holding.{readHolding}
-use Rattle.meaning.specs.Load.{fits, stepTests, outcome, fromStart, onFile, onHolding, load, undoBytes, Undone, undone, undoFile}
+use Rattle.meaning.specs.Load.{outcome, fromStart, onFile, onHolding, load, Undone, undone, undoFile}
+use Rattle.meaning.specs.Steps.{few, fits, stepRules, heldTests, roomTests, steps}
+use Rattle.meaning.specs.Answers.{Answer, alone}
+use Rattle.meaning.specs.Undo.{undoBytes}
+use Rattle.meaning.specs.Codes.{holdingTooLong, allDone, undoTooLong}
 use Rattle.laws.specs.Regular.{Regular}
-use Rattle.laws.specs.HoldingReadBack.{always}
 use Rattle.laws.specs.SoundHolding.{held-sound}
-use Rattle.laws.specs.Takes.{late, Takes}
+use Rattle.laws.specs.Takes.{Takes}
 
 -- a run stops with 13 alone
 abbrev Only13 : Out (List Rec) → Type 0
 Only13 (done st) = Unit {0}
-Only13 (stop l w) = w ≡ 13
+Only13 (stop l w) = w ≡ holdingTooLong
 
 -- a step is refused with 13 alone
 abbrev None13 : Option ℕ → Type 0
 None13 none = Unit {0}
-None13 (some w) = w ≡ 13
+None13 (some w) = w ≡ holdingTooLong
 
-ask-13 : (b : Bool) → None13 (ask b 13 none)
+ask-13 : (b : Bool) → None13 (ask b holdingTooLong none)
 unfolding ask
 ask-13 true = tt
 ask-13 false = refl
 
 -- an answer refuses with 13 alone
 abbrev Load13 : Answer → Type 0
-Load13 (took new i u d) = Unit {0}
-Load13 (refused c l f) = c ≡ 13
+Load13 (took new n) = Unit {0}
+Load13 (refused r) = r .code ≡ holdingTooLong
 
 -- undo answers 0, 13 or 17
 pub record Refusals (u : Undone) : Type 0 where
-  pub codes : T (eqb (u .answer .code) 0 || (eqb (u .answer .code) 13 || eqb (u .answer .code) 17))
+  pub codes : T (eqb (u .answer .code) allDone || (eqb (u .answer .code) holdingTooLong || eqb (u .answer .code) undoTooLong))
 
 module _ (F : Format) where
-  step-13 : (room space : ℕ) (st : List Rec) (c : Change Rec) → judge (keyed F) (always F ++ late room) st c ≡ none → None13 (judge (keyed F) (stepTests F space) st c)
-  unfolding judge fails stepTests ask
+  step-13 : (room space : ℕ) (st : List Rec) (c : Change Rec) → judge (keyed F) (stepRules F room) st c ≡ none → None13 (judge (keyed F) (stepRules F space) st c)
+  unfolding judge fails ask
   step-13 room space st c e =
       let st2 = after (keyed F) st c in
-      let a = ok-judge (keyed F) (always F ++ late room) st c e in
+      let a = ok-judge (keyed F) (stepRules F room) st c e in
       let f : few st2 ≡ true = T-true (few st2) (and-l (few st2) _ (a .1)) in
       let m : met (keyed F) (refsOf F) st2 ≡ true = T-true (met (keyed F) (refsOf F) st2) (and-l (met (keyed F) (refsOf F) st2) _ (and-r (few st2) _ (a .1))) in
       rw (T-true (allowed (c .op) (get (keyed F) (at (keyed F) c) st)) (a .0), f, m) (ask-13 (fits space st2))
 
-  run-13 : (room space n : ℕ) (st : List Rec) (cs : List (Change Rec)) → Taken (keyed F) (always F ++ late room) st cs → Only13 (run (keyed F) (stepTests F space) n st cs)
+  run-13 : (room space n : ℕ) (st : List Rec) (cs : List (Change Rec)) → Taken (keyed F) (stepRules F room) st cs → Only13 (run (keyed F) (stepRules F space) n st cs)
   unfolding run
   run-13 room space n st [] t = tt
   run-13 room space n st (c ∷ cs) t =
       let st2 = after (keyed F) st c in
-      go (judge (keyed F) (stepTests F space) st c) (step-13 room space st c (t .0)) (run (keyed F) (stepTests F space) (suc n) st2 cs) (run-13 room space (suc n) st2 cs (t .1))
+      go (judge (keyed F) (stepRules F space) st c) (step-13 room space st c (t .0)) (run (keyed F) (stepRules F space) (suc n) st2 cs) (run-13 room space (suc n) st2 cs (t .1))
     where
       go : (o : Option ℕ) → None13 o → (r : Out (List Rec)) → Only13 r → Only13 (on o n r)
       go none i r h = unfold on in h
@@ -79,8 +81,8 @@ module _ (F : Format) where
         ran (done st) i = tt
         ran (stop l w) i = i
 
-        start : (c : Bool) → Load13 (pick c (outcome (a .cs) (run (keyed F) (stepTests F space) 2 (a .st) (a .cs))) (refused 13 0 0))
-        start true = ran (run (keyed F) (stepTests F space) 2 (a .st) (a .cs)) (run-13 room space 2 (a .st) (a .cs) (a .takes))
+        start : (c : Bool) → Load13 (pick c (outcome (a .cs) (steps F space (a .st) (a .cs))) (refused (alone holdingTooLong)))
+        start true = ran (steps F space (a .st) (a .cs)) (run-13 room space 2 (a .st) (a .cs) (a .takes))
         start false = refl
 
     -- the undo of a file that is taken is refused only with 17, or with 13 by its work buffer
@@ -93,5 +95,5 @@ module _ (F : Format) where
         either false x y p q = q
 
         go : (x : Answer) → Load13 x → Refusals (undone out space (undoBytes F old b) x)
-        go (took n i u d) h = either (leb (length (undoBytes F old b)) out) _ _ (record { codes = tt }) (record { codes = tt })
-        go (refused c l f) h = record { codes = rw h tt }
+        go (took n m) h = either (leb (length (undoBytes F old b)) out) _ _ (record { codes = tt }) (record { codes = tt })
+        go (refused r) h = record { codes = rw h tt }

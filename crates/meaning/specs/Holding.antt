@@ -9,14 +9,14 @@ use Rattle.theory.specs.Tri.{isLt}
 use Rattle.base.specs.Lists.{pick, same, keepIf}
 use Rattle.theory.specs.Lex.{lex}
 use Rattle.theory.specs.Decimal.{dec}
-use Rattle.theory.specs.Limits.{most}
 use Rattle.theory.specs.Refs.{meets}
-use Rattle.theory.specs.Run.{inserts}
+use Rattle.theory.specs.Run.{asInserts}
 use Rattle.theory.specs.Step.{ins}
 use Rattle.meaning.specs.Lines.{Line, linesOf, endsWell, identifier, fieldsOf}
 use Rattle.meaning.specs.Kinds.{Kind, Role, headerLine, bodyLine, metadataLine, trailerLine, role}
 use Rattle.meaning.specs.Format.{Format, kindOf}
-use Rattle.meaning.specs.Sound.{Fault, formFault}
+use Rattle.meaning.specs.Answers.{Fault}
+use Rattle.meaning.specs.Sound.{formFault}
 use Rattle.meaning.specs.Records.{Rec, contentOf, keyOf, refsOf, keyed, letter, changeTexts, joined}
 
 -- a held kind
@@ -25,6 +25,10 @@ isHeld headerLine = false
 isHeld bodyLine = true
 isHeld metadataLine = false
 isHeld trailerLine = false
+
+-- a holding has at most 8,192 lines, so so many records
+abbrev pub mostRecords : ℕ
+mostRecords = 8192
 
 -- no fault
 unfoldable pub isSound : Option Fault → Bool
@@ -43,7 +47,7 @@ addRec r (unsound n) = unsound n
 
 -- the bytes of a holding: its records as inserts, numbered from 1
 unfoldable pub written : List Rec → List ℕ
-written st = joined (changeTexts 1 (inserts st))
+written st = joined (changeTexts 1 (asInserts st))
 
 module _ (F : Format) where
   -- line n of a holding: a sound line of a held kind, CHANGE_TYPE "I", PRO_ORDER the line's own number without leading zeros
@@ -67,7 +71,7 @@ module _ (F : Format) where
   -- a line that is unsound, out of order or the 8,193rd is the lowest faulty one; else the lines after it are asked
   unfoldable pub onHeld : ℕ → Option (List ℕ) → Option Rec → (Rec → Held) → Held
   onHeld n lo none go = unsound n
-  onHeld n lo (some r) go = pick (above lo r && leb n most) (addRec r (go r)) (unsound n)
+  onHeld n lo (some r) go = pick (above lo r && leb n mostRecords) (addRec r (go r)) (unsound n)
 
   -- tested first for form, order, PRO_ORDER and number of lines over all lines
   unfoldable pub scan : ℕ → Option (List ℕ) → List Line → Held

@@ -6,6 +6,26 @@ use lib.Dec.{eqb}
 use lib.ListN.{length}
 use Rattle.base.specs.Lists.{all, pick, upTo}
 
+-- ---- the bytes that lines and fields go by
+
+-- CR
+abbrev pub cr : ℕ
+cr = 13
+
+-- LF
+abbrev pub lf : ℕ
+lf = 10
+
+-- a comma
+abbrev pub comma : ℕ
+comma = 44
+
+-- a double quote
+abbrev pub quote : ℕ
+quote = 34
+
+-- ---- lines
+
 -- a line: its bytes, and whether a CR LF ends it
 pub record Line : Type 0 where
   pub text : List ℕ
@@ -20,11 +40,11 @@ grow x (l ∷ ls) = record { text = x ∷ l .text; ended = l .ended } ∷ ls
 unfoldable pub linesOf : List ℕ → List Line
 linesOf [] = []
 linesOf (x ∷ []) = grow x []
-linesOf (x ∷ (y ∷ r)) = pick (eqb x 13 && eqb y 10) (record { text = []; ended = true } ∷ linesOf r) (grow x (linesOf (y ∷ r)))
+linesOf (x ∷ (y ∷ r)) = pick (eqb x cr && eqb y lf) (record { text = []; ended = true } ∷ linesOf r) (grow x (linesOf (y ∷ r)))
 
 -- neither CR nor LF
 unfoldable pub plain : ℕ → Bool
-plain x = not (eqb x 13) && not (eqb x 10)
+plain x = not (eqb x cr) && not (eqb x lf)
 
 -- every line must end in CR LF and hold no other CR or LF, not even within quotes
 unfoldable pub endsWell : Line → Bool
@@ -32,15 +52,17 @@ endsWell l = l .ended && all plain (l .text)
 
 -- the identifier is the bytes before the first comma, or the whole line where there is none
 unfoldable pub identifier : List ℕ → List ℕ
-identifier t = upTo 44 t
+identifier t = upTo comma t
+
+-- ---- fields
 
 -- a double quote opens or closes quoting: quoting after a byte, where it was q before
 unfoldable pub turned : Bool → ℕ → Bool
-turned q x = pick (eqb x 34) (not q) q
+turned q x = pick (eqb x quote) (not q) q
 
 -- fields are separated by commas outside quotes
 unfoldable pub isSep : Bool → ℕ → Bool
-isSep q x = not q && eqb x 44
+isSep q x = not q && eqb x comma
 
 -- a byte in front of the first field, or an empty field in front of a separator
 unfoldable pub addByte : Bool → ℕ → List (List ℕ) → List (List ℕ)

@@ -11,10 +11,8 @@ use Rattle.meaning.specs.Lines.{fieldsOf, hasFields}
 use Rattle.meaning.specs.Forms.{soundAs}
 use Rattle.meaning.specs.Kinds.{Kind}
 use Rattle.meaning.specs.Format.{Format, Field, named, placeFrom, startDate, endDate}
-
--- what is wrong with a line: a code and a field
-abbrev pub Fault : Type 0
-Fault = ℕ × ℕ
+use Rattle.meaning.specs.Codes.{fieldCountWrong, fieldMalformed, endBeforeStart}
+use Rattle.meaning.specs.Answers.{Fault, ofLine, ofField}
 
 -- END_DATE, where filled, isn't before a filled START_DATE of its line: dates stand in the order of their bytes
 unfoldable pub datesAgree : List ℕ → List ℕ → Bool
@@ -33,12 +31,12 @@ module _ (F : Format) where
   unfoldable pub forms : ℕ → List Field → List (List ℕ) → Option Fault → Option Fault
   forms n [] fs rest = rest
   forms n (d ∷ ds) [] rest = rest
-  forms n (d ∷ ds) (f ∷ fs) rest = ask (soundField d f) (5, n) (forms (suc n) ds fs rest)
+  forms n (d ∷ ds) (f ∷ fs) rest = ask (soundField d f) (ofField fieldMalformed n) (forms (suc n) ds fs rest)
 
   -- 5, then 6, of the fields of a line from number n on
   unfoldable pub fieldFault : ℕ → List Field → List (List ℕ) → Option Fault → Option Fault
-  fieldFault n ds fs rest = forms n ds fs (ask (datesAgree (named startDate ds fs) (named endDate ds fs)) (6, placeFrom n endDate ds) rest)
+  fieldFault n ds fs rest = forms n ds fs (ask (datesAgree (named startDate ds fs) (named endDate ds fs)) (ofField endBeforeStart (placeFrom n endDate ds)) rest)
 
   -- 4, then 5, then 6; else the rest is asked
   unfoldable pub formFault : Kind → List ℕ → Option Fault → Option Fault
-  formFault k t rest = ask (hasFields (length (fields k)) t) (4, 0) (fieldFault 1 (fields k) (fieldsOf t) rest)
+  formFault k t rest = ask (hasFields (length (fields k)) t) (ofLine fieldCountWrong) (fieldFault 1 (fields k) (fieldsOf t) rest)

@@ -1,43 +1,43 @@
--- The tests of a step, once of the whole state after it, and once of the change, of what it meets and of the length before.
+-- The tests of a step, once of the whole state after it, and once of the change, of what it meets and of the length before; whatever their codes and the most records are.
 use mathlib.Core.Bool.{Bool, true}
 use mathlib.Core.Option.{Option, none, some}
-use mathlib.Core.List.{List, [], _∷_, _++_}
+use mathlib.Core.List.{List, [], _∷_}
 use Prim.Native.Nat.{ℕ, suc, _+_, _-_}
 use lib.Dec.{leb}
 use lib.ListN.{length}
-use Rattle.base.specs.Lists.{all, ask}
+use Rattle.base.specs.Lists.{all, ask, atMost}
 use Rattle.theory.specs.Keyed.{Keyed}
 use Rattle.theory.specs.Store.{get}
 use Rattle.theory.specs.Refs.{met, meets, clear}
 use Rattle.theory.specs.Decimal.{width}
-use Rattle.theory.specs.Step.{Op, ins, upd, del, Change, Test, at, allowed, codeOf}
-use Rattle.theory.specs.Limits.{most, few}
+use Rattle.theory.specs.Step.{Op, ins, upd, del, Change, Rules, at, allowed}
 use Rattle.theory.specs.Written.{Printed, render, bare}
+
+-- the codes of the tests, in their order, and how many records there may be
+pub record Codes : Type 0 where
+  pub keyCode : Op → ℕ
+  pub many : ℕ
+  pub unmet : ℕ
+  pub long : ℕ
+  pub most : ℕ
 
 -- ---- of the whole state
 
-module _ (K : Keyed) (refs : K .Rec → List (K .Key)) (P : Printed (K .Rec)) where
-  open Keyed K using (Rec)
+-- the bytes of the state fit into the room
+unfoldable pub fits : {R : Type 0} → Printed R → ℕ → List R → Bool
+fits P room st = leb (length (render P st)) room
 
-  -- the tests that every sound holding passes: not too many records (16), every reference met (12)
-  abbrev pub always : List (Test Rec)
-  always = (16, few) ∷ (12, met K refs) ∷ []
-
-  -- the bytes of the state fit into the room
-  unfoldable pub fits : ℕ → List Rec → Bool
-  fits room st = leb (length (render P st)) room
-
-  -- the tests after each step: those, and that the bytes fit (13)
-  abbrev pub tests : ℕ → List (Test Rec)
-  tests room = always ++ ((13, fits room) ∷ [])
+-- what a step must meet: not too many records, every reference met, and the bytes fit
+abbrev pub rules : Codes → (K : Keyed) → (K .Rec → List (K .Key)) → Printed (K .Rec) → ℕ → Rules (K .Rec)
+rules w K refs P room = record { keyCode = w .keyCode; tests = (w .many, atMost (w .most)) ∷ (w .unmet, met K refs) ∷ (w .long, fits P room) ∷ [] }
 
 -- ---- of the change
 
 -- there are not too many records afterwards: only an insert can make them so
-unfoldable pub fewAfter : {R : Type 0} → Op → List R → Bool
-fewAfter ins st = leb (suc (length st)) most
-fewAfter upd st = true
-fewAfter del st = true
+unfoldable pub fewAfter : {R : Type 0} → ℕ → Op → List R → Bool
+fewAfter n ins st = leb (suc (length st)) n
+fewAfter n upd st = true
+fewAfter n del st = true
 
 -- every reference is met afterwards: the new record's are, or no record refers to the one that goes
 unfoldable pub metAfter : (K : Keyed) (refs : K .Rec → List (K .Key)) → Op → K .Rec → List (K .Rec) → Bool
@@ -54,9 +54,9 @@ sizeAfter P del r none st n = n
 sizeAfter P del r (some q) st n = n - bare P q - width (length st)
 
 -- the code with which a change is refused, or none
-unfoldable pub fast : (K : Keyed) (refs : K .Rec → List (K .Key)) (P : Printed (K .Rec)) → ℕ → List (K .Rec) → Change (K .Rec) → Option ℕ
-fast K refs P room st c =
-    ask (allowed (c .op) (get K (at K c) st)) (codeOf (c .op))
-    (ask (fewAfter (c .op) st) 16
-    (ask (metAfter K refs (c .op) (c .rec) st) 12
-    (ask (leb (sizeAfter P (c .op) (c .rec) (get K (at K c) st) st (length (render P st))) room) 13 none)))
+unfoldable pub fast : Codes → (K : Keyed) (refs : K .Rec → List (K .Key)) (P : Printed (K .Rec)) → ℕ → List (K .Rec) → Change (K .Rec) → Option ℕ
+fast w K refs P room st c =
+    ask (allowed (c .op) (get K (at K c) st)) (w .keyCode (c .op))
+    (ask (fewAfter (w .most) (c .op) st) (w .many)
+    (ask (metAfter K refs (c .op) (c .rec) st) (w .unmet)
+    (ask (leb (sizeAfter P (c .op) (c .rec) (get K (at K c) st) st (length (render P st))) room) (w .long) none)))

@@ -2,9 +2,9 @@
 use mathlib.Core.Path.{_≡_}
 use mathlib.Core.Bool.{Bool}
 use mathlib.Core.Option.{Option, some}
-use mathlib.Core.List.{List, [], _∷_}
+use mathlib.Core.List.{List}
 use Prim.Native.Nat.{ℕ}
-use lib.Dec.{T, leb}
+use lib.Dec.{T}
 use lib.ListN.{length}
 use Rattle.base.specs.Lists.{all}
 use Rattle.theory.specs.Keyed.{Keyed}
@@ -28,14 +28,10 @@ pub record Holding (K : Keyed) : Type 0 where
   pub holds : (b : List ℕ) (st : List (K .Rec)) → hold b ≡ some st → (b ≡ write st) × Sound K fine always st
 
 -- files as bytes: a frame (header, metadata, trailer) that suits a body of so many lines around changes of fine records; what is written is read back
-pub record Files (R : Type 0) (fine : R → Bool) : Type 1 where
+pub record Files (E R : Type 0) (fine : R → Bool) : Type 1 where
   pub Frame : Type 0
   pub suits : Frame → ℕ → Bool
-  pub readFile : List ℕ → Read (Frame × List (Change R))
+  pub readFile : List ℕ → Read E (Frame × List (Change R))
   pub writeFile : Frame → List (Change R) → List ℕ
   pub reads : (fr : Frame) (cs : List (Change R)) → T (suits fr (length cs)) → T (all (λ c. fine (c .rec)) cs) → readFile (writeFile fr cs) ≡ file (fr, cs)
   pub says : (b : List ℕ) (fr : Frame) (cs : List (Change R)) → readFile b ≡ file (fr, cs) → T (suits fr (length cs)) × T (all (λ c. fine (c .rec)) cs)
-
--- the test of a buffer: the bytes of the state are not more than it has room for (13)
-abbrev pub byLength : {R : Type 0} → (List R → List ℕ) → ℕ → List (Test R)
-byLength write room = (13, λ st. leb (length (write st)) room) ∷ []

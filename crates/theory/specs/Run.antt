@@ -10,7 +10,7 @@ use Rattle.base.specs.Lists.{all, pick}
 use Rattle.theory.specs.Keyed.{Keyed}
 use Rattle.theory.specs.Store.{Asc}
 use Rattle.theory.specs.Refs.{apart}
-use Rattle.theory.specs.Step.{ins, Change, Test, passes, new, at, after, judge}
+use Rattle.theory.specs.Step.{ins, Change, Rules, passes, new, at, after, judge}
 use Rattle.theory.specs.Trail.{final, Each}
 
 -- how a run ends: with a state, or at the line of the first change that is refused, with its code
@@ -24,9 +24,9 @@ on none n rest = rest
 on (some w) n rest = stop n w
 
 -- the changes that insert these records
-abbrev pub inserts : {R : Type 0} → List R → List (Change R)
-inserts [] = []
-inserts (r ∷ rs) = record { op = ins; rec = r } ∷ inserts rs
+abbrev pub asInserts : {R : Type 0} → List R → List (Change R)
+asInserts [] = []
+asInserts (r ∷ rs) = record { op = ins; rec = r } ∷ asInserts rs
 
 module _ (K : Keyed) where
   open Keyed K using (Key, Rec)
@@ -44,16 +44,16 @@ module _ (K : Keyed) where
   abbrev pub fineC : (Rec → Bool) → Change Rec → Bool
   fineC fine c = fine (c .rec)
 
-  module _ (ts : List (Test Rec)) where
+  module _ (rules : Rules Rec) where
     -- the run of the changes that stand from line n on
     unfoldable pub run : ℕ → List Rec → List (Change Rec) → Out (List Rec)
     unfolding on
     run n st [] = done st
-    run n st (c ∷ cs) = on (judge K ts st c) n (run (suc n) (after K st c) cs)
+    run n st (c ∷ cs) = on (judge K rules st c) n (run (suc n) (after K st c) cs)
 
     -- a change is not refused
     abbrev pub Ok : List Rec → Change Rec → Type 0
-    Ok st c = judge K ts st c ≡ none
+    Ok st c = judge K rules st c ≡ none
 
     -- no change is refused where it is made
     abbrev pub Taken : List Rec → List (Change Rec) → Type 0
@@ -62,7 +62,7 @@ module _ (K : Keyed) where
     -- a sound state: its keys ascend, and it passes every test
     pub record Good (st : List Rec) : Type 0 where
       pub asc : Asc K st
-      pub pass : T (passes ts st)
+      pub pass : T (passes (rules .tests) st)
 
     -- the changes before are taken, and the change at that line is refused with that code
     pub record Stopped (n : ℕ) (st : List Rec) (cs : List (Change Rec)) (line code : ℕ) : Type 0 where
@@ -71,8 +71,8 @@ module _ (K : Keyed) where
       pub post : List (Change Rec)
       pub whole : cs ≡ pre ++ bad ∷ post
       pub taken : Taken st pre
-      pub fault : judge K ts (final (after K) st pre) bad ≡ some code
-      pub place : line ≡ n + length pre
+      pub fault : judge K rules (final (after K) st pre) bad ≡ some code
+      pub stands : line ≡ n + length pre
 
     -- what the end of a run says of its changes
     abbrev pub Tells : ℕ → List Rec → List (Change Rec) → Out (List Rec) → Type 0

@@ -16,7 +16,7 @@ use Rattle.theory.specs.Fold.{all?}
 use Rattle.theory.specs.FoldLaws.{all-put, get-all?}
 use Rattle.theory.specs.Refs.{apart}
 use Rattle.theory.specs.RefsLaws.{by-key, apart-ne}
-use Rattle.theory.specs.Step.{Op, ins, upd, del, Change, Test, new, at, after, back, judge}
+use Rattle.theory.specs.Step.{Op, ins, upd, del, Change, Rules, new, at, after, back, judge}
 use Rattle.theory.specs.StepLaws.{judge-ok, ok-judge, after-back, back-allowed, get-after, asc-after, at-new}
 use Rattle.theory.specs.Trail.{final, Through, undo}
 use Rattle.theory.specs.TrailLaws.{keep*, through*, same*, ok*}
@@ -84,62 +84,62 @@ module _ (K : Keyed) where
         let h = and-l (fineC K fine c) _ t in
         all-snoc (fineC K fine) (undo (after K) (back K) (after K st c) cs) (back K st c) (fine-undo (after K st c) cs (fine-after st c s h) (and-r (fineC K fine c) _ t)) (fine-back st c s h)
 
-  module _ (ts : List (Test Rec)) where
+  module _ (rules : Rules Rec) where
     -- ---- what the end of a run says
 
-    tells-cons : (n : ℕ) (st : List Rec) (c : Change Rec) (cs : List (Change Rec)) → Ok K ts st c → (o : Out (List Rec)) → Tells K ts (suc n) (after K st c) cs o → Tells K ts n st (c ∷ cs) o
+    tells-cons : (n : ℕ) (st : List Rec) (c : Change Rec) (cs : List (Change Rec)) → Ok K rules st c → (o : Out (List Rec)) → Tells K rules (suc n) (after K st c) cs o → Tells K rules n st (c ∷ cs) o
     tells-cons n st c cs e (done s) t = ((e, t .0), t .1)
     tells-cons n st c cs e (stop l w) t =
-        record { pre = c ∷ t .pre; bad = t .bad; post = t .post; whole = ap (λ x. c ∷ x) (t .whole); taken = (e, t .taken); fault = t .fault; place = omega (arith, t .place) }
+        record { pre = c ∷ t .pre; bad = t .bad; post = t .post; whole = ap (λ x. c ∷ x) (t .whole); taken = (e, t .taken); fault = t .fault; stands = omega (arith, t .stands) }
 
     -- a run that ends with a state was taken and ends with the last one; a run that stops does so at the first change that is refused, with its code
-    pub tells : (n : ℕ) (st : List Rec) (cs : List (Change Rec)) → Tells K ts n st cs (run K ts n st cs)
+    pub tells : (n : ℕ) (st : List Rec) (cs : List (Change Rec)) → Tells K rules n st cs (run K rules n st cs)
     unfolding run
     tells n st [] = (tt, refl)
-    tells n st (c ∷ cs) = go (judge K ts st c) refl (tells (suc n) (after K st c) cs)
+    tells n st (c ∷ cs) = go (judge K rules st c) refl (tells (suc n) (after K st c) cs)
       where
         rest : Out (List Rec)
-        rest = run K ts (suc n) (after K st c) cs
+        rest = run K rules (suc n) (after K st c) cs
 
-        go : (o : Option ℕ) → judge K ts st c ≡ o → Tells K ts (suc n) (after K st c) cs rest → Tells K ts n st (c ∷ cs) (on o n rest)
+        go : (o : Option ℕ) → judge K rules st c ≡ o → Tells K rules (suc n) (after K st c) cs rest → Tells K rules n st (c ∷ cs) (on o n rest)
         go none e t = tells-cons n st c cs e rest t
-        go (some w) e t = record { pre = []; bad = c; post = cs; whole = refl; taken = tt; fault = e; place = omega arith }
+        go (some w) e t = record { pre = []; bad = c; post = cs; whole = refl; taken = tt; fault = e; stands = omega arith }
 
     -- a run that ends with a state was taken, and that state is the last
-    pub taken-run : (n : ℕ) (st st′ : List Rec) (cs : List (Change Rec)) → run K ts n st cs ≡ done st′ → Taken K ts st cs × (st′ ≡ final (after K) st cs)
-    taken-run n st st′ cs e = subst (Tells K ts n st cs) e (tells n st cs)
+    pub taken-run : (n : ℕ) (st st′ : List Rec) (cs : List (Change Rec)) → run K rules n st cs ≡ done st′ → Taken K rules st cs × (st′ ≡ final (after K) st cs)
+    taken-run n st st′ cs e = subst (Tells K rules n st cs) e (tells n st cs)
 
     -- changes of which none is refused run to the last state
-    pub run-taken : (n : ℕ) (st : List Rec) (cs : List (Change Rec)) → Taken K ts st cs → run K ts n st cs ≡ done (final (after K) st cs)
+    pub run-taken : (n : ℕ) (st : List Rec) (cs : List (Change Rec)) → Taken K rules st cs → run K rules n st cs ≡ done (final (after K) st cs)
     unfolding run
     run-taken n st [] g = refl
     run-taken n st (c ∷ cs) g = rw (g .0) (run-taken (suc n) (after K st c) cs (g .1))
 
     -- ---- sound states and the way back
 
-    good-after : (st : List Rec) (c : Change Rec) → Good K ts st → Ok K ts st c → Good K ts (after K st c)
-    good-after st c g e = record { asc = asc-after K st c (g .asc); pass = ok-judge K ts st c e .1 }
+    good-after : (st : List Rec) (c : Change Rec) → Good K rules st → Ok K rules st c → Good K rules (after K st c)
+    good-after st c g e = record { asc = asc-after K st c (g .asc); pass = ok-judge K rules st c e .1 }
 
-    good-same : (st : List Rec) (c : Change Rec) → Good K ts st → Ok K ts st c → after K (after K st c) (back K st c) ≡ st
-    good-same st c g e = after-back K st c (g .asc) (ok-judge K ts st c e .0)
+    good-same : (st : List Rec) (c : Change Rec) → Good K rules st → Ok K rules st c → after K (after K st c) (back K st c) ≡ st
+    good-same st c g e = after-back K st c (g .asc) (ok-judge K rules st c e .0)
 
-    good-back : (st : List Rec) (c : Change Rec) → Good K ts st → Ok K ts st c → Ok K ts (after K st c) (back K st c)
-    good-back st c g e = judge-ok K ts (after K st c) (back K st c) (back-allowed K st c (g .asc)) (rw (good-same st c g e) (g .pass))
+    good-back : (st : List Rec) (c : Change Rec) → Good K rules st → Ok K rules st c → Ok K rules (after K st c) (back K st c)
+    good-back st c g e = judge-ok K rules (after K st c) (back K st c) (back-allowed K st c (g .asc)) (rw (good-same st c g e) (g .pass))
 
     -- from a sound state, by changes of which none is refused
-    module _ (st : List Rec) (cs : List (Change Rec)) (g : Good K ts st) (t : Taken K ts st cs) where
+    module _ (st : List Rec) (cs : List (Change Rec)) (g : Good K rules st) (t : Taken K rules st cs) where
       -- the last state is sound
-      pub good-final : Good K ts (final (after K) st cs)
-      good-final = keep* (after K) (back K) (Ok K ts) (Good K ts) good-after good-back good-same st cs g t
+      pub good-final : Good K rules (final (after K) st cs)
+      good-final = keep* (after K) (back K) (Ok K rules) (Good K rules) good-after good-back good-same st cs g t
 
       -- every state is sound
-      pub good-through : Through (after K) (Good K ts) st cs
-      good-through = through* (after K) (back K) (Ok K ts) (Good K ts) good-after good-back good-same st cs g t
+      pub good-through : Through (after K) (Good K rules) st cs
+      good-through = through* (after K) (back K) (Ok K rules) (Good K rules) good-after good-back good-same st cs g t
 
       -- no change back is refused
-      pub undo-taken : Taken K ts (final (after K) st cs) (undo (after K) (back K) st cs)
-      undo-taken = ok* (after K) (back K) (Ok K ts) (Good K ts) good-after good-back good-same st cs g t
+      pub undo-taken : Taken K rules (final (after K) st cs) (undo (after K) (back K) st cs)
+      undo-taken = ok* (after K) (back K) (Ok K rules) (Good K rules) good-after good-back good-same st cs g t
 
       -- the changes back lead to the first state
       pub undo-same : final (after K) (final (after K) st cs) (undo (after K) (back K) st cs) ≡ st
-      undo-same = same* (after K) (back K) (Ok K ts) (Good K ts) good-after good-back good-same st cs g t
+      undo-same = same* (after K) (back K) (Ok K rules) (Good K rules) good-after good-back good-same st cs g t

@@ -1,4 +1,4 @@
--- One change: what it leaves at its key, when it is refused and with which code, and how it is taken back.
+-- One change: what it leaves at its key, when it is refused and with which of the codes given, and how it is taken back.
 use mathlib.Core.Bool.{Bool, not}
 use mathlib.Core.Option.{Option, none, some, Option·getD}
 use mathlib.Core.List.{List, [], _∷_}
@@ -28,12 +28,6 @@ allowed ins o = not (some? o)
 allowed upd o = some? o
 allowed del o = some? o
 
--- the code where it does not
-abbrev pub codeOf : Op → ℕ
-codeOf ins = 10
-codeOf upd = 11
-codeOf del = 11
-
 -- the operation that takes the operation back
 abbrev pub inv : Op → Op
 inv ins = del
@@ -56,6 +50,11 @@ unfolding ask
 fails [] st = none
 fails (t ∷ ts) st = ask (t .1 st) (t .0) (fails ts st)
 
+-- what a step must meet: the code of an operation that what stands at its key does not allow, and the tests of the state after it
+pub record Rules (R : Type 0) : Type 0 where
+  pub keyCode : Op → ℕ
+  pub tests : List (Test R)
+
 -- ---- a step
 
 module _ (K : Keyed) where
@@ -74,5 +73,5 @@ module _ (K : Keyed) where
   back st c = record { op = inv (c .op); rec = Option·getD (get K (at c) st) (c .rec) }
 
   -- the code with which a change is refused, or none: first what stands at its key, then the tests of the state after it
-  unfoldable pub judge : List (Test Rec) → List Rec → Change Rec → Option ℕ
-  judge ts st c = ask (allowed (c .op) (get K (at c) st)) (codeOf (c .op)) (fails ts (after st c))
+  unfoldable pub judge : Rules Rec → List Rec → Change Rec → Option ℕ
+  judge rules st c = ask (allowed (c .op) (get K (at c) st)) (rules .keyCode (c .op)) (fails (rules .tests) (after st c))

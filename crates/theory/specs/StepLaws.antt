@@ -10,7 +10,7 @@ use Rattle.base.specs.Tests.{some≢none, and-in, and-l, and-r}
 use Rattle.theory.specs.Keyed.{Keyed}
 use Rattle.theory.specs.Store.{get, Asc, At}
 use Rattle.theory.specs.StoreLaws.{at-get, get-put, put-back, asc-put}
-use Rattle.theory.specs.Step.{Op, ins, upd, del, Change, new, allowed, codeOf, inv, Test, passes, fails, at, after, back, judge}
+use Rattle.theory.specs.Step.{Op, ins, upd, del, Change, new, allowed, inv, Test, passes, fails, Rules, at, after, back, judge}
 
 -- ---- tests in order
 
@@ -97,13 +97,13 @@ module _ (K : Keyed) where
 
   -- ---- when a change is not refused
 
-  module _ (ts : List (Test Rec)) (st : List Rec) (c : Change Rec) where
+  module _ (rules : Rules Rec) (st : List Rec) (c : Change Rec) where
     -- a change that is allowed, and after which every test is passed, is not refused
-    pub judge-ok : T (allowed (c .op) (get K (at K c) st)) → T (passes ts (after K st c)) → judge K ts st c ≡ none
+    pub judge-ok : T (allowed (c .op) (get K (at K c) st)) → T (passes (rules .tests) (after K st c)) → judge K rules st c ≡ none
     unfolding judge
-    judge-ok t p = need-ok _ (codeOf (c .op)) _ t (passes-fails ts (after K st c) p)
+    judge-ok t p = need-ok _ (rules .keyCode (c .op)) _ t (passes-fails (rules .tests) (after K st c) p)
 
     -- a change that is not refused is allowed, and after it every test is passed
-    pub ok-judge : judge K ts st c ≡ none → T (allowed (c .op) (get K (at K c) st)) × T (passes ts (after K st c))
+    pub ok-judge : judge K rules st c ≡ none → T (allowed (c .op) (get K (at K c) st)) × T (passes (rules .tests) (after K st c))
     unfolding judge
-    ok-judge e = let n = ok-need (allowed (c .op) (get K (at K c) st)) (codeOf (c .op)) (fails ts (after K st c)) e in (n .0, fails-passes ts (after K st c) (n .1))
+    ok-judge e = let n = ok-need (allowed (c .op) (get K (at K c) st)) (rules .keyCode (c .op)) (fails (rules .tests) (after K st c)) e in (n .0, fails-passes (rules .tests) (after K st c) (n .1))

@@ -1,0 +1,76 @@
+-- Paper 01, 'Numbers given back': what is refused and where, and the numbers that the operations answer.
+use mathlib.Core.List.{List}
+use Prim.Native.Nat.{ℕ}
+use Rattle.theory.specs.Answer as theory
+use Rattle.theory.specs.Answer.{Counts}
+use Rattle.meaning.specs.Codes.{allDone}
+
+-- ---- what is refused
+
+-- what is wrong with a line: a code and a field
+pub record Fault : Type 0 where
+  pub code : ℕ
+  pub field : ℕ
+
+-- a fault of no one field
+abbrev pub ofLine : ℕ → Fault
+ofLine c = record { code = c; field = 0 }
+
+-- a fault of one field
+abbrev pub ofField : ℕ → ℕ → Fault
+ofField c f = record { code = c; field = f }
+
+-- a refusal has a number, a line and a field
+pub record Refusal : Type 0 where
+  pub code : ℕ
+  pub line : ℕ
+  pub field : ℕ
+
+-- a fault at a line
+abbrev pub atLine : ℕ → Fault → Refusal
+atLine l f = record { code = f .code; line = l; field = f .field }
+
+-- a refusal that names no line
+abbrev pub alone : ℕ → Refusal
+alone c = atLine 0 (ofLine c)
+
+-- what reading a file gives: its first fault, or what the file says
+abbrev pub Read : Type 0 → Type 0
+Read F = theory.Read Refusal F
+
+-- what loading a file gives: the new holding's bytes and the counts of its body lines, or a refusal
+abbrev pub Answer : Type 0
+Answer = theory.Answer Refusal
+
+-- ---- the numbers
+
+-- checking a file, apply and undo: code, line, field, and the file's body lines with I, U and D
+pub record Numbers : Type 0 where
+  pub code : ℕ
+  pub line : ℕ
+  pub field : ℕ
+  pub inserts : ℕ
+  pub updates : ℕ
+  pub deletes : ℕ
+
+-- of a file that is taken
+abbrev pub takenWith : Counts → Numbers
+takenWith n = record { code = allDone; line = 0; field = 0; inserts = n .inserts; updates = n .updates; deletes = n .deletes }
+
+-- of one that is refused: the three counts are 0
+abbrev pub refusedWith : Refusal → Numbers
+refusedWith r = record { code = r .code; line = r .line; field = r .field; inserts = 0; updates = 0; deletes = 0 }
+
+-- the other operations: code, line, field
+pub record Three : Type 0 where
+  pub code : ℕ
+  pub line : ℕ
+  pub field : ℕ
+
+-- nothing is refused
+abbrev pub noFault : Three
+noFault = record { code = allDone; line = 0; field = 0 }
+
+-- something is
+abbrev pub threeOf : Refusal → Three
+threeOf r = record { code = r .code; line = r .line; field = r .field }
