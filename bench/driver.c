@@ -67,7 +67,7 @@ static void new_holding(const char *folder) {
     char path[4096];
     undo();
     apply();
-    struct bytes file = written(undone), taken = written(out), back = lent(taken.length + file.length + 24576);
+    struct bytes file = written(undone), taken = written(out), back = lent(MUIWASH_ROOM(taken.length, file.length));
     if (answer[0]) fail("refused");
     snprintf(path, sizeof path, "%s/new.csv", folder);
     FILE *f = fopen(path, "wb");
@@ -104,8 +104,8 @@ int main(int argc, char **argv) {
         {"apply", apply}, {"undo", undo}, {"floor", touch_all}};
     if (argc < 3) fail("driver OPERATION FOLDER [RUNS]");
     holding = read_file(argv[2], "holding.csv"), change = read_file(argv[2], "change.csv");
-    out = lent(holding.length + change.length + 24576), work = lent(out.length);
-    undone = lent(holding.length + 2 * change.length + 12288);
+    out = lent(MUIWASH_ROOM(holding.length, change.length)), work = lent(out.length);
+    undone = lent(MUIWASH_UNDO_ROOM(holding.length, change.length));
     if (!strcmp(argv[1], "new")) return new_holding(argv[2]), 0;
     for (size_t i = 0; i < sizeof operations / sizeof *operations; i++)
         if (!strcmp(argv[1], operations[i].name)) return measure(operations[i].run, argc > 3 ? atoi(argv[3]) : 1, argc > 3), 0;

@@ -19,9 +19,9 @@ if [ "$(uname -m)" != x86_64 ]; then
   export QEMU_LD_PREFIX=/usr/x86_64-linux-gnu
 fi
 # The seven operations for C.
-archive=target/staticlib/libexports.a
+archive=target/staticlib/libmuiwash.a
 
-# COMMAND: the Debian packages that have it; nothing for one that Debian has too old.
+# COMMAND: the Debian packages that have it; nothing for rustc, which Debian has too old.
 packages_of() {
   case $1 in
   cc) echo gcc libc6-dev ;;
@@ -43,12 +43,27 @@ get_packages() {
   $get update >/dev/null 2>&1 && $get install --no-install-recommends "$@" >/dev/null 2>&1
 }
 
-# COMMAND ..: whether this machine has them all, or can be given them; `lacks` is the first that it hasn't.
+# COMMAND: what gets it, behind a colon.
+got_by() {
+  local packages
+  packages=$(packages_of "$1")
+  if [ "$1" = rustc ]; then
+    echo ': rustup gets it'
+  elif [ -n "$packages" ]; then
+    echo ": as root, \`apt-get install $packages\` gets it, and so does MUIWASH_INSTALL=1 before this command"
+  fi
+}
+
+# COMMAND ..: whether this machine has them all, or is given them, which MUIWASH_INSTALL=1 asks for and nothing else does; `lacks` says
+# which is the first that it hasn't, and what gets it.
 tools() {
-  for lacks; do
-    command -v "$lacks" >/dev/null && continue
+  local needed
+  for needed; do
+    command -v "$needed" >/dev/null && continue
     # shellcheck disable=SC2046
-    get_packages $(packages_of "$lacks") && command -v "$lacks" >/dev/null || return 1
+    [ "${MUIWASH_INSTALL:-}" = 1 ] && get_packages $(packages_of "$needed") && command -v "$needed" >/dev/null && continue
+    lacks="there is no $needed$(got_by "$needed")"
+    return 1
   done
 }
 
@@ -72,7 +87,7 @@ make_archive() {
   echo "proving the operations for C, for $archive" >&2
   local log
   log=$(mktemp)
-  if ! rt staticlib exports >"$log" 2>&1; then
+  if ! rt staticlib muiwash >"$log" 2>&1; then
     cat "$log" >&2
     exit 1
   fi

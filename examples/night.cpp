@@ -25,7 +25,7 @@ template <std::size_t N> static void print(const char *what, const std::array<st
 }
 // The new holding, empty on a refusal.
 static Bytes apply(const Bytes &holding, const Bytes &file, std::array<std::uint64_t, 6> &answer) {
-    Bytes out(holding.size() + file.size() + 24576);
+    Bytes out(MUIWASH_ROOM(holding.size(), file.size()));
     muiwash_apply(holding.data(), holding.size(), file.data(), file.size(), out.data(), out.size(), answer.data());
     trim(out);
     return out;
@@ -50,7 +50,7 @@ int main(int argc, char **argv) {
     std::cout << "BLPU 130000001, in force in the " << (six[3] ? "file" : "holding") << ": " << part(six[3] ? change : holding, six[4], six[5]) << "\n";
     muiwash_field(holding.data(), holding.size(), 2, 4, five.data());
     std::cout << "line 2, field 4: " << part(holding, five[3], five[4]) << "\n";
-    Bytes undo(holding.size() + 2 * change.size() + 12288), work(holding.size() + change.size() + 24576);
+    Bytes undo(MUIWASH_UNDO_ROOM(holding.size(), change.size())), work(MUIWASH_ROOM(holding.size(), change.size()));
     muiwash_undo(holding.data(), holding.size(), change.data(), change.size(), undo.data(), undo.size(), work.data(), work.size(), six.data());
     trim(undo);
     print("its undo", six);

@@ -18,16 +18,26 @@ def call(name, count, *arguments):
     return list(answer)
 
 
+def muiwash_room(holding, file):
+    """How long a buffer is always enough for the new holding and undo's work, as muiwash.h says it."""
+    return len(holding) + len(file) + 24576
+
+
+def muiwash_undo_room(holding, file):
+    """The same for the undo."""
+    return len(holding) + 2 * len(file) + 12288
+
+
 def apply(holding, file):
     """The six numbers, and the new holding, empty on a refusal."""
-    out = ctypes.create_string_buffer(len(holding) + len(file) + 24576)
+    out = ctypes.create_string_buffer(muiwash_room(holding, file))
     answer = call('muiwash_apply', 6, *lent(holding), *lent(file), out, ctypes.c_size_t(len(out)))
     return answer, out.raw.rstrip(b'\0')
 
 
 def undo(holding, file):
-    out = ctypes.create_string_buffer(len(holding) + 2 * len(file) + 12288)
-    work = ctypes.create_string_buffer(len(holding) + len(file) + 24576)
+    out = ctypes.create_string_buffer(muiwash_undo_room(holding, file))
+    work = ctypes.create_string_buffer(muiwash_room(holding, file))
     answer = call('muiwash_undo', 6, *lent(holding), *lent(file), out, ctypes.c_size_t(len(out)), work, ctypes.c_size_t(len(work)))
     return answer, out.raw.rstrip(b'\0')
 

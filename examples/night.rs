@@ -10,6 +10,14 @@ extern "C" {
     fn muiwash_field(bytes: *const u8, bytes_len: usize, line: u64, field: u64, answer: *mut [u64; 5]);
 }
 
+// How long a buffer is always enough, as muiwash.h says it: for the new holding and undo's work, and for the undo.
+fn muiwash_room(h: &[u8], f: &[u8]) -> usize {
+    h.len() + f.len() + 24576
+}
+fn muiwash_undo_room(h: &[u8], f: &[u8]) -> usize {
+    h.len() + 2 * f.len() + 12288
+}
+
 // What stands before the zeros.
 fn trimmed(mut b: Vec<u8>) -> Vec<u8> {
     b.truncate(b.iter().rposition(|&x| x != 0).map_or(0, |i| i + 1));
@@ -23,7 +31,7 @@ fn part(b: &[u8], start: u64, length: u64) -> String {
 }
 // The six numbers, and the new holding, empty on a refusal.
 fn apply(h: &[u8], f: &[u8]) -> ([u64; 6], Vec<u8>) {
-    let (mut answer, mut out) = ([0; 6], vec![0; h.len() + f.len() + 24576]);
+    let (mut answer, mut out) = ([0; 6], vec![0; muiwash_room(h, f)]);
     unsafe { muiwash_apply(h.as_ptr(), h.len(), f.as_ptr(), f.len(), out.as_mut_ptr(), out.len(), &mut answer) };
     (answer, trimmed(out))
 }
@@ -46,7 +54,7 @@ fn main() {
     println!("BLPU 130000001, in force in the {side}: {}", part(bytes, six[4], six[5]));
     unsafe { muiwash_field(h.as_ptr(), h.len(), 2, 4, &mut five) };
     println!("line 2, field 4: {}", part(&h, five[3], five[4]));
-    let (mut undo, mut work) = (vec![0; h.len() + 2 * c.len() + 12288], vec![0; h.len() + c.len() + 24576]);
+    let (mut undo, mut work) = (vec![0; muiwash_undo_room(&h, &c)], vec![0; muiwash_room(&h, &c)]);
     unsafe { muiwash_undo(h.as_ptr(), h.len(), c.as_ptr(), c.len(), undo.as_mut_ptr(), undo.len(), work.as_mut_ptr(), work.len(), &mut six) };
     print("its undo", &six);
     let (answer, back) = apply(&taken, &trimmed(undo));

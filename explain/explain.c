@@ -100,7 +100,7 @@ static struct bytes before(struct bytes holding, struct bytes file, uint64_t lin
     uint64_t answer[6];
     snprintf(ends, sizeof ends, "%s99,0,%" PRIu64 ",2000-01-01,000000\r\n", metadata, line - 2);
     struct bytes front = joined((struct bytes){file.start, (size_t)(line_of(file, line).start - file.start)}, text(ends));
-    size_t room = holding.length + front.length + 24576;
+    size_t room = MUIWASH_ROOM(holding.length, front.length);
     uint8_t *out = malloc(room);
     if (!out) exit(2);
     muiwash_apply(holding.start, holding.length, front.start, front.length, out, room, answer);
@@ -290,7 +290,7 @@ static void note_length(const char *path, struct bytes all) {
 /* apply's answer, with a buffer as long as the program's, or as long as is always enough where an input is too long for the program. */
 static void take(struct bytes holding, struct bytes file, uint64_t answer[6]) {
     size_t room = PROGRAM_ROOM;
-    if (holding.length > room || file.length > room) room = holding.length + file.length + 24576;
+    if (holding.length > room || file.length > room) room = MUIWASH_ROOM(holding.length, file.length);
     uint8_t *out = malloc(room);
     if (!out) exit(2);
     muiwash_apply(holding.start, holding.length, file.start, file.length, out, room, answer);

@@ -13,7 +13,7 @@
  * Memory. Nothing is allocated, kept or freed, and nothing is read or written but what is lent. A call needs up to 256 KiB of stack: give
  *   a thread of your own that much and some for itself.
  * Threads. There is no state: any number of threads may call at once, so long as no one writes what another call was lent.
- * Linking. libexports.a (made by `rt staticlib exports`) is x86-64 code for Linux, position independent, and needs C's memset alone.
+ * Linking. libmuiwash.a (made by `rt staticlib muiwash`) is x86-64 code for Linux, position independent, and needs C's memset alone.
  */
 #ifndef MUIWASH_H
 #define MUIWASH_H
@@ -49,6 +49,11 @@ enum muiwash_code {
     MUIWASH_NO_SUCH_PART = 19       /* no such line or field: 0, 0 */
 };
 
+/* How long a buffer is always enough, of the lengths in bytes of a holding and of a change file: for the new holding, and for undo's work;
+ * and for the undo. */
+#define MUIWASH_ROOM(holding_len, file_len) ((holding_len) + (file_len) + 24576)
+#define MUIWASH_UNDO_ROOM(holding_len, file_len) ((holding_len) + 2 * (file_len) + 12288)
+
 /* Checks a whole change file.
  * answer: code, line, field, and the body lines with CHANGE_TYPE I, U and D. Codes 0 to 9. */
 void muiwash_check_file(const uint8_t *file, size_t file_len, uint64_t answer[6]);
@@ -59,7 +64,7 @@ void muiwash_check_holding(const uint8_t *holding, size_t holding_len, uint64_t 
 
 /* Takes a change file into a holding.
  * out: the new holding, then zeros to out_len (no holding has a zero byte, so it ends where the zeros begin); on a refusal all zeros.
- * out_len: the holding must fit it before the first step and after each (else 13); holding_len + file_len + 24576 is always enough.
+ * out_len: the holding must fit it before the first step and after each (else 13); MUIWASH_ROOM(holding_len, file_len) is always enough.
  * answer: code, line, field, and the inserts, updates and deletes made. Codes 0 to 14 and 16. */
 void muiwash_apply(const uint8_t *holding, size_t holding_len, const uint8_t *file, size_t file_len, uint8_t *out, size_t out_len,
                    uint64_t answer[6]);
@@ -67,7 +72,7 @@ void muiwash_apply(const uint8_t *holding, size_t holding_len, const uint8_t *fi
 /* Writes the undo of a change file, made against the holding that the file meets: a change file in the same layout that, applied to the
  * holding that muiwash_apply leaves, gives this holding back byte for byte.
  * out: the undo, then zeros to out_len (no file has a zero byte in it); on a refusal all zeros.
- * out_len: holding_len + 2 * file_len + 12288 is always enough (else 17).
+ * out_len: MUIWASH_UNDO_ROOM(holding_len, file_len) is always enough (else 17).
  * work: all zeros afterwards. work_len stands for apply's out_len: give it the same length.
  * answer: code, line, field, and the file's own inserts, updates and deletes. Codes 0 to 14, 16 and 17. */
 void muiwash_undo(const uint8_t *holding, size_t holding_len, const uint8_t *file, size_t file_len, uint8_t *out, size_t out_len,

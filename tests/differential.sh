@@ -5,7 +5,7 @@ set -eu
 cd "$(dirname "$0")/.."
 . bin/tools.sh
 if ! tools $cc $emulator rustc cc; then
-  echo "differential: not run on this machine: there is no $lacks"
+  echo "differential: not run on this machine: $lacks"
   exit 0
 fi
 make_archive

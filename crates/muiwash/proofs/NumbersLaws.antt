@@ -1,0 +1,40 @@
+-- The code's numbers are the meaning's.
+use mathlib.Core.Path.{_≡_, refl, ap, _∙_}
+use mathlib.Core.List.{List, [], _∷_}
+use Prim.Native.Nat.{ℕ}
+use borrow.Author.Needs.{needs}
+use Rattle.base.specs.Lists.{pick}
+use Rattle.meaning.specs.Load.{Six, Three}
+use Rattle.meaning.specs.Enquiries.{Slice, first, second, Found}
+use Rattle.volume.specs.declared.check.Answer.{Answer}
+use Rattle.volume.specs.Answer.{answerOf}
+use Rattle.holding.specs.declared.check.Verdict.{Verdict}
+use Rattle.holding.specs.Verdict.{verdictOf}
+use Rattle.enquiries.specs.declared.finding.Finding.{Finding}
+use Rattle.enquiries.specs.Finding.{inFile, findingOf}
+use Rattle.enquiries.specs.Handed.{threeList}
+use Rattle.muiwash.specs.Numbers.{sixList, answerList, verdictList, partList, sideOf, sidedList, findingList, sidedFindingList}
+
+-- six
+pub six-told : (a : Answer) (s : Six) (l : List ℕ) → a ≡ answerOf s → l ≡ answerList a → l ≡ sixList s
+six-told a s l e w = w ∙ ap answerList e
+
+-- three
+pub three-told : (v : Verdict) (t : Three) (l : List ℕ) → v ≡ verdictOf t → l ≡ verdictList v → l ≡ threeList t
+three-told v t l e w = w ∙ ap verdictList e
+
+-- an enquiry's five
+pub part-told : (g : Finding) (f : Found) (l : List ℕ) → g ≡ findingOf f → l ≡ findingList g → l ≡ partList f
+unfolding findingOf
+part-told g f l e w = w ∙ ap findingList e
+
+-- its six, with the side
+pub sided-told : (g : Finding) (f : Found) (l : List ℕ) → g ≡ findingOf f → l ≡ sidedFindingList g → l ≡ sidedList f
+unfolding findingOf
+sided-told g f l e w = w ∙ ap sidedFindingList e ∙ side (f .slice)
+  where
+    side : (z : Slice) → f .answer .code ∷ f .answer .line ∷ f .answer .field ∷ pick (inFile z) 1 0 ∷ f .start ∷ f .size ∷ [] ≡ f .answer .code ∷ f .answer .line ∷ f .answer .field ∷ sideOf z ∷ f .start ∷ f .size ∷ []
+    side first = refl
+    side second = refl
+
+pub ruleset told = (needs, six-told, three-told, part-told, sided-told)
