@@ -4,8 +4,8 @@ use mathlib.Core.List.{List}
 use Prim.Native.Nat.{ℕ}
 use Rattle.meaning.specs.Table.{scottish}
 use Rattle.meaning.specs.Load.{apply}
-use Rattle.volume.specs.Answer.{answerOf}
-use Rattle.volume.specs.declared.check.Answer.{Answer}
+use Rattle.answers.specs.Meant.{answerOf}
+use Rattle.answers.specs.declared.numbers.Answer.{Answer}
 
 -- the promise: the numbers and the bytes are those of the definition
 abbrev pub Outcome : List ℕ → List ℕ → ℕ → Answer → List ℕ → Type 0

@@ -5,20 +5,20 @@ ghost use mathlib.Core.Path.{_≡_};
 ghost use Prim.Native.Nat.{_≤_};
 ghost use lib.ListN.{length};
 ghost use Rattle.meaning.specs.Holding.{written};
-ghost use Rattle.meaning.specs.Load.{filled};
+ghost use Rattle.meaning.specs.Load.{thenZeros};
 ghost use Rattle.places.specs.Places.{says};
 ghost use Rattle.apply.specs.Outcome.{Outcome};
 use layout::limits::File;
 use layout::limits::Holding;
 use loader::load::load;
 use loader::load::refuse;
-use volume::check::Answer;
+use answers::numbers::Answer;
 use writer::runs::write_holding;
 
 // The new holding, then zeros to the end of the output.
 pub fn fill(out: &mut [u8], holding: &[u8], file: &[u8], places: &[u64], count: usize)
     requires { ⌜ (count ≤ length (now places)) × (length (written (says (now holding) (now file) (now places) count)) ≤ length (now out)) ⌝ }
-    ensures { λ r. ⌜ now (out .exit) ≡ filled (length (now (out .entry))) (written (says (now (holding .entry)) (now (file .entry)) (now (places .entry)) count)) ⌝ }
+    ensures { λ r. ⌜ now (out .exit) ≡ thenZeros (length (now (out .entry))) (written (says (now (holding .entry)) (now (file .entry)) (now (places .entry)) count)) ⌝ }
 {
     let end = write_holding(&mut *out, holding, file, places, count);
     text::put::zeros(&mut out[end..]);

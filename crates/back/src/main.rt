@@ -8,7 +8,7 @@ use samples::put_text;
 use spoken::say;
 use spoken::say_six;
 use undo::undo;
-use volume::check::Answer;
+use answers::numbers::Answer;
 use volume::check::check_file;
 
 // The bytes of each buffer: a holding, a change file or an undo.

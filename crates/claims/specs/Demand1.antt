@@ -8,18 +8,19 @@ use lib.Dec.{T}
 use lib.ListN.{length, take, drop}
 use Rattle.base.specs.Lists.{zeros}
 use Rattle.meaning.specs.Table.{scottish}
-use Rattle.meaning.specs.Load.{Three, filled, checkFile, checkHolding, undoBytes}
+use Rattle.meaning.specs.Load.{thenZeros, checkFile, checkHolding}
 use Rattle.meaning.specs.Enquiries.{Found, find, inForce, fieldOf}
+use Rattle.meaning.specs.Answers.{Three}
+use Rattle.meaning.specs.Undo.{undoBytes}
 use Rattle.laws.specs.Rows.{Row, given, checkRows, holdingRows, applyRows, undoRows, findRows, forceRows, fieldRows, FoundIn, check-given, holding-given, apply-given, undo-given, find-given, force-given, field-given}
 use Rattle.laws.specs.Checks.{refused-counts}
 use Rattle.laws.specs.Demand2.{refused-zeros}
 use Rattle.laws.specs.Demand3.{undo-done}
 use Rattle.laws.specs.Buffers.{work-zeros, undo-output, undo-refused-zeros}
 use Rattle.laws.specs.Scottish.{scottish-regular}
-use Rattle.volume.specs.Answer.{answerOf}
-use Rattle.volume.specs.declared.check.Answer.{Answer}
-use Rattle.holding.specs.Verdict.{verdictOf}
-use Rattle.holding.specs.declared.check.Verdict.{Verdict}
+use Rattle.answers.specs.Meant.{answerOf, verdictOf}
+use Rattle.answers.specs.declared.numbers.Answer.{Answer}
+use Rattle.answers.specs.declared.numbers.Verdict.{Verdict}
 use Rattle.enquiries.specs.Handed.{threeList, Handed, lentAs, HandedOf}
 use Rattle.apply.specs.Outcome.{Outcome}
 use Rattle.undo.specs.Outcome.{UndoOutcome}
@@ -44,7 +45,7 @@ undo-refused old file room space r out work o n =
 
 -- on success the output holds the undo, then zeros to its end; apply's is demand 2's `new-holding`
 pub undo-filled : (old file : List ℕ) (room space : ℕ) (r : Answer) (out work : List ℕ) → UndoOutcome old file room space r out work → r .code ≡ 0
-    → (out ≡ filled room (undoBytes scottish old file)) × (length (undoBytes scottish old file) ≤ room)
+    → (out ≡ thenZeros room (undoBytes scottish old file)) × (length (undoBytes scottish old file) ≤ room)
 undo-filled old file room space r out work o e =
     let z = sym (ap (λ x. x .code) (o .0)) ∙ e in
     (o .1 ∙ undo-output scottish scottish-regular old file room space z, undo-done scottish scottish-regular old file room space z .3)

@@ -15,7 +15,8 @@ use Rattle.meaning.specs.Lines.{linesOf}
 use Rattle.meaning.specs.Table.{scottish}
 use Rattle.meaning.specs.Records.{Rec, keyed, changeText}
 use Rattle.meaning.specs.Holding.{written}
-use Rattle.meaning.specs.Load.{three, filled, checkHolding}
+use Rattle.meaning.specs.Load.{thenZeros, checkHolding}
+use Rattle.meaning.specs.Answers.{noFault}
 use Rattle.laws.specs.LinesAndFields.{ends}
 use Rattle.laws.specs.LinePart.{noLine}
 use Rattle.laws.specs.HoldingReadBack.{insertOf}
@@ -25,10 +26,9 @@ use Rattle.laws.specs.Takes.{new-fits}
 use Rattle.laws.specs.Find.{record-line}
 use Rattle.laws.specs.Demand2.{Allowed, afterAll, Lawful, Roomy, Whole, lawful-exactly, taken-exactly, allowed-takes, allowed-done, at-every-state, last-line, unnamed, new-sound}
 use Rattle.laws.specs.Scottish.{scottish-regular}
-use Rattle.volume.specs.Answer.{answerOf}
-use Rattle.volume.specs.declared.check.Answer.{Answer}
-use Rattle.holding.specs.Verdict.{verdictOf}
-use Rattle.holding.specs.declared.check.Verdict.{Verdict}
+use Rattle.answers.specs.Meant.{answerOf, verdictOf}
+use Rattle.answers.specs.declared.numbers.Answer.{Answer}
+use Rattle.answers.specs.declared.numbers.Verdict.{Verdict}
 use Rattle.apply.specs.Outcome.{Outcome}
 
 module _ (old file : List ℕ) (room : ℕ) (r : Answer) (out : List ℕ) (o : Outcome old file room r out) where
@@ -46,7 +46,7 @@ module _ (old file : List ℕ) (room : ℕ) (r : Answer) (out : List ℕ) (o : O
 
   module _ (a : Allowed scottish old file room) where
     -- the new holding is the old one with the file's inserts, updates and deletes made in their order, and zeros follow it
-    pub new-holding : (out ≡ filled room (written (afterAll scottish a))) × (length (written (afterAll scottish a)) ≤ room)
+    pub new-holding : (out ≡ thenZeros room (written (afterAll scottish a))) × (length (written (afterAll scottish a)) ≤ room)
     new-holding = (o .1 ∙ ap (λ x. x .output) (allowed-done scottish scottish-regular old file room a), new-fits scottish scottish-regular room old file _ (allowed-takes scottish scottish-regular old file room a))
 
     -- each counted in the answer
@@ -77,5 +77,5 @@ module _ (old file : List ℕ) (room : ℕ) (r : Answer) (out : List ℕ) (o : O
     )
 
     -- the new holding is sound: check_holding answers 0
-    pub new-checks : (v : Verdict) → v ≡ verdictOf (checkHolding scottish (written (afterAll scottish a))) → v ≡ verdictOf (three 0 0 0)
+    pub new-checks : (v : Verdict) → v ≡ verdictOf (checkHolding scottish (written (afterAll scottish a))) → v ≡ verdictOf (noFault 0 0 0)
     new-checks v e = e ∙ ap verdictOf (holding-checked scottish scottish-regular _ (afterAll scottish a) (new-sound scottish scottish-regular old file room a))

@@ -8,12 +8,14 @@ use lib.Dec.{T, leb, eqb}
 use lib.ListN.{length}
 use Rattle.base.specs.Lists.{pick}
 use Rattle.theory.specs.Step.{ins, upd, del, Change}
-use Rattle.theory.specs.Answer.{Read, fault, file, count}
+use Rattle.theory.specs.Answer.{fault, file, count}
 use Rattle.meaning.specs.Table.{scottish}
 use Rattle.meaning.specs.Records.{Rec, joined}
 use Rattle.meaning.specs.File.{Frame, Sheet, writeFile}
 use Rattle.meaning.specs.Holding.{written}
-use Rattle.meaning.specs.Load.{six, filled, checkFile, apply, undoBytes, undoFile}
+use Rattle.meaning.specs.Load.{six, thenZeros, checkFile, apply, undoFile}
+use Rattle.meaning.specs.Answers.{Read}
+use Rattle.meaning.specs.Undo.{undoBytes}
 use Rattle.laws.specs.SoundFile.{SoundFile, sound-read, read-sound}
 use Rattle.laws.specs.FileRefusals.{among}
 use Rattle.laws.specs.Takes.{Takes, taken, undo-takes, met-old}
@@ -22,8 +24,8 @@ use Rattle.laws.specs.Demand3.{stepsBack, undo-is, undo-sound, undo-checks, und
 use Rattle.laws.specs.UndoRefusals.{undo-refusals}
 use Rattle.laws.specs.Buffers.{undo-output}
 use Rattle.laws.specs.Scottish.{scottish-regular}
-use Rattle.volume.specs.Answer.{answerOf}
-use Rattle.volume.specs.declared.check.Answer.{Answer}
+use Rattle.answers.specs.Meant.{answerOf}
+use Rattle.answers.specs.declared.numbers.Answer.{Answer}
 use Rattle.apply.specs.Outcome.{Outcome}
 use Rattle.undo.specs.Outcome.{UndoOutcome}
 use Rattle.printed.specs.Printed.{bare}
@@ -60,13 +62,13 @@ abbrev pub undoOf : {old : List ℕ} {n : Night old} → Undo old n → List ℕ
 undoOf u = bare (u .out)
 
 -- lines stay whole before the zeros
-bare-filled : (room : ℕ) (ts : List (List ℕ)) → bare (filled room (joined ts)) ≡ joined ts
-unfolding filled
+bare-filled : (room : ℕ) (ts : List (List ℕ)) → bare (thenZeros room (joined ts)) ≡ joined ts
+unfolding thenZeros
 bare-filled room ts = bare-zeros (joined ts) (room - length (joined ts)) ∙ bare-joined ts
 
 -- the changes that a file says
 abbrev changes : Read Sheet → List (Change Rec)
-changes (fault c l f) = []
+changes (fault r) = []
 changes (file s) = s .1
 
 module _ (old : List ℕ) (n : Night old) where
@@ -114,7 +116,7 @@ module _ (old : List ℕ) (n : Night old) where
     unfolding writeFile
     undo-bytes =
         let e = undo-is scottish scottish-regular (n .room) old (n .file) (left n) takes in
-        ap bare (u .outcome .1 ∙ undo-output scottish scottish-regular old (n .file) (u .room) (u .space) (sym (ap (λ x. x .code) (u .outcome .0)) ∙ u .made) ∙ ap (filled (u .room)) e)
+        ap bare (u .outcome .1 ∙ undo-output scottish scottish-regular old (n .file) (u .room) (u .space) (sym (ap (λ x. x .code) (u .outcome .0)) ∙ u .made) ∙ ap (thenZeros (u .room)) e)
         ∙ bare-filled (u .room) _
         ∙ sym e
 
@@ -133,7 +135,7 @@ module _ (old : List ℕ) (n : Night old) where
 
     -- handed in over the holding that the file left, with a buffer as long as the one used going forward or longer, it is taken and gives back, byte for byte,
     -- the holding that stood before its file
-    pub gives-back : (room : ℕ) (r : Answer) (out : List ℕ) → n .room ≤ room → Outcome (left n) (undoOf u) room r out → (r .code ≡ 0) × (out ≡ filled room old) × (bare out ≡ old)
+    pub gives-back : (room : ℕ) (r : Answer) (out : List ℕ) → n .room ≤ room → Outcome (left n) (undoOf u) room r out → (r .code ≡ 0) × (out ≡ thenZeros room old) × (bare out ≡ old)
     unfolding written
     gives-back room r out h o =
         let t = takes in
@@ -141,7 +143,7 @@ module _ (old : List ℕ) (n : Night old) where
         let b = takes-more scottish scottish-regular (left n) (undoBytes scottish old (n .file)) old (n .room) room h (undo-takes scottish scottish-regular (n .room) old (n .file) (left n) t) in
         let e = ap (λ f. apply scottish (left n) f room) undo-bytes ∙ taken scottish scottish-regular room (left n) (undoBytes scottish old (n .file)) old b in
         let w = o .1 ∙ ap (λ x. x .output) e in
-        (ap (λ x. x .code) (o .0) ∙ ap (λ x. x .answer .code) e, w, ap bare w ∙ ap (λ x. bare (filled room x)) m ∙ bare-filled room _ ∙ sym m)
+        (ap (λ x. x .code) (o .0) ∙ ap (λ x. x .answer .code) e, w, ap bare w ∙ ap (λ x. bare (thenZeros room x)) m ∙ bare-filled room _ ∙ sym m)
 
     -- an empty body: the holding is unchanged and the undo is the file itself
     pub empty : (fr : Frame) → SoundFile scottish (n .file) fr [] → (left n ≡ old) × (undoOf u ≡ n .file)

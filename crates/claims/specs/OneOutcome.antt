@@ -9,10 +9,9 @@ use Rattle.meaning.specs.Table.{scottish}
 use Rattle.meaning.specs.Load.{checkFile, checkHolding}
 use Rattle.meaning.specs.Enquiries.{Found, find, inForce, fieldOf}
 use Rattle.laws.specs.Buffers.{one-outcome}
-use Rattle.volume.specs.Answer.{answerOf}
-use Rattle.volume.specs.declared.check.Answer.{Answer}
-use Rattle.holding.specs.Verdict.{verdictOf}
-use Rattle.holding.specs.declared.check.Verdict.{Verdict}
+use Rattle.answers.specs.Meant.{answerOf, verdictOf}
+use Rattle.answers.specs.declared.numbers.Answer.{Answer}
+use Rattle.answers.specs.declared.numbers.Verdict.{Verdict}
 use Rattle.enquiries.specs.Handed.{Handed, lentAs, HandedOf}
 use Rattle.apply.specs.Outcome.{Outcome}
 use Rattle.undo.specs.Outcome.{UndoOutcome}

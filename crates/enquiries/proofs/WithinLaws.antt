@@ -9,6 +9,7 @@ use Rattle.base.specs.Lists.{pick}
 use Rattle.meaning.specs.Lines.{Line, linesOf}
 use Rattle.meaning.specs.Enquiries.{Slice, first, second, Found, refusal, spanned}
 use Rattle.laws.specs.LinesAndFields.{unlines, lines-join}
+use Rattle.meaning.specs.Answers.{Refusal}
 use Rattle.enquiries.specs.declared.finding.Finding.{Finding}
 use Rattle.enquiries.specs.Finding.{findingOf}
 use Rattle.enquiries.specs.Handed.{lentAs}
@@ -19,9 +20,9 @@ abbrev pub Within : Found → List ℕ → List ℕ → Type 0
 Within f a b = f .start + f .size ≤ length (lentAs (f .slice) a b)
 
 -- an empty part
-pub nothing : (c l f : ℕ) (a b : List ℕ) → Within (refusal c l f) a b
+pub nothing : (r : Refusal) (a b : List ℕ) → Within (refusal r) a b
 unfolding refusal
-nothing c l f a b = omega arith
+nothing r a b = omega arith
 
 -- ---- a line
 

@@ -1,6 +1,7 @@
 -- What an enquiry finds, as code answers it.
 use mathlib.Core.Bool.{Bool, true, false}
 use Rattle.meaning.specs.Enquiries.{Slice, first, second, Found}
+use Rattle.answers.specs.Meant.{verdictOf}
 use Rattle.enquiries.specs.declared.finding.Finding.{Finding}
 
 -- whether a part stands in the file, the second of the slices that are lent
@@ -15,4 +16,4 @@ sliceOf true = second
 
 -- number by number
 unfoldable pub findingOf : Found → Finding
-findingOf f = record { code = f .answer .code; line = f .answer .line; field = f .answer .field; infile = inFile (f .slice); start = f .start; size = f .size }
+findingOf f = record { answer = verdictOf (f .answer); infile = inFile (f .slice); start = f .start; size = f .size }

@@ -7,14 +7,10 @@ use denote.Ref.{RefT}
 use lib.Dec.{leb}
 use lib.ListN.{length, getD, take, drop}
 use Rattle.meaning.specs.Lines.{linesOf}
-use Rattle.meaning.specs.Load.{Three}
 use Rattle.meaning.specs.Enquiries.{Slice, first, second, Found, spanned}
+use Rattle.answers.specs.Meant.{threeList}
 use Rattle.text.specs.Parts.{StandsIn}
 use Rattle.enquiries.specs.declared.lines.Span.{Span}
-
--- the three numbers in their order
-abbrev pub threeList : Three → List ℕ
-threeList t = t .code ∷ t .line ∷ t .field ∷ []
 
 -- the numbers that were answered, and the part r of the slice s
 pub record Handed (f : Found) (s r : RefT (List ℕ)) (answer : List ℕ) : Type 0 where

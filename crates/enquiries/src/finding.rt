@@ -4,27 +4,28 @@ ghost use Prim.Native.Nat.{_≤_, _-_};
 ghost use lib.ListN.{length};
 ghost use Rattle.meaning.specs.Lines.{linesOf};
 ghost use Rattle.meaning.specs.Enquiries.{refusal, partOf};
+ghost use Rattle.answers.specs.Meant.{refusalMeant};
 ghost use Rattle.enquiries.specs.Finding.{sliceOf, findingOf};
+use answers::numbers::Verdict;
+use answers::numbers::faulted;
+use answers::numbers::passed;
+use answers::refusal::Refusal;
 use crate::lines::line_at;
 
-// Code, line and field; whether the part stands in the file, its start and its size.
+// The three numbers; whether the part stands in the file, its start and its size.
 pub struct Finding {
-    pub code: u64,
-    pub line: u64,
-    pub field: u64,
+    pub answer: Verdict,
     pub infile: bool,
     pub start: usize,
     pub size: usize,
 }
 
 // A refusal: an empty part.
-pub fn refusal(code: u64, line: u64, field: u64) -> Finding
-    ensures { λ r. ⌜ r ≡ findingOf (refusal code line field) ⌝ }
+pub fn refusal(why: Refusal) -> Finding
+    ensures { λ r. ⌜ r ≡ findingOf (refusal (refusalMeant why)) ⌝ }
 {
     Finding {
-        code,
-        line,
-        field,
+        answer: faulted(why),
         infile: false,
         start: 0,
         size: 0,
@@ -38,9 +39,7 @@ pub fn line_found(s: &[u8], n: u64, infile: bool) -> Finding
 {
     let line = line_at(s, n);
     Finding {
-        code: 0,
-        line: 0,
-        field: 0,
+        answer: passed(),
         infile,
         start: line.start,
         size: line.end - line.start,

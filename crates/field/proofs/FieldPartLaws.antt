@@ -10,8 +10,12 @@ use lib.Dec.{leb}
 use lib.ListN.{length, getD, take, drop, length-take, length-drop}
 use Rattle.base.specs.Lists.{pick}
 use Rattle.meaning.specs.Lines.{fieldsOf, oddQuotes}
-use Rattle.meaning.specs.Load.{three}
 use Rattle.meaning.specs.Enquiries.{Found, first, refusal, fieldsSpanned, fieldPart, fieldIn, fieldOf}
+use Rattle.meaning.specs.Answers.{noFault, alone}
+use Rattle.meaning.specs.Codes.{noSuchPart}
+use Rattle.answers.specs.declared.numbers.Verdict.{Verdict}
+use Rattle.answers.specs.Meant.{verdictOf}
+use Rattle.enquiries.proofs.HandLaws.{refusal-made}
 use Rattle.text.specs.Places.{fieldCount, fieldEnd, fieldStart, FieldAt}
 use Rattle.enquiries.specs.declared.lines.Span.{Span}
 use Rattle.enquiries.specs.declared.finding.Finding.{Finding}
@@ -74,20 +78,20 @@ pub ruleset fieldat = (needs, field-zero, field-past, field-there)
 
 -- the field's part, where there is one
 abbrev there : ℕ → List ℕ → ℕ → Found
-there at t f = record { answer = three 0 0 0; slice = first; start = at + fieldsSpanned (take (f - 1) (fieldsOf t)); size = length (getD (fieldsOf t) (f - 1) []) }
+there at t f = record { answer = noFault; slice = first; start = at + fieldsSpanned (take (f - 1) (fieldsOf t)); size = length (getD (fieldsOf t) (f - 1) []) }
 
 -- the meaning's questions as one
-in-line : (at : ℕ) (t : List ℕ) (f : ℕ) → fieldIn at t f ≡ pick (not (oddQuotes t) && (leb 1 f && leb f (length (fieldsOf t)))) (there at t f) (refusal 19 0 0)
+in-line : (at : ℕ) (t : List ℕ) (f : ℕ) → fieldIn at t f ≡ pick (not (oddQuotes t) && (leb 1 f && leb f (length (fieldsOf t)))) (there at t f) (refusal (alone noSuchPart))
 unfolding fieldIn fieldPart
 in-line at t f = go (oddQuotes t)
   where
-    go : (b : Bool) → pick b (refusal 19 0 0) (pick (leb 1 f && leb f (length (fieldsOf t))) (there at t f) (refusal 19 0 0)) ≡ pick (not b && (leb 1 f && leb f (length (fieldsOf t)))) (there at t f) (refusal 19 0 0)
+    go : (b : Bool) → pick b (refusal (alone noSuchPart)) (pick (leb 1 f && leb f (length (fieldsOf t))) (there at t f) (refusal (alone noSuchPart))) ≡ pick (not b && (leb 1 f && leb f (length (fieldsOf t)))) (there at t f) (refusal (alone noSuchPart))
     go true = refl
     go false = refl
 
 module _ (b : List ℕ) (l f : ℕ) (x : Finding) (r : Span) (w : LineIs b l r) where
   -- no such line
-  pub found-no-line : r .known ≡ false → x ≡ findingOf (refusal 19 0 0) → x ≡ findingOf (fieldOf b l f)
+  pub found-no-line : r .known ≡ false → x ≡ findingOf (refusal (alone noSuchPart)) → x ≡ findingOf (fieldOf b l f)
   unfolding fieldOf
   found-no-line k s = rw (sym (w .exists) ∙ k) s
 
@@ -102,12 +106,12 @@ module _ (b : List ℕ) (l f : ℕ) (x : Finding) (r : Span) (w : LineIs b l r) 
     in-bytes = rw (sym (w .exists) ∙ k, ← (w .starts k), ← (w .text k))
 
     -- no such field
-    pub found-no-field : q .known ≡ false → x ≡ findingOf (refusal 19 0 0) → x ≡ findingOf (fieldOf b l f)
+    pub found-no-field : q .known ≡ false → x ≡ findingOf (refusal (alone noSuchPart)) → x ≡ findingOf (fieldOf b l f)
     found-no-field m s = rw (in-bytes, in-line (r .start) text f, sym (v .exists) ∙ m) s
 
     -- the field, where it stands
-    pub found-field : q .known ≡ true → record { code = 0; line = 0; field = 0; infile = false; start = r .start + q .start; size = q .end - q .start } ≡ findingOf (fieldOf b l f)
+    pub found-field : q .known ≡ true → (y : Verdict) → y ≡ verdictOf noFault → record { answer = y; infile = false; start = r .start + q .start; size = q .end - q .start } ≡ findingOf (fieldOf b l f)
     unfolding findingOf
-    found-field m = rw (in-bytes, in-line (r .start) text f, sym (v .exists) ∙ m, ← (v .starts m), ← (v .size m)) refl
+    found-field m y z = rw (z, in-bytes, in-line (r .start) text f, sym (v .exists) ∙ m, ← (v .starts m), ← (v .size m)) refl
 
-pub ruleset fieldfound = (needs, not-true, not-false, found-no-line, found-no-field, found-field)
+pub ruleset fieldfound = (needs, refusal-made, not-true, not-false, found-no-line, found-no-field, found-field)

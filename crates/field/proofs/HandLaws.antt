@@ -10,9 +10,10 @@ use lib.Dec.{leb}
 use lib.ListN.{length, getD, take, length-append}
 use Rattle.base.specs.Lists.{pick}
 use Rattle.meaning.specs.Lines.{linesOf, fieldsOf, oddQuotes}
-use Rattle.meaning.specs.Load.{three}
 use Rattle.meaning.specs.Enquiries.{first, refusal, spanned, fieldsSpanned, fieldPart, fieldIn, fieldOf}
+use Rattle.meaning.specs.Answers.{noFault, alone}
 use Rattle.laws.specs.LinesAndFields.{commas, fields-commas}
+use Rattle.meaning.specs.Codes.{noSuchPart}
 use Rattle.enquiries.specs.declared.finding.Finding.{Finding}
 use Rattle.enquiries.specs.Finding.{findingOf}
 use Rattle.enquiries.proofs.LineSeekLaws.{noLine}
@@ -42,18 +43,18 @@ field-within a b l f = line (leb 1 l && leb l (length (linesOf a)))
     inside u v = omega (arith, line-within a (l - 1), fields-fit (fieldsOf t) (f - 1) (omega (arith, leb-true 1 f u, leb-true f (length (fieldsOf t)) v)), ap length (fields-commas false t .0))
 
     field : (x y : Bool) → leb 1 f ≡ x → leb f (length (fieldsOf t)) ≡ y
-        → Within (pick (x && y) (record { answer = three 0 0 0; slice = first; start = at + fieldsSpanned (take (f - 1) (fieldsOf t)); size = length (getD (fieldsOf t) (f - 1) []) }) (refusal 19 0 0)) a b
+        → Within (pick (x && y) (record { answer = noFault; slice = first; start = at + fieldsSpanned (take (f - 1) (fieldsOf t)); size = length (getD (fieldsOf t) (f - 1) []) }) (refusal (alone noSuchPart))) a b
     field true true u v = inside u v
-    field true false u v = nothing 19 0 0 a b
-    field false y u v = nothing 19 0 0 a b
+    field true false u v = nothing (alone noSuchPart) a b
+    field false y u v = nothing (alone noSuchPart) a b
 
-    quotes : (o : Bool) → Within (pick o (refusal 19 0 0) (fieldPart at (fieldsOf t) f)) a b
-    quotes true = nothing 19 0 0 a b
+    quotes : (o : Bool) → Within (pick o (refusal (alone noSuchPart)) (fieldPart at (fieldsOf t) f)) a b
+    quotes true = nothing (alone noSuchPart) a b
     quotes false = field (leb 1 f) (leb f (length (fieldsOf t))) refl refl
 
-    line : (c : Bool) → Within (pick c (fieldIn at t f) (refusal 19 0 0)) a b
+    line : (c : Bool) → Within (pick c (fieldIn at t f) (refusal (alone noSuchPart))) a b
     line true = quotes (oddQuotes t)
-    line false = nothing 19 0 0 a b
+    line false = nothing (alone noSuchPart) a b
 
 -- a field
 pub field-fits : (a : List ℕ) (l f : ℕ) (g : Finding) → g ≡ findingOf (fieldOf a l f) → g .start + g .size ≤ length a

@@ -4,6 +4,9 @@ ghost use Rattle.meaning.specs.Enquiries.{fieldOf};
 ghost use Rattle.enquiries.specs.Finding.{findingOf};
 ghost use Rattle.enquiries.specs.Handed.{Handed};
 ghost use Rattle.field.specs.FieldIs.{FieldIs};
+use answers::codes::NO_SUCH_PART;
+use answers::numbers::passed;
+use answers::refusal::Refusal;
 use enquiries::finding::Finding;
 use enquiries::finding::refusal;
 use enquiries::hand::hand;
@@ -50,16 +53,14 @@ pub fn find_field(bytes: &[u8], line: u64, number: u64) -> Finding
     let at = l.start;
     let end = l.end;
     if !l.known {
-        return refusal(19, 0, 0);
+        return refusal(Refusal::alone(NO_SUCH_PART));
     }
     let f = field_at(&bytes[at..end], number);
     if !f.known {
-        return refusal(19, 0, 0);
+        return refusal(Refusal::alone(NO_SUCH_PART));
     }
     Finding {
-        code: 0,
-        line: 0,
-        field: 0,
+        answer: passed(),
         infile: false,
         start: at + f.start,
         size: f.end - f.start,

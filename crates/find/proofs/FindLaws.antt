@@ -33,12 +33,16 @@ use Rattle.keys.specs.Numbers.{keyNumbers, numbered}
 use Rattle.keys.specs.KeyLaws.{Agree, get-alike, rank-alike, asc-numbered, number-agrees}
 use Rattle.keys.specs.FieldLaws.{numbersIn, narrow}
 use Rattle.theory.specs.ReadBack.{Sound}
-use Rattle.theory.specs.Run.{inserts}
+use Rattle.theory.specs.Run.{asInserts}
+use Rattle.meaning.specs.Steps.{heldTests}
 use Rattle.laws.specs.LinesAndFields.{endsAll}
 use Rattle.laws.specs.SoundHolding.{held-is-sound}
 use Rattle.laws.specs.Body.{fine}
-use Rattle.laws.specs.HoldingReadBack.{always, holding, heldRecords}
+use Rattle.laws.specs.HoldingReadBack.{holding, heldRecords}
 use Rattle.laws.specs.Scottish.{scottish-regular}
+use Rattle.meaning.specs.Codes.{keyAbsent, holdingUnsound, kindNotAsked}
+use Rattle.meaning.specs.Answers.{ofLine, atLine, alone}
+use Rattle.enquiries.proofs.HandLaws.{refusal-made}
 use Rattle.holding.specs.declared.read.Held.{Held}
 use Rattle.holding.specs.Read.{faultOf, recordsOf, HeldIs}
 use Rattle.holding.proofs.ReadLaws.{held-sound}
@@ -187,7 +191,7 @@ line-in k st n = go (some? (get numbered k st)) (λ e. rank-in k st e) n
     go false h n = absurd (n refl)
 
 -- a holding has as many lines as records
-count-lines : (n : ℕ) (st : List Rec) → length (endsAll (changeTexts n (inserts st))) ≡ length st
+count-lines : (n : ℕ) (st : List Rec) → length (endsAll (changeTexts n (asInserts st))) ≡ length st
 unfolding changeTexts
 count-lines n [] = refl
 count-lines n (r ∷ rs) = ap suc (count-lines (suc n) rs)
@@ -202,7 +206,7 @@ module _ (s a o : List ℕ) (r : Held) (kind n : ℕ) (w : Enquired s a o r kind
   sounds : readHolding scottish s ≡ sound st
   sounds = held-sound s (sym (w .read .line) ∙ w .sound)
 
-  state : Sound (keyed scottish) (fine scottish) (always scottish) st
+  state : Sound (keyed scottish) (fine scottish) (heldTests scottish) st
   unfolding heldRecords
   state = holding scottish scottish-regular .holds s st (ap heldRecords sounds) .1
 
@@ -236,7 +240,7 @@ module _ (s a o : List ℕ) (r : Held) (kind n : ℕ) (w : Enquired s a o r kind
 
     module _ (x : Finding) where
       -- 11 for an absent key
-      pub held-absent : l ≡ 0 → x ≡ findingOf (refusal 11 0 0) → x ≡ findingOf (heldPart s (heldAt scottish (kind ∷ n ∷ []) 0 st))
+      pub held-absent : l ≡ 0 → x ≡ findingOf (refusal (alone keyAbsent)) → x ≡ findingOf (heldPart s (heldAt scottish (kind ∷ n ∷ []) 0 st))
       unfolding heldPart
       held-absent u v = rw (place, eq-eqb l 0 u) v
 
@@ -245,7 +249,7 @@ module _ (s a o : List ℕ) (r : Held) (kind n : ℕ) (w : Enquired s a o r kind
       unfolding heldPart
       held-there u v = rw (place, ne-eqb l 0 u) v
 
-pub ruleset held = (needs, held-few, held-space, held-tagged, held-asc, held-in, held-absent, held-there)
+pub ruleset held = (needs, refusal-made, held-few, held-space, held-tagged, held-asc, held-in, held-absent, held-there)
 
 -- ---- find
 
@@ -255,12 +259,12 @@ enquired h a o c r kind b e t w z l m = record { asked = sym e ∙ t; counts = c
 
 module _ (s : List ℕ) (kind n : ℕ) (x : Finding) (b : Bool) (e : b ≡ some? (numberedAmong enquiries kind)) where
   -- 15 for a kind that can't be asked for
-  pub find-other : b ≡ false → x ≡ findingOf (refusal 15 0 0) → x ≡ findingOf (find scottish s kind n)
+  pub find-other : b ≡ false → x ≡ findingOf (refusal (alone kindNotAsked)) → x ≡ findingOf (find scottish s kind n)
   unfolding find findKind
   find-other f w = rw (no-kind kind b e f) w
 
   -- 14 for an unsound holding
-  pub find-unsound : (r : Held) (a o t : List ℕ) → b ≡ true → HeldIs s r a o t → (r .line ≡ 0 → ⊥) → x ≡ findingOf (refusal 14 (r .line) 0) → x ≡ findingOf (find scottish s kind n)
+  pub find-unsound : (r : Held) (a o t : List ℕ) → b ≡ true → HeldIs s r a o t → (r .line ≡ 0 → ⊥) → x ≡ findingOf (refusal (atLine (r .line) (ofLine holdingUnsound))) → x ≡ findingOf (find scottish s kind n)
   unfolding find findKind findIn
   find-unsound r a o t f h z w = rw (asked-is kind (sym e ∙ f) .known, unsounds s r a o t h z) w
 
@@ -270,7 +274,7 @@ module _ (s : List ℕ) (kind n : ℕ) (x : Finding) (b : Bool) (e : b ≡ some?
   unfolding find findKind findIn
   find-held r a o t f h z w = let k = asked-is kind (sym e ∙ f) in rw (k .known, held-sound s (sym (h .line) ∙ z), ← (k .number)) w
 
-pub ruleset finds = (needs, not-true, not-false, find-other, find-unsound, find-held)
+pub ruleset finds = (needs, refusal-made, not-true, not-false, find-other, find-unsound, find-held)
 
 -- ---- the line of a key
 

@@ -10,6 +10,8 @@ use Rattle.meaning.specs.Kinds.{Kind, numberedAmong}
 use Rattle.meaning.specs.Table.{enquiries, scottish}
 use Rattle.meaning.specs.Holding.{Held, sound, unsound, readHolding}
 use Rattle.meaning.specs.Enquiries.{first, partOf, heldAt, heldPart, findIn, findKind, find}
+use Rattle.meaning.specs.Codes.{keyAbsent, holdingUnsound, kindNotAsked}
+use Rattle.meaning.specs.Answers.{ofLine, atLine, alone}
 use Rattle.enquiries.specs.declared.finding.Finding.{Finding}
 use Rattle.enquiries.specs.Finding.{findingOf}
 use Rattle.enquiries.proofs.WithinLaws.{Within, nothing, line-within, either}
@@ -22,7 +24,7 @@ first-within a b i = line-within a i
 -- the held line, or an empty part
 pub held-within : (a b : List ℕ) (o : Option ℕ) → Within (heldPart a o) a b
 unfolding heldPart
-held-within a b none = nothing 11 0 0 a b
+held-within a b none = nothing (alone keyAbsent) a b
 held-within a b (some i) = first-within a b i
 
 find-within : (a b : List ℕ) (kind n : ℕ) → Within (find scottish a kind n) a b
@@ -30,11 +32,11 @@ unfolding find findKind findIn
 find-within a b kind n = asked (numberedAmong enquiries kind)
   where
     holds : (q : List ℕ) (h : Held) → Within (findIn scottish a q h) a b
-    holds q (unsound m) = nothing 14 m 0 a b
+    holds q (unsound m) = nothing (atLine m (ofLine holdingUnsound)) a b
     holds q (sound st) = held-within a b (heldAt scottish q 0 st)
 
     asked : (k : Option Kind) → Within (findKind scottish a n k) a b
-    asked none = nothing 15 0 0 a b
+    asked none = nothing (alone kindNotAsked) a b
     asked (some k) = holds _ (readHolding scottish a)
 
 -- the line that find finds

@@ -16,6 +16,10 @@ ghost use Rattle.holding.specs.Read.{recordsOf};
 ghost use Rattle.enquiries.specs.Finding.{findingOf};
 ghost use Rattle.enquiries.specs.Handed.{Handed};
 ghost use Rattle.find.specs.Found.{lineFound, Enquired};
+use answers::codes::HOLDING_UNSOUND;
+use answers::codes::KEY_ABSENT;
+use answers::codes::KIND_NOT_ASKED;
+use answers::refusal::Refusal;
 use enquiries::finding::Finding;
 use enquiries::finding::line_found;
 use enquiries::finding::refusal;
@@ -77,7 +81,7 @@ pub fn held_line(
 {
     let n = line_of(holding, starts, tags, held.count, asked_key(kind, number));
     if n == 0 {
-        return refusal(11, 0, 0);
+        return refusal(Refusal::alone(KEY_ABSENT));
     }
     line_found(holding, n as u64, false)
 }
@@ -87,14 +91,14 @@ pub fn find_line(holding: &[u8], kind: u64, number: u64) -> Finding
     ensures { λ r. ⌜ r ≡ findingOf (find scottish (now (holding .entry)) kind number) ⌝ }
 {
     if !is_enquired(kind) {
-        return refusal(15, 0, 0);
+        return refusal(Refusal::alone(KIND_NOT_ASKED));
     }
     let mut starts = [0u64; Holding::MOST_LINES];
     let mut tags = [0u64; Holding::MOST_LINES];
     let mut counts = [0u16; Holding::MOST_LINES];
     let held = read_holding(holding, &mut starts, &mut tags, &mut counts);
     if held.line != 0 {
-        return refusal(14, held.line as u64, 0);
+        return refusal(Refusal::of_line(held.line as u64, HOLDING_UNSOUND));
     }
     held_line(holding, &starts, &tags, held, kind, number)
 }

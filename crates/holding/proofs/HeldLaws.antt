@@ -24,7 +24,7 @@ use Rattle.meaning.specs.Records.{contentOf, letter}
 use Rattle.meaning.specs.Holding.{isHeld, isSound, heldTest, heldKind, heldLine}
 use Rattle.text.specs.Front.{inFront}
 use Rattle.text.proofs.NumberLaws.{width-most}
-use Rattle.layout.specs.declared.check.Fault.{Fault}
+use Rattle.answers.specs.declared.refusal.Fault.{Fault}
 use Rattle.layout.specs.declared.kinds.Kind as code
 use Rattle.layout.specs.declared.kinds.KindFound.{KindFound}
 use Rattle.layout.specs.declared.kinds.KindFound.the-variants.{Known, Unknown}

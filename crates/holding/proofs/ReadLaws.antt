@@ -15,13 +15,12 @@ use Rattle.base.specs.Lists.{all, pick, zeros}
 use Rattle.base.specs.Tests.{and-l}
 use Rattle.base.specs.ListLaws.{append-all}
 use Rattle.theory.specs.Store.{Asc}
-use Rattle.theory.specs.Limits.{most}
 use Rattle.theory.specs.Refs.{meets}
 use Rattle.meaning.specs.Lines.{Line, linesOf}
 use Rattle.meaning.specs.Table.{scottish}
 use Rattle.meaning.specs.Records.{Rec, keyOf, keyed, refsOf}
 use Rattle.meaning.specs.Holding as meaning
-use Rattle.meaning.specs.Holding.{sound, unsound, heldLine, addRec, above, onHeld, scan, referring, onScan, readHolding}
+use Rattle.meaning.specs.Holding.{sound, unsound, heldLine, addRec, above, onHeld, scan, referring, onScan, readHolding, mostRecords}
 use Rattle.meaning.specs.Load.{heldNumbers, checkHolding}
 use Rattle.laws.specs.Body.{fine}
 use Rattle.laws.specs.HoldingReadBack.{Scanned, Reads, scanned}
@@ -38,7 +37,7 @@ use Rattle.places.proofs.MetLaws.{asc-told}
 use Rattle.places.proofs.CountLaws.{refs-few, tally-few, tally-more, by-cong, by-nothing, count-all, open-up, has-all}
 use Rattle.holding.specs.declared.read.Held.{Held}
 use Rattle.holding.specs.Read.{faultOf, recordsOf, Listed, ReadAs, CountsAs, HeldIs}
-use Rattle.holding.specs.Verdict.{verdictOf}
+use Rattle.answers.specs.Meant.{verdictOf}
 
 -- ---- references, i records on
 
@@ -139,7 +138,7 @@ scan-counted n lo (l ∷ ls) = go (heldLine scottish (suc n) l) (λ r. scan-coun
 
     go : (o : Option Rec) → ((r : Rec) → Counted (scan scottish (suc (suc n)) (some (keyOf scottish r)) ls)) → Counted (onHeld scottish (suc n) lo o (λ r. scan scottish (suc (suc n)) (some (keyOf scottish r)) ls))
     go none i = λ z. omega (arith, z)
-    go (some r) i = when (above scottish lo r && leb (suc n) most) r (i r)
+    go (some r) i = when (above scottish lo r && leb (suc n) mostRecords) r (i r)
 
 -- the pass for references keeps the records
 abbrev Refers : List Rec → meaning.Held → Type 0

@@ -18,14 +18,13 @@ use Rattle.base.specs.ListLaws.{all-snoc}
 use Rattle.theory.specs.Tri.{lt, isLt}
 use Rattle.theory.specs.Lex.{andThen, lex}
 use Rattle.theory.specs.LexLaws.{is-cmpN}
-use Rattle.theory.specs.Limits.{most}
 use Rattle.theory.specs.Decimal.{value, valueF}
 use Rattle.meaning.specs.Lines.{Line, linesOf}
 use Rattle.meaning.specs.Kinds.{Kind, kinds, ident}
 use Rattle.meaning.specs.Table.{scottish}
 use Rattle.meaning.specs.Records.{Rec, contentOf, keyOf}
 use Rattle.meaning.specs.Holding as meaning
-use Rattle.meaning.specs.Holding.{sound, unsound, heldLine, addRec, above, onHeld, scan}
+use Rattle.meaning.specs.Holding.{sound, unsound, heldLine, addRec, above, onHeld, scan, mostRecords}
 use Rattle.laws.specs.Kinds.{every}
 use Rattle.laws.specs.Body.{fine}
 use Rattle.laws.specs.HoldingReadBack.{HeldIs, held-out}
@@ -66,11 +65,11 @@ module _ (h : List ℕ) (at e n : ℕ) (q : List ℕ) where
   judged = take (e - at) (drop at h)
 
   -- line 8,193 is the fault
-  pub next-many : (m : ℕ) → m ≡ most → m < n → none ≡ nextAs n q (recordUpTo h at e n)
+  pub next-many : (m : ℕ) → m ≡ mostRecords → m < n → none ≡ nextAs n q (recordUpTo h at e n)
   next-many m l o = go (recordUpTo h at e n)
     where
-      no : (c : Bool) (k : List ℕ) → none ≡ keepIf (c && leb n most) k
-      no true k = unfold keepIf in (rw (lt-leb n most (omega arith)))
+      no : (c : Bool) (k : List ℕ) → none ≡ keepIf (c && leb n mostRecords) k
+      no true k = unfold keepIf in (rw (lt-leb n mostRecords (omega arith)))
       no false k = unfold keepIf in refl
 
       go : (o : Option Rec) → none ≡ nextAs n q o
@@ -98,16 +97,16 @@ module _ (h : List ℕ) (at e n : ℕ) (q : List ℕ) where
       unfolding lineAt
       content-here = f ∙ content-three (lineAt h at) ∙ rw (ends-there h at e i (sym u ∙ well))
 
-      next-by : nextAs n q (recordUpTo h at e n) ≡ keepIf (isLt (triOf x) && leb n most) j
+      next-by : nextAs n q (recordUpTo h at e n) ≡ keepIf (isLt (triOf x) && leb n mostRecords) j
       unfolding recordAs nextAs
       next-by =
           let y : keyNumbers (record { kind = kindMeant k; content = contentOf judged }) ≡ j = sym (v ∙ rw content-here) in
           rw (← u, ← p, l, y, ← w)
 
       -- a key after the one before is taken
-      pub next-taken : (m : ℕ) → m ≡ most → n ≤ m → x ≡ Before → some j ≡ nextAs n q (recordUpTo h at e n)
+      pub next-taken : (m : ℕ) → m ≡ mostRecords → n ≤ m → x ≡ Before → some j ≡ nextAs n q (recordUpTo h at e n)
       unfolding keepIf
-      next-taken m g r s = sym (next-by ∙ rw (s, le-leb n most (omega arith)))
+      next-taken m g r s = sym (next-by ∙ rw (s, le-leb n mostRecords (omega arith)))
 
       -- the same key is out of order
       pub next-same : x ≡ Same → none ≡ nextAs n q (recordUpTo h at e n)
@@ -148,7 +147,7 @@ pub record Scanning (h a g : List ℕ) (n at : ℕ) (k : List ℕ) : Type 0 wher
   pub beside : Beside k lo
   pub even : T (all (λ v. eqb (v % 2) 0) (take n a))
   pub tagged : take n g ≡ byKey tagOf (says h h a n)
-  pub few : n ≤ most
+  pub few : n ≤ mostRecords
 
 -- every kind's number is above 0
 kind-low : (k : Kind) → 0 < value (ident k)
@@ -186,7 +185,7 @@ record Took (m : ℕ) (lo : Option (List ℕ)) (o : Option Rec) (go : Rec → me
   pub sounds : T (fine scottish taken)
   pub key : j ≡ keyNumbers taken
   pub goes : onHeld scottish m lo o go ≡ addRec taken (go taken)
-  pub few : m ≤ most
+  pub few : m ≤ mostRecords
 
 abbrev Nexts : ℕ → Option (List ℕ) → Option Rec → (Rec → meaning.Held) → Option (List ℕ) → Type 0
 Nexts m lo o go none = onHeld scottish m lo o go ≡ unsound m
@@ -195,10 +194,10 @@ Nexts m lo o go (some j) = Took m lo o go j
 next-in : (m : ℕ) (k : List ℕ) (lo : Option (List ℕ)) → Beside k lo → (o : Option Rec) → FineIn o → (go : Rec → meaning.Held) → Nexts m lo o go (nextAs m k o)
 unfolding nextAs onHeld
 next-in m k lo b none f go = refl
-next-in m k lo b (some r) f go = rw (b r f) (when (above scottish lo r && leb m most) refl)
+next-in m k lo b (some r) f go = rw (b r f) (when (above scottish lo r && leb m mostRecords) refl)
   where
-    when : (c : Bool) → (above scottish lo r && leb m most) ≡ c → Nexts m lo (some r) go (keepIf c (keyNumbers r))
-    when true q = unfold keepIf in (record { taken = r; held = refl; sounds = f; key = refl; goes = rw q; few = leb→le m most (and-r (above scottish lo r) (leb m most) (rw q tt)) })
+    when : (c : Bool) → (above scottish lo r && leb m mostRecords) ≡ c → Nexts m lo (some r) go (keepIf c (keyNumbers r))
+    when true q = unfold keepIf in (record { taken = r; held = refl; sounds = f; key = refl; goes = rw q; few = leb→le m mostRecords (and-r (above scottish lo r) (leb m mostRecords) (rw q tt)) })
     when false q = unfold keepIf in (rw q)
 
 module _ (h : List ℕ) (at e : ℕ) (g : at < length h) (q : e ≡ plainEnd h at) where

@@ -8,13 +8,12 @@ use lib.ListN.{take, drop}
 use Rattle.base.specs.Lists.{pick, keepIf}
 use Rattle.theory.specs.Tri.{isLt}
 use Rattle.theory.specs.Lex.{lex}
-use Rattle.theory.specs.Limits.{most}
 use Rattle.meaning.specs.Lines.{identifier}
 use Rattle.meaning.specs.Kinds.{Kind}
 use Rattle.meaning.specs.Format.{kindOf}
 use Rattle.meaning.specs.Table.{scottish}
 use Rattle.meaning.specs.Records.{Rec, contentOf}
-use Rattle.meaning.specs.Holding.{heldTest}
+use Rattle.meaning.specs.Holding.{heldTest, mostRecords}
 use Rattle.text.specs.Places.{endsHere}
 use Rattle.keys.specs.Numbers.{keyList, keyNumbers}
 use Rattle.holding.specs.declared.scan.Next.{Next}
@@ -41,7 +40,7 @@ recordUpTo h at e n = recordAs (take (e - at) (drop at h)) (heldAs n (endsHere (
 -- the key of line n as numbers, where that is a record whose key stands after q; line 8,193 is the fault
 unfoldable pub nextAs : ℕ → List ℕ → Option Rec → Option (List ℕ)
 nextAs n q none = none
-nextAs n q (some r) = keepIf (isLt (lex q (keyNumbers r)) && leb n most) (keyNumbers r)
+nextAs n q (some r) = keepIf (isLt (lex q (keyNumbers r)) && leb n mostRecords) (keyNumbers r)
 
 -- the key that was taken, if any
 abbrev pub keyTaken : Next → Option (List ℕ)

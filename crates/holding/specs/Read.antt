@@ -5,11 +5,10 @@ use Prim.Native.Nat.{ℕ, _%_, _≤_}
 use lib.Dec.{T, eqb}
 use lib.ListN.{length, take}
 use Rattle.base.specs.Lists.{all}
-use Rattle.theory.specs.Limits.{most}
 use Rattle.meaning.specs.Table.{scottish}
 use Rattle.meaning.specs.Records.{Rec}
 use Rattle.meaning.specs.Holding as meaning
-use Rattle.meaning.specs.Holding.{sound, unsound, referring, readHolding}
+use Rattle.meaning.specs.Holding.{sound, unsound, referring, readHolding, mostRecords}
 use Rattle.entries.specs.Tags.{tagOf}
 use Rattle.places.specs.Places.{says}
 use Rattle.places.specs.Counts.{tally, byKey}
@@ -30,7 +29,7 @@ pub record Listed (h a : List ℕ) (n : ℕ) (st : List Rec) : Type 0 where
   pub count : n ≡ length st
   pub says : (f : List ℕ) → says h f a n ≡ st
   pub even : T (all (λ v. eqb (v % 2) 0) (take n a))
-  pub few : n ≤ most
+  pub few : n ≤ mostRecords
 
 -- the answer tells the lowest faulty line of what was read, or its records, where they stand and the tags of their keys
 pub record ReadAs (h : List ℕ) (s : meaning.Held) (r : Held) (a g : List ℕ) : Type 0 where

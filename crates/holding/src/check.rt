@@ -2,7 +2,7 @@
 ghost use mathlib.Core.Path.{_≡_};
 ghost use Rattle.meaning.specs.Table.{scottish};
 ghost use Rattle.meaning.specs.Load.{checkHolding};
-ghost use Rattle.holding.specs.Verdict.{verdictOf};
+ghost use Rattle.answers.specs.Meant.{verdictOf};
 use crate::read::read_holding;
 use layout::limits::Holding;
 

@@ -16,7 +16,7 @@ use Rattle.theory.specs.Lex.{lex}
 use Rattle.theory.specs.LexLaws.{lex-order}
 use Rattle.theory.specs.Decimal.{value}
 use Rattle.theory.specs.Step.{Op, ins, upd, del, Change}
-use Rattle.theory.specs.Answer.{Read, fault, file}
+use Rattle.theory.specs.Answer.{fault, file}
 use Rattle.meaning.specs.Lines.{Line, linesOf, fieldsOf}
 use Rattle.meaning.specs.Kinds.{ident, Role, headerLine, bodyLine, metadataLine, trailerLine, role, numberedAmong}
 use Rattle.meaning.specs.Table.{enquiries, scottish}
@@ -24,14 +24,18 @@ use Rattle.meaning.specs.Records.{Rec, opOf, changeOf, keyOf}
 use Rattle.meaning.specs.Holding.{readHolding}
 use Rattle.meaning.specs.File.{Sheet, Frame, readFile}
 use Rattle.meaning.specs.Load.{checked, checkFile}
-use Rattle.meaning.specs.Enquiries.{Found, second, refusal, partOf, heldAt, heldPart, lastNaming, named, inForcePart, inForceFile, inForceHeld, inForceKind, inForce}
+use Rattle.meaning.specs.Enquiries.{Found, second, refusal, partOf, heldAt, heldPart, lastNaming, unlessDeleted, inForcePart, inForceFile, inForceHeld, inForceKind, inForce}
+use Rattle.meaning.specs.Answers.{Read, ofLine, atLine, alone}
 use Rattle.laws.specs.LinesAndFields.{endsAll}
 use Rattle.laws.specs.SoundFile.{RoleLine, SaysChange, SaysChanges, SoundFile, sound-read}
 use Rattle.laws.specs.FileReadBack.{fineC, file-says}
 use Rattle.laws.specs.Checks.{checked-file}
 use Rattle.laws.specs.Scottish.{scottish-regular}
-use Rattle.volume.specs.declared.check.Answer.{Answer}
-use Rattle.volume.specs.Answer.{answerOf}
+use Rattle.answers.specs.declared.numbers.Answer.{Answer}
+use Rattle.answers.specs.Meant.{answerOf, refusalMeant, refusalIn}
+use Rattle.meaning.specs.Codes.{keyAbsent, holdingUnsound, kindNotAsked}
+use Rattle.answers.specs.declared.refusal.Refusal.{Refusal}
+use Rattle.enquiries.proofs.HandLaws.{refusal-made}
 use Rattle.keys.specs.Numbers.{keyNumbers}
 use Rattle.keys.specs.KeyLaws.{kind-told}
 use Rattle.entries.specs.Entries.{recOf}
@@ -172,18 +176,18 @@ module _ (f k : List ℕ) (o : Naming) (l : ℕ) (e : o ≡ lastNamed k 1 (lines
 -- what is handed back, by what the lines say
 unfoldable handedBy : List ℕ → List ℕ → List ℕ → List Rec → Naming → Found
 handedBy old b q st Unnamed = heldPart old (heldAt scottish q 0 st)
-handedBy old b q st Deleted = refusal 11 0 0
+handedBy old b q st Deleted = refusal (alone keyAbsent)
 handedBy old b q st (Named l) = partOf second (linesOf b) (l - 1)
 
 handed-by : (old b q : List ℕ) (st : List Rec) (o : Option (ℕ × Op)) → inForcePart scottish old b q st o ≡ handedBy old b q st (namingOf o)
-unfolding inForcePart handedBy named namingOf saidBy
+unfolding inForcePart handedBy unlessDeleted namingOf saidBy
 handed-by old b q st none = refl
 handed-by old b q st (some l) = go (l .1)
   where
     less : suc (l .0) - 1 ≡ l .0
     less = omega arith
 
-    go : (p : Op) → named p (partOf second (linesOf b) (l .0)) ≡ handedBy old b q st (saidBy (suc (l .0)) p)
+    go : (p : Op) → unlessDeleted p (partOf second (linesOf b) (l .0)) ≡ handedBy old b q st (saidBy (suc (l .0)) p)
     go ins = ap (partOf second (linesOf b)) (sym less)
     go upd = ap (partOf second (linesOf b)) (sym less)
     go del = refl
@@ -208,7 +212,7 @@ module _ (s t : List ℕ) (kind n : ℕ) (x : Finding) (k : Asked kind) (z : che
   last-held q w = rw (on-lines, q) w
 
   -- 11 for a delete
-  pub last-deleted : o ≡ Deleted → x ≡ findingOf (refusal 11 0 0) → x ≡ findingOf found
+  pub last-deleted : o ≡ Deleted → x ≡ findingOf (refusal (alone keyAbsent)) → x ≡ findingOf found
   unfolding handedBy
   last-deleted q w = rw (on-lines, q) w
 
@@ -221,16 +225,16 @@ module _ (s t : List ℕ) (kind n : ℕ) (x : Finding) (k : Asked kind) (z : che
 pub last-asked : (h a o : List ℕ) (r : Held) (kind : ℕ) → Enquired h a o r kind → Asked kind
 last-asked h a o r kind w = asked-is kind (w .asked)
 
-pub ruleset last = (needs, named-from, named-to, last-asked, last-held, last-deleted, last-named)
+pub ruleset last = (needs, refusal-made, named-from, named-to, last-asked, last-held, last-deleted, last-named)
 
 module _ (s t : List ℕ) (kind n : ℕ) (x : Finding) (b : Bool) (e : b ≡ some? (numberedAmong enquiries kind)) where
   -- 15 for a kind that can't be asked for
-  pub force-other : b ≡ false → x ≡ findingOf (refusal 15 0 0) → x ≡ findingOf (inForce scottish s t kind n)
+  pub force-other : b ≡ false → x ≡ findingOf (refusal (alone kindNotAsked)) → x ≡ findingOf (inForce scottish s t kind n)
   unfolding inForce inForceKind
   force-other f w = rw (no-kind kind b e f) w
 
   -- 14 for an unsound holding
-  pub force-unsound : (r : Held) (a o c : List ℕ) → b ≡ true → HeldIs s r a o c → (r .line ≡ 0 → ⊥) → x ≡ findingOf (refusal 14 (r .line) 0) → x ≡ findingOf (inForce scottish s t kind n)
+  pub force-unsound : (r : Held) (a o c : List ℕ) → b ≡ true → HeldIs s r a o c → (r .line ≡ 0 → ⊥) → x ≡ findingOf (refusal (atLine (r .line) (ofLine holdingUnsound))) → x ≡ findingOf (inForce scottish s t kind n)
   unfolding inForce inForceKind inForceHeld
   force-unsound r a o c f h z w = rw (asked-is kind (sym e ∙ f) .known, unsounds s r a o c h z) w
 
@@ -245,13 +249,17 @@ module _ (s t : List ℕ) (kind n : ℕ) (x : Finding) (b : Bool) (e : b ≡ som
         ∙ ap (inForceHeld scottish s t (kind ∷ n ∷ [])) (held-sound s (sym (h .line) ∙ v))
 
     -- the file's own fault
-    pub force-faulty : (c : Answer) → c ≡ answerOf (checkFile scottish t) → (c .code ≡ 0 → ⊥) → x ≡ findingOf (refusal (c .code) (c .line) (c .field)) → x ≡ findingOf (inForce scottish s t kind n)
+    force-faulty : (c : Answer) → c ≡ answerOf (checkFile scottish t) → (c .code ≡ 0 → ⊥) → x ≡ findingOf (refusal (refusalMeant (refusalIn c))) → x ≡ findingOf (inForce scottish s t kind n)
     unfolding checkFile
     force-faulty c d z w = w ∙ ap findingOf (sym (on-file ∙ go (readFile scottish t) d))
       where
-        go : (u : Read Sheet) → c ≡ answerOf (checked u) → inForceFile scottish s t (kind ∷ n ∷ []) (recordsOf (readHolding scottish s)) u ≡ refusal (c .code) (c .line) (c .field)
-        go (fault m l y) q = unfold checked inForceFile in rw q
+        go : (u : Read Sheet) → c ≡ answerOf (checked u) → inForceFile scottish s t (kind ∷ n ∷ []) (recordsOf (readHolding scottish s)) u ≡ refusal (refusalMeant (refusalIn c))
+        go (fault y) q = unfold checked inForceFile in rw q
         go (file y) q = absurd (unfold checked in z (ap (λ y. y .code) q))
+
+    -- as it is told
+    pub force-refused : (c : Answer) → c ≡ answerOf (checkFile scottish t) → (c .code ≡ 0 → ⊥) → (y : Refusal) → y ≡ refusalIn c → x ≡ findingOf (refusal (refusalMeant y)) → x ≡ findingOf (inForce scottish s t kind n)
+    force-refused c d z y p w = force-faulty c d z (w ∙ ap (λ q. findingOf (refusal (refusalMeant q))) p)
 
     -- else what it says
     pub force-last : x ≡ findingOf (inForceFile scottish s t (kind ∷ n ∷ []) (recordsOf (readHolding scottish s)) (readFile scottish t)) → x ≡ findingOf (inForce scottish s t kind n)
@@ -261,4 +269,4 @@ module _ (s t : List ℕ) (kind n : ℕ) (x : Finding) (b : Bool) (e : b ≡ som
 pub faultless : (t : List ℕ) (c : Answer) → c ≡ answerOf (checkFile scottish t) → c .code ≡ 0 → checkFile scottish t .code ≡ 0
 faultless t c d z = sym (ap (λ y. y .code) d) ∙ z
 
-pub ruleset force = (needs, not-true, not-false, force-other, force-unsound, force-faulty, force-last)
+pub ruleset force = (needs, refusal-made, force-refused, not-true, not-false, force-other, force-unsound, force-last)

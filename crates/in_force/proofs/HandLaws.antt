@@ -10,14 +10,17 @@ use borrow.Author.Tests.{not-true, not-false}
 use denote.Ref.{RefT}
 use lib.ListN.{length}
 use Rattle.theory.specs.Step.{Op, ins, upd, del}
-use Rattle.theory.specs.Answer.{Read, fault, file}
+use Rattle.theory.specs.Answer.{fault, file}
 use Rattle.meaning.specs.Lines.{linesOf}
 use Rattle.meaning.specs.Kinds.{Kind, numberedAmong}
 use Rattle.meaning.specs.Table.{enquiries, scottish}
 use Rattle.meaning.specs.Records.{Rec}
 use Rattle.meaning.specs.File.{Sheet, readFile}
 use Rattle.meaning.specs.Holding.{Held, sound, unsound, readHolding}
-use Rattle.meaning.specs.Enquiries.{Slice, first, second, Found, partOf, heldAt, lastNaming, named, inForcePart, inForceFile, inForceHeld, inForceKind, inForce}
+use Rattle.meaning.specs.Enquiries.{Slice, first, second, Found, partOf, heldAt, lastNaming, unlessDeleted, inForcePart, inForceFile, inForceHeld, inForceKind, inForce}
+use Rattle.meaning.specs.Answers.{Read, ofLine, atLine, alone}
+use Rattle.meaning.specs.Codes.{keyAbsent, holdingUnsound, kindNotAsked}
+use Rattle.answers.specs.Meant.{verdictList}
 use Rattle.text.specs.Parts.{StandsIn}
 use Rattle.enquiries.specs.declared.finding.Finding.{Finding}
 use Rattle.enquiries.specs.Finding.{inFile, findingOf}
@@ -31,28 +34,28 @@ unfolding partOf
 second-within a b i = line-within b i
 
 force-within : (a b : List ℕ) (kind n : ℕ) → Within (inForce scottish a b kind n) a b
-unfolding inForce inForceKind inForceHeld inForceFile inForcePart named
+unfolding inForce inForceKind inForceHeld inForceFile inForcePart unlessDeleted
 force-within a b kind n = asked (numberedAmong enquiries kind)
   where
-    says : (i : ℕ) (p : Op) → Within (named p (partOf second (linesOf b) i)) a b
+    says : (i : ℕ) (p : Op) → Within (unlessDeleted p (partOf second (linesOf b) i)) a b
     says i ins = second-within a b i
     says i upd = second-within a b i
-    says i del = nothing 11 0 0 a b
+    says i del = nothing (alone keyAbsent) a b
 
     names : (q : List ℕ) (st : List Rec) (o : Option (ℕ × Op)) → Within (inForcePart scottish a b q st o) a b
     names q st none = held-within a b (heldAt scottish q 0 st)
     names q st (some l) = says (l .0) (l .1)
 
     reads : (q : List ℕ) (st : List Rec) (s : Read Sheet) → Within (inForceFile scottish a b q st s) a b
-    reads q st (fault c l f) = nothing c l f a b
+    reads q st (fault r) = nothing r a b
     reads q st (file s) = names q st (lastNaming scottish q 1 (s .1) none)
 
     holds : (q : List ℕ) (h : Held) → Within (inForceHeld scottish a b q h) a b
-    holds q (unsound m) = nothing 14 m 0 a b
+    holds q (unsound m) = nothing (atLine m (ofLine holdingUnsound)) a b
     holds q (sound st) = reads q st (readFile scottish b)
 
     asked : (k : Option Kind) → Within (inForceKind scottish a b n k) a b
-    asked none = nothing 15 0 0 a b
+    asked none = nothing (alone kindNotAsked) a b
     asked (some k) = holds _ (readHolding scottish a)
 
 -- the record in force, in the one of two that the finding names
@@ -79,7 +82,7 @@ module _ (a b : List ℕ) (kind n : ℕ) (g : Finding) (e : g ≡ findingOf (inF
 
 -- ---- the part
 
-module _ (f : Found) (g : Finding) (p : RefT (List ℕ)) (x : List ℕ) (e : g ≡ findingOf f) (w : x ≡ g .code ∷ g .line ∷ g .field ∷ []) where
+module _ (f : Found) (g : Finding) (p : RefT (List ℕ)) (x : List ℕ) (e : g ≡ findingOf f) (w : x ≡ verdictList (g .answer)) where
   -- of the file, where the finding says so
   pub hand-second : (s t : RefT (List ℕ)) → g .infile ≡ true → StandsIn p t (g .start) (g .size) → HandedOf f s t p x
   unfolding findingOf

@@ -15,7 +15,7 @@ use Rattle.meaning.specs.Lines.{Line, linesOf}
 use Rattle.meaning.specs.Kinds.{numberedAmong}
 use Rattle.meaning.specs.Table.{enquiries, scottish}
 use Rattle.meaning.specs.Records.{Rec, keyed, changeText}
-use Rattle.meaning.specs.Enquiries.{Found, Slice, first, second, refusal, partOf, heldAt, heldPart, find, findKind, findIn, lastNaming, named, inForcePart, inForceFile, inForceHeld, inForceKind, inForce}
+use Rattle.meaning.specs.Enquiries.{Found, Slice, first, second, refusal, partOf, heldAt, heldPart, find, findKind, findIn, lastNaming, unlessDeleted, inForcePart, inForceFile, inForceHeld, inForceKind, inForce}
 use Rattle.laws.specs.Body.{ident-in, change-read}
 use Rattle.laws.specs.LinesAndFields.{ends, endsAll}
 use Rattle.laws.specs.HoldingReadBack.{insertOf}
@@ -95,7 +95,7 @@ module _ (old b : List ℕ) (room kind n : ℕ) (a : Allowed scottish old b room
 
   force-shows : (o : Option (ℕ × Op)) (v : Option Rec) → NamedSays scottish (kind ∷ n ∷ []) (a .st) (a .cs) o v
       → Shows v (threeList (inForcePart scottish old b (kind ∷ n ∷ []) (a .st) o .answer)) (bytesIn old b (inForcePart scottish old b (kind ∷ n ∷ []) (a .st) o))
-  unfolding inForcePart partOf named refusal
+  unfolding inForcePart partOf unlessDeleted refusal
   force-shows none v w = held-shows old b kind n (a .st) k (a .held) (heldAt scottish (kind ∷ n ∷ []) 0 (a .st)) refl v (sym w)
   force-shows (some l) v w = go (w .1 .op) (l .1) (w .5) v (w .7)
     where
@@ -109,7 +109,7 @@ module _ (old b : List ℕ) (room kind n : ℕ) (a : Allowed scottish old b room
       stands : recOf (bytesIn old b (partOf second (linesOf b) (l .0))) ≡ w .1 .rec
       stands = ap recOf (part-is second b (l .0) (line .inside) ∙ ap (λ x. x .text) (line .there)) ∙ line .carried
 
-      go : (p q : Op) → q ≡ p → (v : Option Rec) → v ≡ new p (w .1 .rec) → Shows v (threeList (named q (partOf second (linesOf b) (l .0)) .answer)) (bytesIn old b (named q (partOf second (linesOf b) (l .0))))
+      go : (p q : Op) → q ≡ p → (v : Option Rec) → v ≡ new p (w .1 .rec) → Shows v (threeList (unlessDeleted q (partOf second (linesOf b) (l .0)) .answer)) (bytesIn old b (unlessDeleted q (partOf second (linesOf b) (l .0))))
       go ins q e v g = rw (e, g) (refl, stands)
       go upd q e v g = rw (e, g) (refl, stands)
       go del q e v g = rw (e, g) (refl, refl)

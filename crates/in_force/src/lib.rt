@@ -12,6 +12,11 @@ ghost use Rattle.enquiries.specs.Finding.{findingOf};
 ghost use Rattle.enquiries.specs.Handed.{HandedOf};
 use crate::naming::Naming;
 use crate::naming::last_naming;
+use answers::codes::HOLDING_UNSOUND;
+use answers::codes::KEY_ABSENT;
+use answers::codes::KIND_NOT_ASKED;
+use answers::numbers::refusal_in;
+use answers::refusal::Refusal;
 use enquiries::finding::Finding;
 use enquiries::finding::line_found;
 use enquiries::finding::refusal;
@@ -41,7 +46,7 @@ fn last_line(
 {
     match last_naming(file, asked_key(kind, number)) {
         Naming::Unnamed => held_line(holding, starts, tags, held, kind, number),
-        Naming::Deleted => refusal(11, 0, 0),
+        Naming::Deleted => refusal(Refusal::alone(KEY_ABSENT)),
         Naming::Named(line) => line_found(file, line, true),
     }
 }
@@ -51,18 +56,18 @@ pub fn line_in_force(holding: &[u8], file: &[u8], kind: u64, number: u64) -> Fin
     ensures { λ r. ⌜ r ≡ findingOf (inForce scottish (now (holding .entry)) (now (file .entry)) kind number) ⌝ }
 {
     if !is_enquired(kind) {
-        return refusal(15, 0, 0);
+        return refusal(Refusal::alone(KIND_NOT_ASKED));
     }
     let mut starts = [0u64; Holding::MOST_LINES];
     let mut tags = [0u64; Holding::MOST_LINES];
     let mut counts = [0u16; Holding::MOST_LINES];
     let held = read_holding(holding, &mut starts, &mut tags, &mut counts);
     if held.line != 0 {
-        return refusal(14, held.line as u64, 0);
+        return refusal(Refusal::of_line(held.line as u64, HOLDING_UNSOUND));
     }
     let checked = check_file(file);
     if checked.code != 0 {
-        return refusal(checked.code, checked.line as u64, checked.field as u64);
+        return refusal(refusal_in(checked));
     }
     last_line(holding, file, &starts, &tags, held, kind, number)
 }

@@ -16,7 +16,6 @@ use Rattle.base.specs.Tests.{and-l, and-r, T-true}
 use Rattle.theory.specs.Store.{get, put}
 use Rattle.theory.specs.Refs.{has, meets, clear}
 use Rattle.theory.specs.Decimal.{width}
-use Rattle.theory.specs.Limits.{most, few}
 use Rattle.theory.specs.Written.{render, bare, size}
 use Rattle.theory.specs.WrittenLaws.{size-ins, size-upd, size-del}
 use Rattle.theory.specs.Step.{Op, ins, upd, del, Change, judge, after}
@@ -24,8 +23,8 @@ use Rattle.theory.specs.Fast.{fast, fewAfter, metAfter, sizeAfter}
 use Rattle.meaning.specs.Kinds.{Kind, kinds, ident}
 use Rattle.meaning.specs.Table.{scottish}
 use Rattle.meaning.specs.Records.{Rec, keyed, keyOf, refsOf, letter}
-use Rattle.meaning.specs.Holding.{written}
-use Rattle.meaning.specs.Load.{stepTests}
+use Rattle.meaning.specs.Holding.{written, mostRecords}
+use Rattle.meaning.specs.Steps.{few, stepRules}
 use Rattle.laws.specs.Kinds.{every}
 use Rattle.laws.specs.Body.{fine}
 use Rattle.laws.specs.FastStep.{printed, written-render, written-length, fast-step}
@@ -71,7 +70,7 @@ module _ (h f a : List ℕ) (room : ℕ) (s : State) (y : Ready h f a room s) wh
   -- there are not too many records
   pub ready-few : s .count ≤ 8192
   unfolding few
-  ready-few = omega (arith, y .counted, leb→le (length (says h f a (s .count))) most (and-l (few (says h f a (s .count))) _ (y .pass)))
+  ready-few = omega (arith, y .counted, leb→le (length (says h f a (s .count))) mostRecords (and-l (few (says h f a (s .count))) _ (y .pass)))
 
   -- they are within the array
   pub ready-in : s .count ≤ length a
@@ -115,19 +114,19 @@ module _ (h f a : List ℕ) (room : ℕ) (s : State) (y : Ready h f a room s) wh
     pub place-in : p .stands ≡ true → p .place < length a
     place-in t = omega (arith, ready-in, stands-in h f a (s .count) (p .place) (keyNumbers (recordOf h f v)) ready-in (q .placed) (some? (get numbered (keyNumbers (recordOf h f v)) (says h f a (s .count)))) refl (T-true _ (stood t)))
 
-    refused : (o : Op) (w z : ℕ) → w ≡ codeNumber (judge (keyed scottish) (stepTests scottish room) (says h f a (s .count)) (change o (recordOf h f v))) → (w ≡ 0 → ⊥)
+    refused : (o : Op) (w z : ℕ) → w ≡ codeNumber (judge (keyed scottish) (stepRules scottish room) (says h f a (s .count)) (change o (recordOf h f v))) → (w ≡ 0 → ⊥)
         → Judges h f a room (change o (recordOf h f v)) s (record { code = w; place = p .place; size = z })
     refused o w z e n = record { coded = e; placed = q .placed; within = q .within; sized = λ u. absurd (n u) }
 
-    taken : (o : Op) (z : ℕ) → judge (keyed scottish) (stepTests scottish room) (says h f a (s .count)) (change o (recordOf h f v)) ≡ none → z ≡ length (written (after (keyed scottish) (says h f a (s .count)) (change o (recordOf h f v))))
+    taken : (o : Op) (z : ℕ) → judge (keyed scottish) (stepRules scottish room) (says h f a (s .count)) (change o (recordOf h f v)) ≡ none → z ≡ length (written (after (keyed scottish) (says h f a (s .count)) (change o (recordOf h f v))))
         → Judges h f a room (change o (recordOf h f v)) s (record { code = 0; place = p .place; size = z })
     taken o z e n = record { coded = rw e; placed = q .placed; within = q .within; sized = λ u. n }
 
     -- ---- insert
 
-    told-ins : judge (keyed scottish) (stepTests scottish room) (says h f a (s .count)) (change ins (recordOf h f v))
+    told-ins : judge (keyed scottish) (stepRules scottish room) (says h f a (s .count)) (change ins (recordOf h f v))
         ≡ ask (not (some? (get (keyed scottish) (keyOf scottish (recordOf h f v)) (says h f a (s .count))))) 10
-        (ask (leb (suc (length (says h f a (s .count)))) most) 16
+        (ask (leb (suc (length (says h f a (s .count)))) mostRecords) 16
         (ask (meets (keyed scottish) (refsOf scottish) (says h f a (s .count)) (recordOf h f v)) 12
         (ask (leb (length (render printed (says h f a (s .count))) + bare printed (recordOf h f v) + width (suc (length (says h f a (s .count))))) room) 13 none)))
     unfolding fast fewAfter metAfter sizeAfter
@@ -138,15 +137,15 @@ module _ (h f a : List ℕ) (room : ℕ) (s : State) (y : Ready h f a room s) wh
     unfolding ask
     ins-held t = refused ins 10 (s .size) (rw (told-ins, ← q .there, t)) (λ e. omega arith)
 
-    module _ (t : p .stands ≡ false) (limit : ℕ) (limited : limit ≡ most) where
+    module _ (t : p .stands ≡ false) (limit : ℕ) (limited : limit ≡ mostRecords) where
       -- 8,192 records are enough
       pub ins-many : limit ≤ s .count → Judges h f a room (change ins (recordOf h f v)) s (record { code = 16; place = p .place; size = s .size })
       unfolding ask
-      ins-many m = refused ins 16 (s .size) (rw (told-ins, ← q .there, t, lt-leb (suc (length (says h f a (s .count)))) most (omega (arith, y .counted)))) (λ e. omega arith)
+      ins-many m = refused ins 16 (s .size) (rw (told-ins, ← q .there, t, lt-leb (suc (length (says h f a (s .count)))) mostRecords (omega (arith, y .counted)))) (λ e. omega arith)
 
       module _ (m : s .count < limit) (b : Bool) (r : b ≡ meets (keyed scottish) (refsOf scottish) (says h f a (s .count)) (recordOf h f v)) where
-        few-ok : leb (suc (length (says h f a (s .count)))) most ≡ true
-        few-ok = le-leb (suc (length (says h f a (s .count)))) most (omega (arith, y .counted))
+        few-ok : leb (suc (length (says h f a (s .count)))) mostRecords ≡ true
+        few-ok = le-leb (suc (length (says h f a (s .count)))) mostRecords (omega (arith, y .counted))
 
         -- its references must be met
         pub ins-unmet : b ≡ false → Judges h f a room (change ins (recordOf h f v)) s (record { code = 12; place = p .place; size = s .size })
@@ -184,7 +183,7 @@ module _ (h f a : List ℕ) (room : ℕ) (s : State) (y : Ready h f a room s) wh
     upd-absent t = refused upd 11 (s .size) (rw (fast-step scottish room (says h f a (s .count)) (change upd (recordOf h f v)) (y .asc) (y .pass), at-none t)) (λ e. omega arith)
 
     module _ (t : p .stands ≡ true) where
-      told-upd : judge (keyed scottish) (stepTests scottish room) (says h f a (s .count)) (change upd (recordOf h f v))
+      told-upd : judge (keyed scottish) (stepRules scottish room) (says h f a (s .count)) (change upd (recordOf h f v))
           ≡ ask (meets (keyed scottish) (refsOf scottish) (says h f a (s .count)) (recordOf h f v)) 12
           (ask (leb (length (render printed (says h f a (s .count))) + bare printed (recordOf h f v) - bare printed (recordOf h f (getD a (p .place) 0))) room) 13 none)
       unfolding fast fewAfter metAfter sizeAfter ask
@@ -232,7 +231,7 @@ module _ (h f a : List ℕ) (room : ℕ) (s : State) (y : Ready h f a room s) wh
     del-absent t = refused del 11 (s .size) (rw (fast-step scottish room (says h f a (s .count)) (change del (recordOf h f v)) (y .asc) (y .pass), at-none t)) (λ e. omega arith)
 
     module _ (t : p .stands ≡ true) where
-      told-del : judge (keyed scottish) (stepTests scottish room) (says h f a (s .count)) (change del (recordOf h f v))
+      told-del : judge (keyed scottish) (stepRules scottish room) (says h f a (s .count)) (change del (recordOf h f v))
           ≡ ask (all (clear (keyed scottish) (refsOf scottish) (keyOf scottish (recordOf h f v))) (says h f a (s .count))) 12
           (ask (leb (length (render printed (says h f a (s .count))) - bare printed (recordOf h f (getD a (p .place) 0)) - width (length (says h f a (s .count)))) room) 13 none)
       unfolding fast fewAfter metAfter sizeAfter ask

@@ -22,8 +22,9 @@ use Rattle.meaning.specs.Forms.{Form, number, atLeast1, decimal, date, time, te
 use Rattle.meaning.specs.Kinds.{Kind}
 use Rattle.meaning.specs.Format.{Field, named, formNamed}
 use Rattle.meaning.specs.Table.{scottish}
-use Rattle.meaning.specs.Sound.{Fault, soundField, forms, fieldFault}
+use Rattle.meaning.specs.Sound.{soundField, forms, fieldFault}
 use Rattle.meaning.specs.Records.{Rec, ownFields, valueNamed, valuesNamed}
+use Rattle.meaning.specs.Answers.{Fault}
 use Rattle.laws.specs.Regular.{holds}
 use Rattle.laws.specs.Body.{contentFault, fine, sound-none}
 use Rattle.layout.specs.Rows.{padded}

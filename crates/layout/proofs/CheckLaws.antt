@@ -20,7 +20,11 @@ use Rattle.meaning.specs.Lines.{fieldsFrom, fieldsOf, hasFields}
 use Rattle.meaning.specs.Kinds.{Kind, kinds}
 use Rattle.meaning.specs.Format.{Field, named, placeFrom, startDate, endDate}
 use Rattle.meaning.specs.Table.{fields, scottish}
-use Rattle.meaning.specs.Sound as meant
+use Rattle.meaning.specs.Codes.{fieldCountWrong, fieldMalformed, endBeforeStart}
+use Rattle.meaning.specs.Answers as meant
+use Rattle.meaning.specs.Answers.{ofLine, ofField}
+use Rattle.answers.specs.declared.refusal.Fault.{Fault}
+use Rattle.answers.specs.Meant.{noFaultAt, faultOf}
 use Rattle.meaning.specs.Sound.{soundField, forms, datesAgree, fieldFault, formFault}
 use Rattle.theory.specs.Tri.{isLt}
 use Rattle.theory.specs.Lex.{lex}
@@ -121,15 +125,15 @@ bad-done kd t k n at x w h c = rw (drop-of-length-le (map bare (fields kd)) {i =
 
 -- 5 at the lowest field that is malformed, else the rest
 pub forms-is : (n : ℕ) (ds : List Field) (fs : List (List ℕ)) (rest : Option meant.Fault)
-    → forms scottish (suc n) ds fs rest ≡ pick (eqb (lowestBad (suc n) (map bare ds) fs) 0) rest (some (5, lowestBad (suc n) (map bare ds) fs))
+    → forms scottish (suc n) ds fs rest ≡ pick (eqb (lowestBad (suc n) (map bare ds) fs) 0) rest (some (ofField fieldMalformed (lowestBad (suc n) (map bare ds) fs)))
 unfolding forms lowestBad soundField ask
 forms-is n [] fs rest = refl
 forms-is n (d ∷ ds) [] rest = refl
 forms-is n (d ∷ ds) (f ∷ fs) rest = go (soundAs (scottish .textRule) (d .form) (d .filled) f) (forms-is (suc n) ds fs rest)
   where
-    go : (b : Bool) → forms scottish (suc (suc n)) ds fs rest ≡ pick (eqb (lowestBad (suc (suc n)) (map bare ds) fs) 0) rest (some (5, lowestBad (suc (suc n)) (map bare ds) fs))
-        → ask b (5, suc n) (forms scottish (suc (suc n)) ds fs rest)
-        ≡ pick (eqb (pick b (lowestBad (suc (suc n)) (map bare ds) fs) (suc n)) 0) rest (some (5, pick b (lowestBad (suc (suc n)) (map bare ds) fs) (suc n)))
+    go : (b : Bool) → forms scottish (suc (suc n)) ds fs rest ≡ pick (eqb (lowestBad (suc (suc n)) (map bare ds) fs) 0) rest (some (ofField fieldMalformed (lowestBad (suc (suc n)) (map bare ds) fs)))
+        → ask b (ofField fieldMalformed (suc n)) (forms scottish (suc (suc n)) ds fs rest)
+        ≡ pick (eqb (pick b (lowestBad (suc (suc n)) (map bare ds) fs) (suc n)) 0) rest (some (ofField fieldMalformed (pick b (lowestBad (suc (suc n)) (map bare ds) fs) (suc n))))
     go true e = e
     go false e = rw (ne-eqb (suc n) 0 (λ u. omega arith))
 
@@ -255,11 +259,11 @@ pub ruleset kinddates = (needs, start-there, end-there, noted-there, kind-no-sta
 
 -- the meaning's questions, by what is answered
 pub fault-is : (kd : Kind) (t : List ℕ) (rest : Option meant.Fault) → formFault scottish kd t rest
-    ≡ ask (hasFields (length (fields kd)) t) (4, 0)
-    (pick (eqb (lowestBad 1 (map bare (fields kd)) (fieldsOf t)) 0) (ask (kindDates kd (fieldsOf t)) (6, placeFrom 1 endDate (fields kd)) rest)
-    (some (5, lowestBad 1 (map bare (fields kd)) (fieldsOf t))))
+    ≡ ask (hasFields (length (fields kd)) t) (ofLine fieldCountWrong)
+    (pick (eqb (lowestBad 1 (map bare (fields kd)) (fieldsOf t)) 0) (ask (kindDates kd (fieldsOf t)) (ofField endBeforeStart (placeFrom 1 endDate (fields kd))) rest)
+    (some (ofField fieldMalformed (lowestBad 1 (map bare (fields kd)) (fieldsOf t)))))
 unfolding formFault fieldFault kindDates
-fault-is kd t rest = rw (forms-is 0 (fields kd) (fieldsOf t) (ask (datesAgree (named startDate (fields kd) (fieldsOf t)) (named endDate (fields kd) (fieldsOf t))) (6, placeFrom 1 endDate (fields kd)) rest))
+fault-is kd t rest = rw (forms-is 0 (fields kd) (fieldsOf t) (ask (datesAgree (named startDate (fields kd) (fieldsOf t)) (named endDate (fields kd) (fieldsOf t))) (ofField endBeforeStart (placeFrom 1 endDate (fields kd))) rest))
 
 module _ (kd : Kind) (t : List ℕ) (l : Layout) (e : l ≡ laidOut kd) where
   -- as many fields as the kind has
@@ -276,25 +280,25 @@ module _ (kd : Kind) (t : List ℕ) (l : Layout) (e : l ≡ laidOut kd) where
   right-count c p f = rw (← counted) (fields-right t (l .count) c p f some-fields)
 
   -- 4 for their number
-  pub fault-count : (c : ℕ) → c ≡ fieldCount t → (c ≡ l .count → ⊥) → record { code = 4; field = 0 } ≡ told (formFault scottish kd t none)
+  pub fault-count : (c : ℕ) → c ≡ fieldCount t → (c ≡ l .count → ⊥) → (x : Fault) → x ≡ faultOf (ofLine fieldCountWrong) → x ≡ told (formFault scottish kd t none)
   unfolding ask
-  fault-count c p f = rw (fault-is kd t none, ← counted, ← fields-wrong t (l .count) c p f)
+  fault-count c p f x m = m ∙ rw (fault-is kd t none, ← counted, ← fields-wrong t (l .count) c p f)
 
   module _ (c : ℕ) (p : c ≡ fieldCount t) (f : c ≡ l .count) (n : ℕ) (q : n ≡ lowestBad 1 (map bare (fields kd)) (fieldsOf t)) where
     -- 5 for the lowest that is malformed
-    pub fault-form : (n ≡ 0 → ⊥) → record { code = 5; field = n } ≡ told (formFault scottish kd t none)
+    pub fault-form : (n ≡ 0 → ⊥) → (x : Fault) → x ≡ faultOf (ofField fieldMalformed n) → x ≡ told (formFault scottish kd t none)
     unfolding ask
-    fault-form m = rw (fault-is kd t none, ← right-count c p f, ← q, ne-eqb n 0 m)
+    fault-form m x v = v ∙ rw (fault-is kd t none, ← right-count c p f, ← q, ne-eqb n 0 m)
 
     module _ (z : n ≡ 0) (b : Bool) (r : b ≡ kindDates kd (fieldsOf t)) where
       -- 6 for END_DATE before START_DATE
-      pub fault-dates : b ≡ false → record { code = 6; field = l .end } ≡ told (formFault scottish kd t none)
+      pub fault-dates : b ≡ false → (x : Fault) → x ≡ faultOf (ofField endBeforeStart (l .end)) → x ≡ told (formFault scottish kd t none)
       unfolding ask laidOut
-      fault-dates g = let v : l .end ≡ placeFrom 1 endDate (fields kd) = ap (λ x. x .end) e in rw (fault-is kd t none, ← right-count c p f, ← q, eq-eqb n 0 z, sym r ∙ g, v)
+      fault-dates g x m = let v : l .end ≡ placeFrom 1 endDate (fields kd) = ap (λ x. x .end) e in m ∙ rw (fault-is kd t none, ← right-count c p f, ← q, eq-eqb n 0 z, sym r ∙ g, v)
 
       -- else none
-      pub fault-none : b ≡ true → record { code = 0; field = 0 } ≡ told (formFault scottish kd t none)
+      pub fault-none : b ≡ true → (x : Fault) → x ≡ noFaultAt → x ≡ told (formFault scottish kd t none)
       unfolding ask
-      fault-none g = rw (fault-is kd t none, ← right-count c p f, ← q, eq-eqb n 0 z, sym r ∙ g)
+      fault-none g x m = m ∙ rw (fault-is kd t none, ← right-count c p f, ← q, eq-eqb n 0 z, sym r ∙ g)
 
 pub ruleset faults = (needs, not-true, not-false, fault-count, fault-form, fault-dates, fault-none)

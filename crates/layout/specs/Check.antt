@@ -11,10 +11,11 @@ use Rattle.meaning.specs.Lines.{hasFields}
 use Rattle.meaning.specs.Kinds.{Kind}
 use Rattle.meaning.specs.Format.{named, startDate, endDate}
 use Rattle.meaning.specs.Table.{fields, scottish}
-use Rattle.meaning.specs.Sound as meant
+use Rattle.meaning.specs.Answers as meant
 use Rattle.meaning.specs.Sound.{datesAgree}
+use Rattle.answers.specs.Meant.{noFaultAt, faultOf}
 use Rattle.text.specs.Places.{Notes}
-use Rattle.layout.specs.declared.check.Fault.{Fault}
+use Rattle.answers.specs.declared.refusal.Fault.{Fault}
 use Rattle.layout.specs.Rows.{Row}
 
 -- the lowest field that is malformed, counted from n; 0 where each is sound
@@ -33,7 +34,7 @@ pub record Parted (k : Kind) (t a : List ℕ) : Type 0 where
   pub noted : Notes t a
   pub room : 32 ≤ length a
 
--- a fault, as two numbers; none is two zeros
+-- a fault, as code has it
 abbrev pub told : Option meant.Fault → Fault
-told none = record { code = 0; field = 0 }
-told (some f) = record { code = f .0; field = f .1 }
+told none = noFaultAt
+told (some f) = faultOf f

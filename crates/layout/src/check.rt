@@ -12,6 +12,10 @@ ghost use Rattle.meaning.specs.Sound.{datesAgree, formFault};
 ghost use Rattle.layout.specs.Meant.{kindMeant, kindFound};
 ghost use Rattle.layout.specs.Rows.{bare, rowOf};
 ghost use Rattle.layout.specs.Check.{lowestBad, kindDates, Parted, told};
+use answers::codes::END_BEFORE_START;
+use answers::codes::FIELD_COUNT_WRONG;
+use answers::codes::FIELD_MALFORMED;
+use answers::refusal::Fault;
 use crate::kinds::Kind;
 use crate::kinds::KindFound;
 use crate::rules::form_of;
@@ -23,12 +27,6 @@ use text::fields::identifier_end;
 use text::fields::noted_field;
 use text::fields::split;
 use text::order::Order;
-
-// A line's first fault: its code and field, or two zeros.
-pub struct Fault {
-    pub code: u64,
-    pub field: usize,
-}
 
 // The kind of an identifier.
 pub fn kind_of(identifier: &[u8]) -> KindFound
@@ -127,20 +125,14 @@ pub fn check_line(kind: Kind, line: &[u8]) -> Fault
     let end = l.end;
     let mut ends = [0usize; 32];
     if split(line, &mut ends) != count {
-        return Fault { code: 4, field: 0 };
+        return Fault::of_line(FIELD_COUNT_WRONG);
     }
     let bad = lowest_malformed(kind, line, &ends);
     if bad != 0 {
-        return Fault {
-            code: 5,
-            field: bad,
-        };
+        return Fault::of_field(FIELD_MALFORMED, bad as u64);
     }
     if !dates_agree(kind, line, &ends) {
-        return Fault {
-            code: 6,
-            field: end,
-        };
+        return Fault::of_field(END_BEFORE_START, end as u64);
     }
-    Fault { code: 0, field: 0 }
+    Fault::none()
 }

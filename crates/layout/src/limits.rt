@@ -1,7 +1,7 @@
 // The limits on lines, each of the type that it belongs to; those on keys and widths belong to the records.
 ghost use mathlib.Core.Path.{_≡_};
-ghost use Rattle.theory.specs.Limits.{most};
 ghost use Rattle.meaning.specs.File.{mostBody};
+ghost use Rattle.meaning.specs.Holding.{mostRecords};
 
 // A run of body lines on a handset.
 pub struct Holding {}
@@ -10,7 +10,7 @@ impl Holding {
     pub const MOST_LINES: usize = 8192;
 
     pub fn most_lines() -> usize
-        ensures { λ r. ⌜ r ≡ most ⌝ }
+        ensures { λ r. ⌜ r ≡ mostRecords ⌝ }
     {
         Self::MOST_LINES
     }

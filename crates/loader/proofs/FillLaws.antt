@@ -8,7 +8,7 @@ use borrow.Rule.Slice.PartMut.{putMid}
 use lib.ListN.{length, take, drop, length-append, length-take, length-drop, drop-of-length-le}
 use Rattle.base.specs.Lists.{zeros}
 use Rattle.base.specs.ListLaws.{length-zeros}
-use Rattle.meaning.specs.Load.{filled}
+use Rattle.meaning.specs.Load.{thenZeros}
 use Rattle.text.specs.Front.{inFront}
 use Rattle.text.proofs.FrontLaws.{front-then}
 
@@ -19,8 +19,8 @@ all-front w old h = ap (λ l. w ++ l) (drop-of-length-le old h) ∙ append-nil w
 
 -- the rest made zeros
 pub fill-rest : (w old new last : List ℕ) (n : ℕ) → n ≡ length w → new ≡ inFront w old → length w ≤ length old → length new ≡ length old → last ≡ zeros (length (take (length new - n) (drop n new)))
-    → putMid n (length new - n) new last ≡ filled (length old) w
-unfolding filled
+    → putMid n (length new - n) new last ≡ thenZeros (length old) w
+unfolding thenZeros
 fill-rest w old new last n e f h l z =
     let t : length (take (length new - n) (drop n new)) ≡ length old - length w = simp (length-take, length-drop) (omega arith) in
     let b : last ≡ zeros (length old - length w) = z ∙ ap zeros t in

@@ -12,23 +12,26 @@ use Rattle.theory.specs.Trail.{undo}
 use Rattle.theory.specs.TrailLaws.{length-undo}
 use Rattle.theory.specs.ReadBack.{Sound}
 use Rattle.theory.specs.Run.{done, run}
-use Rattle.theory.specs.Answer.{Read, fault, file, took, refused, count}
+use Rattle.theory.specs.Answer.{fault, file, took, refused, count}
 use Rattle.meaning.specs.Table.{scottish}
 use Rattle.meaning.specs.Records.{Rec, keyed, changeTexts, joined}
 use Rattle.meaning.specs.File.{Sheet, readFile}
 use Rattle.meaning.specs.Holding as meaning
 use Rattle.meaning.specs.Holding.{sound, unsound, readHolding, written}
-use Rattle.meaning.specs.Load.{six, fits, stepTests, outcome, fromStart, onFile, onHolding, load, checked, checkFile, undoSheet, undoHeld, undoBytes}
+use Rattle.meaning.specs.Load.{six, outcome, fromStart, onFile, onHolding, load, checked, checkFile}
+use Rattle.meaning.specs.Answers.{Read}
+use Rattle.meaning.specs.Steps.{fits, stepRules, heldTests}
+use Rattle.meaning.specs.Undo.{undoSheet, undoHeld, undoBytes}
 use Rattle.laws.specs.Body.{fine}
-use Rattle.laws.specs.HoldingReadBack.{always, holding, heldRecords}
+use Rattle.laws.specs.HoldingReadBack.{holding, heldRecords}
 use Rattle.laws.specs.FileRefusals.{ReadIn, among, file-codes}
 use Rattle.laws.specs.SoundHolding.{held-is-sound}
 use Rattle.laws.specs.SoundFile.{SoundFile, read-sound}
 use Rattle.laws.specs.Checks.{held-bytes}
 use Rattle.laws.specs.Scottish.{scottish-regular}
 use Rattle.text.specs.Places.{lineEnd}
-use Rattle.volume.specs.declared.check.Answer.{Answer as Six′}
-use Rattle.volume.specs.Answer.{answerOf}
+use Rattle.answers.specs.declared.numbers.Answer.{Answer as Six′}
+use Rattle.answers.specs.Meant.{answerOf}
 use Rattle.places.specs.Places.{says}
 use Rattle.places.specs.Counts.{Counted}
 use Rattle.places.specs.Tags.{Tagged}
@@ -65,7 +68,7 @@ module _ (h f : List ℕ) (room : ℕ) (r : Held) (a o tl : List ℕ) (w : HeldI
   sounds : readHolding scottish h ≡ sound st
   sounds = held-sound h (sym (w .line) ∙ z)
 
-  state : Sound (keyed scottish) (fine scottish) (always scottish) st
+  state : Sound (keyed scottish) (fine scottish) (heldTests scottish) st
   unfolding heldRecords
   state = holding scottish scottish-regular .holds h st (ap heldRecords sounds) .1
 
@@ -84,7 +87,7 @@ module _ (h f : List ℕ) (room : ℕ) (r : Held) (a o tl : List ℕ) (w : HeldI
     load-faulty n = on-file ∙ go (readFile scottish f) e
       where
         go : (u : Read Sheet) → c ≡ answerOf (checked u) → onFile scottish room st u ≡ refused (c .code) (c .line) (c .field)
-        go (fault d l x) q = unfold checked onFile in rw q
+        go (fault r) q = unfold checked onFile in rw q
         go (file s) q = absurd (unfold checked in n (ap (λ y. y .code) q))
 
     module _ (k : c .code ≡ 0) where
@@ -99,7 +102,7 @@ module _ (h f : List ℕ) (room : ℕ) (r : Held) (a o tl : List ℕ) (w : HeldI
       read = go (readFile scottish f) refl (file-codes scottish scottish-regular f) e
         where
           go : (u : Read Sheet) → readFile scottish f ≡ u → ReadIn u → c ≡ answerOf (checked u) → Reads
-          go (fault d l x) q i p = absurd (unfold checked among in (rw (sym (ap (λ y. y .code) p) ∙ k) at i))
+          go (fault r) q i p = absurd (unfold checked among in (rw (sym (ap (λ y. y .code) p) ∙ k) at i))
           go (file s) q i p = unfold checked in record { sheet = s; reads = q; counts = p }
 
       -- it is a sound file
@@ -118,9 +121,9 @@ module _ (h f : List ℕ) (room : ℕ) (r : Held) (a o tl : List ℕ) (w : HeldI
 
       module _ (s : length h ≤ room) where
         -- so the steps are made
-        on-steps : load scottish room h f ≡ outcome (read .sheet .1) (run (keyed scottish) (stepTests scottish room) 2 st (read .sheet .1))
+        on-steps : load scottish room h f ≡ outcome (read .sheet .1) (run (keyed scottish) (stepRules scottish room) 2 st (read .sheet .1))
         unfolding fromStart fits
-        on-steps = on-start ∙ ap (λ b. pick b (outcome (read .sheet .1) (run (keyed scottish) (stepTests scottish room) 2 st (read .sheet .1))) (refused 13 0 0)) (le-leb (length (written st)) room (omega (arith, ap length bytes)))
+        on-steps = on-start ∙ ap (λ b. pick b (outcome (read .sheet .1) (run (keyed scottish) (stepRules scottish room) 2 st (read .sheet .1))) (refused 13 0 0)) (le-leb (length (written st)) room (omega (arith, ap length bytes)))
 
         -- the holding as it stands is ready for them
         pub load-ready : 8192 ≤ length a → room < 9223372036854775808 → length h < 9223372036854775808 → length f < 9223372036854775808
@@ -158,8 +161,8 @@ module _ (h f : List ℕ) (room : ℕ) (r : Held) (a o tl : List ℕ) (w : HeldI
           said = w .listed z .says f
 
           -- the run of the file's changes
-          ran : ranAs h f b n ≡ run (keyed scottish) (stepTests scottish room) 2 st (read .sheet .1)
-          ran = y .ended ∙ ap (λ l. run (keyed scottish) (stepTests scottish room) 2 l (changesOf (readFile scottish f))) said ∙ ap (λ u. run (keyed scottish) (stepTests scottish room) 2 st (changesOf u)) (read .reads)
+          ran : ranAs h f b n ≡ run (keyed scottish) (stepRules scottish room) 2 st (read .sheet .1)
+          ran = y .ended ∙ ap (λ l. run (keyed scottish) (stepRules scottish room) 2 l (changesOf (readFile scottish f))) said ∙ ap (λ u. run (keyed scottish) (stepRules scottish room) 2 st (changesOf u)) (read .reads)
 
           -- a step that is refused
           pub load-stopped : (n .code ≡ 0 → ⊥) → load scottish room h f ≡ refused (n .code) (n .line) 0

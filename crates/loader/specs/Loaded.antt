@@ -8,17 +8,19 @@ use Rattle.theory.specs.Answer.{took, refused}
 use Rattle.meaning.specs.Table.{scottish}
 use Rattle.meaning.specs.File.{mostBody}
 use Rattle.meaning.specs.Holding.{written}
-use Rattle.meaning.specs.Load.{Six, six, load, undoBytes}
+use Rattle.meaning.specs.Load.{six, load}
+use Rattle.meaning.specs.Answers.{Numbers}
+use Rattle.meaning.specs.Undo.{undoBytes}
 use Rattle.text.specs.Places.{lineEnd}
 use Rattle.places.specs.Places.{says}
-use Rattle.volume.specs.Answer.{answerOf}
+use Rattle.answers.specs.Meant.{answerOf}
 use Rattle.writer.specs.Runs.{backTexts}
 use Rattle.loader.specs.declared.load.Loaded.{Loaded}
 
 -- the six numbers: those of a file that is taken count its body lines
-abbrev pub numbers : theory.Answer → Six
-numbers (took new i u d) = six 0 0 0 i u d
-numbers (refused c l f) = six c l f 0 0 0
+abbrev pub numbers : theory.Answer → Numbers
+numbers (took new n) = six 0 0 0 i u d
+numbers (refused r) = six (r .code) (r .line) (r .field) 0 0 0
 
 -- an undo: the file's first line, the first n steps taken back, and what stands in the file from `end` on
 unfoldable pub undoText : List ℕ → List ℕ → List ℕ → List ℕ → ℕ → ℕ → List ℕ

@@ -4,14 +4,14 @@ ghost use Prim.Native.Nat.{_≤_, _<_};
 ghost use lib.ListN.{length};
 ghost use Rattle.base.specs.Lists.{zeros};
 ghost use Rattle.meaning.specs.Load.{six};
-ghost use Rattle.volume.specs.Answer.{answerOf};
+ghost use Rattle.answers.specs.Meant.{answerOf};
 ghost use Rattle.loader.specs.Loaded.{Loads};
 use holding::read::read_holding;
 use judge::State;
 use layout::limits::Holding;
 use steps::run::Ran;
 use steps::run::run;
-use volume::check::Answer;
+use answers::numbers::Answer;
 use volume::check::check_file;
 
 // The six numbers; where they are of a file that is taken, how many records are in force after it, how many steps it made, and where

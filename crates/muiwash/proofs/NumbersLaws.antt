@@ -4,19 +4,18 @@ use mathlib.Core.List.{List, [], _∷_}
 use Prim.Native.Nat.{ℕ}
 use borrow.Author.Needs.{needs}
 use Rattle.base.specs.Lists.{pick}
-use Rattle.meaning.specs.Load.{Six, Three}
 use Rattle.meaning.specs.Enquiries.{Slice, first, second, Found}
-use Rattle.volume.specs.declared.check.Answer.{Answer}
-use Rattle.volume.specs.Answer.{answerOf}
-use Rattle.holding.specs.declared.check.Verdict.{Verdict}
-use Rattle.holding.specs.Verdict.{verdictOf}
+use Rattle.meaning.specs.Answers.{Numbers, Three}
+use Rattle.answers.specs.declared.numbers.Answer.{Answer}
+use Rattle.answers.specs.Meant.{answerOf, verdictOf}
+use Rattle.answers.specs.declared.numbers.Verdict.{Verdict}
 use Rattle.enquiries.specs.declared.finding.Finding.{Finding}
 use Rattle.enquiries.specs.Finding.{inFile, findingOf}
 use Rattle.enquiries.specs.Handed.{threeList}
 use Rattle.muiwash.specs.Numbers.{sixList, answerList, verdictList, partList, sideOf, sidedList, findingList, sidedFindingList}
 
 -- six
-pub six-told : (a : Answer) (s : Six) (l : List ℕ) → a ≡ answerOf s → l ≡ answerList a → l ≡ sixList s
+pub six-told : (a : Answer) (s : Numbers) (l : List ℕ) → a ≡ answerOf s → l ≡ answerList a → l ≡ sixList s
 six-told a s l e w = w ∙ ap answerList e
 
 -- three

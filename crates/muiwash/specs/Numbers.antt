@@ -4,15 +4,16 @@ use mathlib.Core.List.{List, [], _∷_}
 use Prim.Native.Nat.{ℕ}
 use Rattle.base.specs.Lists.{pick}
 use Rattle.meaning.specs.Table.{scottish}
-use Rattle.meaning.specs.Load.{Six, apply, undoFile}
+use Rattle.meaning.specs.Load.{apply, undoFile}
 use Rattle.meaning.specs.Enquiries.{Slice, first, second, Found}
+use Rattle.meaning.specs.Answers.{Numbers}
 use Rattle.laws.specs.Buffers.{one-outcome}
-use Rattle.volume.specs.declared.check.Answer.{Answer}
-use Rattle.holding.specs.declared.check.Verdict.{Verdict}
+use Rattle.answers.specs.declared.numbers.Answer.{Answer}
+use Rattle.answers.specs.declared.numbers.Verdict.{Verdict}
 use Rattle.enquiries.specs.declared.finding.Finding.{Finding}
 
 -- the six numbers in their order
-abbrev pub sixList : Six → List ℕ
+abbrev pub sixList : Numbers → List ℕ
 sixList s = s .code ∷ s .line ∷ s .field ∷ s .inserts ∷ s .updates ∷ s .deletes ∷ []
 
 -- those of the code's answer

@@ -3,8 +3,8 @@ ghost use mathlib.Core.Path.{_≡_};
 ghost use Rattle.base.specs.Lists.{pick};
 ghost use Rattle.muiwash.specs.Numbers.{answerList, verdictList, findingList, sidedFindingList};
 use enquiries::finding::Finding;
-use holding::check::Verdict;
-use volume::check::Answer;
+use answers::numbers::Verdict;
+use answers::numbers::Answer;
 
 // Code, line, field, and the body lines with I, U and D.
 pub fn six(answer: Answer) -> [u64; 6]

@@ -11,7 +11,7 @@ use mir.Val.{Fits}
 use Rattle.theory.specs.Decimal.{width, dec}
 use Rattle.theory.specs.DecimalLaws.{length-dec}
 use Rattle.meaning.specs.Load.{six}
-use Rattle.meaning.specs.Program.{printSix}
+use Rattle.meaning.specs.Program.{printNumbers}
 use Rattle.text.specs.Front.{inFront}
 use Rattle.text.proofs.FrontLaws.{front-same, front-then, front-room, front-last, last-room}
 use Rattle.text.proofs.NumberLaws.{width-most}
@@ -86,13 +86,13 @@ pub ruleset threefold = (needs, second-room, third-room, three-count, three-done
 -- ---- all six
 
 -- they are the first three with a comma after them, then the counts with CR LF
-six-parts : (c l f i u d : ℕ) → threeThen c l f (44 ∷ []) ++ threeThen i u d (13 ∷ 10 ∷ []) ≡ printSix (six c l f i u d)
-unfolding threeThen numberThen printSix
+six-parts : (c l f i u d : ℕ) → threeThen c l f (44 ∷ []) ++ threeThen i u d (13 ∷ 10 ∷ []) ≡ printNumbers (six c l f i u d)
+unfolding threeThen numberThen printNumbers
 six-parts c l f i u d = simp append-assoc
 
 module _ (c l f i u d : ℕ) (n : ℕ) (p : n ≡ length (threeThen c l f (44 ∷ []))) where
   -- how much is written
-  pub six-count : (m : ℕ) → m ≡ length (threeThen i u d (13 ∷ 10 ∷ [])) → n + m ≡ length (printSix (six c l f i u d))
+  pub six-count : (m : ℕ) → m ≡ length (threeThen i u d (13 ∷ 10 ∷ [])) → n + m ≡ length (printNumbers (six c l f i u d))
   six-count m r = omega (arith, length-append (threeThen c l f (44 ∷ [])) (threeThen i u d (13 ∷ 10 ∷ [])), ap length (six-parts c l f i u d))
 
   module _ (old new : List ℕ) (q : new ≡ inFront (threeThen c l f (44 ∷ [])) old) where
@@ -101,7 +101,7 @@ module _ (c l f i u d : ℕ) (n : ℕ) (p : n ≡ length (threeThen c l f (44 �
     counts-room h k = front-room (threeThen c l f (44 ∷ [])) old new n 64 p q (omega arith)
 
     -- with them all are there
-    pub six-done : (last : List ℕ) → last ≡ inFront (threeThen i u d (13 ∷ 10 ∷ [])) (take (length new - n) (drop n new)) → putMid n (length new - n) new last ≡ inFront (printSix (six c l f i u d)) old
+    pub six-done : (last : List ℕ) → last ≡ inFront (threeThen i u d (13 ∷ 10 ∷ [])) (take (length new - n) (drop n new)) → putMid n (length new - n) new last ≡ inFront (printNumbers (six c l f i u d)) old
     six-done last w = front-then (threeThen c l f (44 ∷ [])) (threeThen i u d (13 ∷ 10 ∷ [])) old new last n p q w ∙ ap (λ t. inFront t old) (six-parts c l f i u d)
 
 pub ruleset sixfold = (needs, six-count, counts-room, six-done)

@@ -2,11 +2,11 @@
 ghost use mathlib.Core.Path.{_≡_};
 ghost use Prim.Native.Nat.{_+_, _≤_};
 ghost use lib.ListN.{length};
-ghost use Rattle.meaning.specs.Program.{printSix};
+ghost use Rattle.meaning.specs.Program.{printNumbers};
 ghost use Rattle.text.specs.Front.{inFront};
 ghost use Rattle.printed.specs.Printed.{numberThen, threeThen, sixOf};
 use text::put;
-use volume::check::Answer;
+use answers::numbers::Answer;
 
 // A number, and what stands after it.
 fn put_number(out: &mut [u8], n: u64, mark: &[u8]) -> usize
@@ -32,7 +32,7 @@ fn put_three(out: &mut [u8], a: u64, b: u64, c: u64, mark: &[u8]) -> usize
 // All six: no number has more than 20 digits, so 127 bytes are enough.
 pub fn put_six(out: &mut [u8], a: Answer) -> usize
     requires { ⌜ 127 ≤ length (now out) ⌝ }
-    ensures { λ r. ⌜ (r ≡ length (printSix (sixOf a))) × (r ≤ 127) × (now (out .exit) ≡ inFront (printSix (sixOf a)) (now (out .entry))) ⌝ }
+    ensures { λ r. ⌜ (r ≡ length (printNumbers (sixOf a))) × (r ≤ 127) × (now (out .exit) ≡ inFront (printNumbers (sixOf a)) (now (out .entry))) ⌝ }
 {
     let at = put_three(&mut *out, a.code, a.line as u64, a.field as u64, b",");
     at

@@ -7,14 +7,14 @@ ghost use Prim.Native.Nat.{_≤_};
 ghost use lib.ListN.{length};
 ghost use Rattle.meaning.specs.Table.{scottish};
 ghost use Rattle.meaning.specs.Load.{six, load};
-ghost use Rattle.meaning.specs.Program.{unusable, printSix, printLoad, programRoom};
+ghost use Rattle.meaning.specs.Program.{unusable, printNumbers, printLoad, programRoom};
 ghost use Rattle.text.specs.Front.{inFront};
 ghost use Rattle.program.specs.Outcome.{inputOf, PrintOutcome};
 use apply::apply;
 use printed::bare::bare_length;
 use printed::numbers::put_six;
 use text::put;
-use volume::check::refused;
+use answers::numbers::refused;
 
 // The most bytes of an input, and the bytes of the output that apply is given.
 pub const ROOM: usize = 65536;
@@ -35,7 +35,7 @@ fn is_unusable(readable: bool, s: &[u8]) -> bool
 // 18, which comes first of all.
 fn print_unusable(printed: &mut [u8]) -> usize
     requires { ⌜ 65663 ≤ length (now printed) ⌝ }
-    ensures { λ r. ⌜ (r ≡ length (printSix (six 18 0 0 0 0 0))) × (r ≤ 65663) × (now (printed .exit) ≡ inFront (printSix (six 18 0 0 0 0 0)) (now (printed .entry))) ⌝ }
+    ensures { λ r. ⌜ (r ≡ length (printNumbers (six 18 0 0 0 0 0))) × (r ≤ 65663) × (now (printed .exit) ≡ inFront (printNumbers (six 18 0 0 0 0 0)) (now (printed .entry))) ⌝ }
 {
     put_six(&mut *printed, refused(18, 0, 0))
 }

@@ -2,7 +2,7 @@
 //
 // No contract can say which bytes C writes, so these promise nothing; what a program says is compared with its file `stdout`.
 use libc::STDOUT_FILENO;
-use volume::check::Answer;
+use answers::numbers::Answer;
 
 // Words.
 pub fn say(words: &[u8]) {

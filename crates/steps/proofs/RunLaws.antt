@@ -18,7 +18,7 @@ use Rattle.base.specs.Lists.{pick, all}
 use Rattle.base.specs.Tests.{and-l, and-r}
 use Rattle.theory.specs.Step.{Op, Change, judge, after, back}
 use Rattle.theory.specs.Trail.{undo}
-use Rattle.theory.specs.Answer.{Read, fault, file}
+use Rattle.theory.specs.Answer.{fault, file}
 use Rattle.theory.specs.Run as Theory
 use Rattle.theory.specs.Run.{Out, done, stop, on}
 use Rattle.meaning.specs.Lines.{Line, linesOf, fieldsOf}
@@ -27,7 +27,8 @@ use Rattle.meaning.specs.Table.{scottish}
 use Rattle.meaning.specs.Records.{Rec, keyed, opOf, changeOf}
 use Rattle.meaning.specs.Holding.{isHeld}
 use Rattle.meaning.specs.File.{Sheet, readFile, mostBody}
-use Rattle.meaning.specs.Load.{stepTests}
+use Rattle.meaning.specs.Answers.{Read}
+use Rattle.meaning.specs.Steps.{stepRules}
 use Rattle.laws.specs.LinesAndFields.{endsAll}
 use Rattle.laws.specs.FileReadBack.{fineC, file-says}
 use Rattle.laws.specs.SoundFile.{RoleLine, SaysChange, SaysChanges, read-sound}
@@ -85,7 +86,7 @@ body-from n (x ∷ ts) (c ∷ cs) m t s r = rw (role-is bodyLine x (s .0 .line),
 -- the changes of a sound file are those of the lines after its first, and there are few
 body-of : (f : List ℕ) → T (isFile (readFile scottish f)) → (x : Read Sheet) → readFile scottish f ≡ x
     → (bodyFrom (drop 1 (linesOf f)) ≡ changesOf x) × T (all (fineC scottish) (changesOf x)) × (linesOf f ≡ [] → ⊥) × (length (changesOf x) ≤ mostBody)
-body-of f t (fault c l k) e = absurd (subst (λ x. T (isFile x)) e t)
+body-of f t (fault r) e = absurd (subst (λ x. T (isFile x)) e t)
 body-of f t (file s) e =
     let w = read-sound scottish f (s .0) (s .1) e in (
       ap (λ ls. bodyFrom (drop 1 ls)) (w .lines) ∙ body-from 1 (w .texts) (s .1) (s .0 .metadataText) (s .0 .trailerText) (w .body) (w .describing),
@@ -103,7 +104,7 @@ Backed h f a₀ s₀ a s cs steps before n =
 
 -- what is left to run from `at` on, after n steps, ends as the whole run does
 pub record Going (h f a₀ : List ℕ) (room : ℕ) (s₀ : State) (a o t steps before : List ℕ) (s : State) (at n : ℕ) : Type 0 where
-  pub left : Theory.run (keyed scottish) (stepTests scottish room) (n + 2) (says h f a (s .count)) (bodyFrom (linesOf (drop at f))) ≡ Theory.run (keyed scottish) (stepTests scottish room) 2 (says h f a₀ (s₀ .count)) (changesOf (readFile scottish f))
+  pub left : Theory.run (keyed scottish) (stepRules scottish room) (n + 2) (says h f a (s .count)) (bodyFrom (linesOf (drop at f))) ≡ Theory.run (keyed scottish) (stepRules scottish room) 2 (says h f a₀ (s₀ .count)) (changesOf (readFile scottish f))
   pub backed : Backed h f a₀ s₀ a s (bodyFrom (linesOf (drop at f))) steps before n
   pub rest : linesOf (drop at f) ≡ drop (n + 1) (linesOf f)
   pub ready : Ready h f a room s
@@ -128,7 +129,7 @@ unfolding stepsBack
 go-start h f a o c steps before room s e y i d t p k q m =
     let b = body-of f t (readFile scottish f) refl in
     record {
-      left = ap (Theory.run (keyed scottish) (stepTests scottish room) 2 (says h f a (s .count))) (body ∙ b .0);
+      left = ap (Theory.run (keyed scottish) (stepRules scottish room) 2 (says h f a (s .count))) (body ∙ b .0);
       backed = append-nil _ ∙ ap (undo (after (keyed scottish)) (back (keyed scottish)) (says h f a (s .count))) (body ∙ b .0);
       rest = lines-after f 0 e q full;
       ready = y;
@@ -151,12 +152,12 @@ go-start h f a o c steps before room s e y i d t p k q m =
 module _ (h f a₀ : List ℕ) (room : ℕ) (s₀ : State) (a o t steps before : List ℕ) (s : State) (at n : ℕ) (g : Going h f a₀ room s₀ a o t steps before s at n) where
   ended : bodyFrom (linesOf (drop at f)) ≡ [] → Runs h f a₀ a steps before room s₀ (record { code = 0; line = 0; state = s; steps = n; end = at })
   ended e = record {
-    ended = run-nil ∙ ap (Theory.run (keyed scottish) (stepTests scottish room) (n + 2) (says h f a (s .count))) (sym e) ∙ g .left;
+    ended = run-nil ∙ ap (Theory.run (keyed scottish) (stepRules scottish room) (n + 2) (says h f a (s .count))) (sym e) ∙ g .left;
     ready = λ z. g .ready;
     kept = λ z. record { few = omega (arith, g .few); backed = subst (λ cs. Backed h f a₀ s₀ a s cs steps before n) e (g .backed); rest = g .rest };
   }
     where
-      run-nil : done (says h f a (s .count)) ≡ Theory.run (keyed scottish) (stepTests scottish room) (n + 2) (says h f a (s .count)) []
+      run-nil : done (says h f a (s .count)) ≡ Theory.run (keyed scottish) (stepRules scottish room) (n + 2) (says h f a (s .count)) []
       run-nil = unfold Theory.run in refl
 
   -- where no line is left the run is done
@@ -199,16 +200,16 @@ module _ (h f a₀ : List ℕ) (room : ℕ) (s₀ : State) (a o t steps before :
       go-before = omega (arith, few-here, g .beforeSpace)
 
       module _ (b′ o′ t′ : List ℕ) (r : Stepped) (w : Steps h f a b′ o′ t′ room (changeAt f at) s r) where
-        run-here : on (judge (keyed scottish) (stepTests scottish room) (says h f a (s .count)) (changeAt f at)) (n + 2)
-            (Theory.run (keyed scottish) (stepTests scottish room) (suc (n + 2)) (after (keyed scottish) (says h f a (s .count)) (changeAt f at)) (bodyFrom (linesOf (drop (at + (lineLen (drop at f) + 2)) f))))
-            ≡ Theory.run (keyed scottish) (stepTests scottish room) 2 (says h f a₀ (s₀ .count)) (changesOf (readFile scottish f))
+        run-here : on (judge (keyed scottish) (stepRules scottish room) (says h f a (s .count)) (changeAt f at)) (n + 2)
+            (Theory.run (keyed scottish) (stepRules scottish room) (suc (n + 2)) (after (keyed scottish) (says h f a (s .count)) (changeAt f at)) (bodyFrom (linesOf (drop (at + (lineLen (drop at f) + 2)) f))))
+            ≡ Theory.run (keyed scottish) (stepRules scottish room) 2 (says h f a₀ (s₀ .count)) (changesOf (readFile scottish f))
         unfolding Theory.run
-        run-here = sym (ap (Theory.run (keyed scottish) (stepTests scottish room) (n + 2) (says h f a (s .count))) body-here) ∙ g .left
+        run-here = sym (ap (Theory.run (keyed scottish) (stepRules scottish room) (n + 2) (says h f a (s .count))) body-here) ∙ g .left
 
         -- a step that is refused ends the run at its line
         pub go-stop : (x : Ran) → x ≡ record { code = r .code; line = n + 2; state = s; steps = n; end = at } → (r .code ≡ 0 → ⊥) → Runs h f a₀ b′ steps before room s₀ x
         go-stop p v x = rw v (record {
-          ended = rw (ne-eqb (r .code) 0 x) (sym (halt (judge (keyed scottish) (stepTests scottish room) (says h f a (s .count)) (changeAt f at)) (w .coded) _) ∙ run-here);
+          ended = rw (ne-eqb (r .code) 0 x) (sym (halt (judge (keyed scottish) (stepRules scottish room) (says h f a (s .count)) (changeAt f at)) (w .coded) _) ∙ run-here);
           ready = λ z. absurd (x z);
           kept = λ z. absurd (x z);
         })

@@ -19,16 +19,14 @@ use Rattle.theory.specs.FoldLaws.{length-put, all-put, put-all?}
 use Rattle.theory.specs.Store.{get, put, Asc}
 use Rattle.theory.specs.StoreLaws.{asc-put}
 use Rattle.theory.specs.Refs.{meets, met}
-use Rattle.theory.specs.Limits.{most, few}
-use Rattle.theory.specs.Step.{Op, ins, upd, del, Change, fails, passes, new, codeOf, allowed, judge, after}
+use Rattle.theory.specs.Step.{Op, ins, upd, del, Change, fails, passes, new, allowed, judge, after}
 use Rattle.theory.specs.StepLaws.{ok-judge, asc-after}
 use Rattle.meaning.specs.Records.{Rec, keyed, keyOf, refsOf}
 use Rattle.meaning.specs.Kinds.{role}
 use Rattle.meaning.specs.Table.{scottish}
-use Rattle.meaning.specs.Holding.{isHeld, written}
-use Rattle.meaning.specs.Load.{fits, stepTests}
+use Rattle.meaning.specs.Holding.{isHeld, written, mostRecords}
+use Rattle.meaning.specs.Steps.{few, keyCode, fits, stepRules, heldTests}
 use Rattle.laws.specs.Body.{fine, fine-body}
-use Rattle.laws.specs.HoldingReadBack.{always}
 use Rattle.layout.specs.declared.kinds.Kind as code
 use Rattle.layout.specs.declared.kinds.Kind.the-variants.{Header, Street, StreetXref, Blpu, AppXref, Lpi, Metadata, Trailer}
 use Rattle.layout.specs.Meant.{kindMeant}
@@ -68,28 +66,28 @@ unfolding ask
 need-coded true w o n c = c
 need-coded false w o n c = n
 
-op-coded : (p : Op) → codeOf p ≡ 0 → ⊥
+op-coded : (p : Op) → keyCode p ≡ 0 → ⊥
 op-coded ins e = omega arith
 op-coded upd e = omega arith
 op-coded del e = omega arith
 
-tests-coded : (room : ℕ) (st : List Rec) → Coded (fails (stepTests scottish room) st)
-unfolding fails stepTests
+tests-coded : (room : ℕ) (st : List Rec) → Coded (fails (stepRules scottish room) st)
+unfolding fails stepRules
 tests-coded room st =
     need-coded (few st) 16 (ask (met (keyed scottish) (refsOf scottish) st) 12 (ask (fits room st) 13 none)) (λ e. omega arith)
     (need-coded (met (keyed scottish) (refsOf scottish) st) 12 (ask (fits room st) 13 none) (λ e. omega arith) (need-coded (fits room st) 13 none (λ e. omega arith) tt))
 
-judge-coded : (room : ℕ) (st : List Rec) (c : Change Rec) → Coded (judge (keyed scottish) (stepTests scottish room) st c)
+judge-coded : (room : ℕ) (st : List Rec) (c : Change Rec) → Coded (judge (keyed scottish) (stepRules scottish room) st c)
 unfolding judge
-judge-coded room st c = need-coded (allowed (c .op) (get (keyed scottish) (keyOf scottish (c .rec)) st)) (codeOf (c .op)) (fails (stepTests scottish room) (after (keyed scottish) st c)) (op-coded (c .op)) (tests-coded room (after (keyed scottish) st c))
+judge-coded room st c = need-coded (allowed (c .op) (get (keyed scottish) (keyOf scottish (c .rec)) st)) (keyCode (c .op)) (fails (stepRules scottish room) (after (keyed scottish) st c)) (op-coded (c .op)) (tests-coded room (after (keyed scottish) st c))
 
 zero-none : (o : Option ℕ) → Coded o → codeNumber o ≡ 0 → o ≡ none
 zero-none none c e = refl
 zero-none (some w) c e = absurd (c e)
 
 -- code 0 is no refusal
-pub code-none : (room w : ℕ) (st : List Rec) (c : Change Rec) → w ≡ codeNumber (judge (keyed scottish) (stepTests scottish room) st c) → w ≡ 0 → judge (keyed scottish) (stepTests scottish room) st c ≡ none
-code-none room w st c e z = zero-none (judge (keyed scottish) (stepTests scottish room) st c) (judge-coded room st c) (sym e ∙ z)
+pub code-none : (room w : ℕ) (st : List Rec) (c : Change Rec) → w ≡ codeNumber (judge (keyed scottish) (stepRules scottish room) st c) → w ≡ 0 → judge (keyed scottish) (stepRules scottish room) st c ≡ none
+code-none room w st c e z = zero-none (judge (keyed scottish) (stepRules scottish room) st c) (judge-coded room st c) (sym e ∙ z)
 
 -- references that are met by keys are met by numbers
 met-told : (st : List Rec) → T (all (fine scottish) st) → T (met (keyed scottish) (refsOf scottish) st) → T (all (meets numbered refNumbers st) st)
@@ -123,19 +121,19 @@ module _ (h f a : List ℕ) (room v : ℕ) (s : State) (y : Ready h f a room s) 
   step-refused o t p r q n e = rw e (record { coded = q .coded; left = λ z. absurd (n z) })
 
   module _ (p : Op) (q : Judges h f a room (change p (recordOf h f v)) s j) (z : j .code ≡ 0) where
-    passed : T (allowed p (get (keyed scottish) (keyOf scottish (recordOf h f v)) (says h f a (s .count)))) × T (passes (stepTests scottish room) (after (keyed scottish) (says h f a (s .count)) (change p (recordOf h f v))))
-    passed = ok-judge (keyed scottish) (stepTests scottish room) (says h f a (s .count)) (change p (recordOf h f v)) (code-none room (j .code) (says h f a (s .count)) (change p (recordOf h f v)) (q .coded) z)
+    passed : T (allowed p (get (keyed scottish) (keyOf scottish (recordOf h f v)) (says h f a (s .count)))) × T (passes (stepRules scottish room) (after (keyed scottish) (says h f a (s .count)) (change p (recordOf h f v))))
+    passed = ok-judge (keyed scottish) (stepRules scottish room) (says h f a (s .count)) (change p (recordOf h f v)) (code-none room (j .code) (says h f a (s .count)) (change p (recordOf h f v)) (q .coded) z)
 
     few-after : T (few (after (keyed scottish) (says h f a (s .count)) (change p (recordOf h f v))))
-    unfolding stepTests
+    unfolding stepRules
     few-after = and-l (few (after (keyed scottish) (says h f a (s .count)) (change p (recordOf h f v)))) _ (passed .1)
 
     met-after : T (met (keyed scottish) (refsOf scottish) (after (keyed scottish) (says h f a (s .count)) (change p (recordOf h f v))))
-    unfolding stepTests
+    unfolding stepRules
     met-after = and-l (met (keyed scottish) (refsOf scottish) (after (keyed scottish) (says h f a (s .count)) (change p (recordOf h f v)))) _ (and-r (few (after (keyed scottish) (says h f a (s .count)) (change p (recordOf h f v)))) _ (passed .1))
 
     fits-after : length (written (after (keyed scottish) (says h f a (s .count)) (change p (recordOf h f v)))) ≤ room
-    unfolding stepTests fits
+    unfolding stepRules fits
     fits-after =
         leb→le (length (written (after (keyed scottish) (says h f a (s .count)) (change p (recordOf h f v))))) room
         (and-l (leb (length (written (after (keyed scottish) (says h f a (s .count)) (change p (recordOf h f v))))) room) _
@@ -150,7 +148,7 @@ module _ (h f a : List ℕ) (room v : ℕ) (s : State) (y : Ready h f a room s) 
     ready-next b m e n l = record {
       asc = subst (Asc (keyed scottish)) (sym e) (asc-after (keyed scottish) (says h f a (s .count)) (change p (recordOf h f v)) (y .asc));
       fines = subst (λ x. T (all (fine scottish) x)) (sym e) fines-after;
-      pass = subst (λ x. T (passes (always scottish) x)) (sym e) (and-in (few (after (keyed scottish) (says h f a (s .count)) (change p (recordOf h f v)))) _ few-after (and-in (met (keyed scottish) (refsOf scottish) (after (keyed scottish) (says h f a (s .count)) (change p (recordOf h f v)))) true met-after tt));
+      pass = subst (λ x. T (passes (heldTests scottish) x)) (sym e) (and-in (few (after (keyed scottish) (says h f a (s .count)) (change p (recordOf h f v)))) _ few-after (and-in (met (keyed scottish) (refsOf scottish) (after (keyed scottish) (says h f a (s .count)) (change p (recordOf h f v)))) true met-after tt));
       counted = n ∙ ap length (sym e);
       sized = q .sized z ∙ ap (λ x. length (written x)) (sym e);
       fits = omega (arith, q .sized z, fits-after);
@@ -218,7 +216,7 @@ module _ (h f a : List ℕ) (room v : ℕ) (s : State) (y : Ready h f a room s) 
     -- there is room for one entry more
     pub ins-in : s .count < length a
     unfolding few
-    ins-in = omega (arith, ins-count, y .space, leb→le (length (after (keyed scottish) (says h f a (s .count)) (change ins (recordOf h f v)))) most (few-after ins q z))
+    ins-in = omega (arith, ins-count, y .space, leb→le (length (after (keyed scottish) (says h f a (s .count)) (change ins (recordOf h f v)))) mostRecords (few-after ins q z))
 
     -- its place is among the entries, or after them
     pub ins-place : j .place ≤ s .count
@@ -236,7 +234,7 @@ module _ (h f a : List ℕ) (room v : ℕ) (s : State) (y : Ready h f a room s) 
 
     ins-space : (o : List ℕ) → 8192 ≤ length o → s .count < length o
     unfolding few
-    ins-space o l = omega (arith, ins-count, leb→le (length (after (keyed scottish) st (change ins x))) most (few-after ins q z))
+    ins-space o l = omega (arith, ins-count, leb→le (length (after (keyed scottish) st (change ins x))) mostRecords (few-after ins q z))
 
     -- there is room for one tag more
     pub ins-tags : (o : List ℕ) → Tagged h f a o (s .count) → s .count < length o

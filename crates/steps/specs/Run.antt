@@ -8,7 +8,7 @@ use lib.ListN.{getD, drop}
 use Rattle.base.specs.Lists.{pick}
 use Rattle.theory.specs.Step.{Change, after, back}
 use Rattle.theory.specs.Trail.{undo}
-use Rattle.theory.specs.Answer.{Read, fault, file}
+use Rattle.theory.specs.Answer.{fault, file}
 use Rattle.theory.specs.Run as Theory
 use Rattle.theory.specs.Run.{Out, done, stop}
 use Rattle.meaning.specs.Lines.{Line, linesOf, fieldsOf}
@@ -17,7 +17,8 @@ use Rattle.meaning.specs.Table.{scottish}
 use Rattle.meaning.specs.Records.{Rec, keyed, opOf}
 use Rattle.meaning.specs.Holding.{isHeld}
 use Rattle.meaning.specs.File.{Sheet, readFile, mostBody}
-use Rattle.meaning.specs.Load.{stepTests}
+use Rattle.meaning.specs.Answers.{Read}
+use Rattle.meaning.specs.Steps.{stepRules}
 use Rattle.entries.specs.Entries.{recOf}
 use Rattle.places.specs.Places.{says}
 use Rattle.places.specs.Changes.{change, stepsBack}
@@ -27,12 +28,12 @@ use Rattle.steps.specs.declared.run.Ran.{Ran}
 
 -- what was read is a sound file
 abbrev pub isFile : Read Sheet → Bool
-isFile (fault c l f) = false
+isFile (fault r) = false
 isFile (file s) = true
 
 -- its changes
 abbrev pub changesOf : Read Sheet → List (Change Rec)
-changesOf (fault c l f) = []
+changesOf (fault r) = []
 changesOf (file s) = s .1
 
 -- the changes of the body lines from here up to the metadata
@@ -52,6 +53,6 @@ pub record Kept (h f a steps before : List ℕ) (s : State) (r : Ran) : Type 0 w
 
 -- the run ends as the run of the file's changes from line 2 on does, and where nothing is refused it leaves a state that is ready for more, and what its undo needs
 pub record Runs (h f a b steps before : List ℕ) (room : ℕ) (s : State) (r : Ran) : Type 0 where
-  pub ended : ranAs h f b r ≡ Theory.run (keyed scottish) (stepTests scottish room) 2 (says h f a (s .count)) (changesOf (readFile scottish f))
+  pub ended : ranAs h f b r ≡ Theory.run (keyed scottish) (stepRules scottish room) 2 (says h f a (s .count)) (changesOf (readFile scottish f))
   pub ready : r .code ≡ 0 → Ready h f b room (r .state)
   pub kept : r .code ≡ 0 → Kept h f a steps before s r

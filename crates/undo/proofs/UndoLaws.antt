@@ -15,15 +15,17 @@ use lib.Dec.{leb}
 use lib.ListN.{length, take, drop, length-append, length-drop}
 use lib.Seq.{length-take-le, take-all}
 use Rattle.base.specs.Lists.{pick, zeros}
-use Rattle.theory.specs.Answer.{Answer, took, refused}
+use Rattle.theory.specs.Answer.{took, refused}
 use Rattle.meaning.specs.Table.{scottish}
 use Rattle.meaning.specs.Holding.{written}
-use Rattle.meaning.specs.Load.{six, filled, load, undoBytes, undone, undoFile}
+use Rattle.meaning.specs.Load.{six, thenZeros, load, undone, undoFile}
+use Rattle.meaning.specs.Answers.{Answer}
+use Rattle.meaning.specs.Undo.{undoBytes}
 use Rattle.text.specs.Front.{inFront}
 use Rattle.text.specs.Places.{lineEnd}
 use Rattle.places.specs.Places.{says}
-use Rattle.volume.specs.declared.check.Answer.{Answer as Six′}
-use Rattle.volume.specs.Answer.{answerOf}
+use Rattle.answers.specs.declared.numbers.Answer.{Answer as Six′}
+use Rattle.answers.specs.Meant.{answerOf}
 use Rattle.writer.specs.Runs.{backTexts, FitsBack}
 use Rattle.text.proofs.FrontLaws.{front-same, front-then, front-room, front-last, last-room}
 use Rattle.loader.specs.declared.load.Loaded.{Loaded}
@@ -139,7 +141,7 @@ pub ruleset undofits = (needs, frame-fits, fits-not, fits-body)
 
 module _ (text old : List ℕ) (b : Bool) (t : b ≡ leb (length text) (length old)) where
   -- too long
-  pub fill-not : (out : List ℕ) → b ≡ false → out ≡ zeros (length old) → (false ≡ leb (length text) (length old)) × (out ≡ pick {A = List ℕ} false (filled (length old) text) (zeros (length old)))
+  pub fill-not : (out : List ℕ) → b ≡ false → out ≡ zeros (length old) → (false ≡ leb (length text) (length old)) × (out ≡ pick {A = List ℕ} false (thenZeros (length old) text) (zeros (length old)))
   fill-not out u z = (sym u ∙ t, z)
 
   module _ (u : b ≡ true) where
@@ -153,7 +155,7 @@ module _ (text old : List ℕ) (b : Bool) (t : b ≡ leb (length text) (length o
 
     -- and zeros follow
     pub fill-all : (new last : List ℕ) (k : ℕ) → k ≡ length text → new ≡ inFront text old → length new ≡ length old → last ≡ zeros (length (take (length new - k) (drop k new)))
-        → (true ≡ leb (length text) (length old)) × (putMid k (length new - k) new last ≡ pick {A = List ℕ} true (filled (length old) text) (zeros (length old)))
+        → (true ≡ leb (length text) (length old)) × (putMid k (length new - k) new last ≡ pick {A = List ℕ} true (thenZeros (length old) text) (zeros (length old)))
     fill-all new last k p v s z = (sym u ∙ t, fill-rest text old new last k p v fill-room s z)
 
 -- ---- what undo leaves
@@ -166,7 +168,7 @@ module _ (h f b t u : List ℕ) (room space : ℕ) (r : Loaded) (w : Loads h f b
     where
       go : (x : Answer) → r .answer ≡ answerOf (numbers x) → (a ≡ answerOf (undone room space (undoBytes scottish h f) x .answer)) × (out ≡ undone room space (undoBytes scottish h f) x .output) × (work ≡ undone room space (undoBytes scottish h f) x .work)
       go (took new i s d) q = absurd (n (ap (λ y. y .code) q))
-      go (refused c l x) q = (p ∙ q, o, z)
+      go (refused r) q = (p ∙ q, o, z)
 
   module _ (m : r .answer .code ≡ 0) where
     -- there is an entry for each step
@@ -178,7 +180,7 @@ module _ (h f b t u : List ℕ) (room space : ℕ) (r : Loaded) (w : Loads h f b
     undo-lent l = record { each = omega (arith, w .taken m .few); opens = w .taken m .opens; ends = w .taken m .ends }
 
     module _ (c : Bool) (e : c ≡ leb (length (undoText h f t u (r .steps) (r .end))) room) (out work : List ℕ)
-        (o : out ≡ pick {A = List ℕ} c (filled room (undoText h f t u (r .steps) (r .end))) (zeros room)) (z : work ≡ zeros space) where
+        (o : out ≡ pick {A = List ℕ} c (thenZeros room (undoText h f t u (r .steps) (r .end))) (zeros room)) (z : work ≡ zeros space) where
       tells : undoFile scottish h f room space ≡ undone room space (undoText h f t u (r .steps) (r .end)) (took (written (says h f b (r .count))) (r .answer .inserts) (r .answer .updates) (r .answer .deletes))
       unfolding undoFile
       tells = ap (λ x. undone room space x (load scottish space h f)) (w .taken m .undoes) ∙ ap (undone room space (undoText h f t u (r .steps) (r .end))) (w .taken m .loaded)

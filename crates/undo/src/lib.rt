@@ -6,7 +6,7 @@ ghost use Prim.Native.Nat.{_≤_};
 ghost use lib.Dec.{leb};
 ghost use lib.ListN.{length};
 ghost use Rattle.base.specs.Lists.{pick, zeros};
-ghost use Rattle.meaning.specs.Load.{filled};
+ghost use Rattle.meaning.specs.Load.{thenZeros};
 ghost use Rattle.text.specs.Front.{inFront};
 ghost use Rattle.loader.specs.Loaded.{undoText};
 ghost use Rattle.undo.specs.Lent.{FitsUndo, Lent};
@@ -17,8 +17,8 @@ use loader::load::load;
 use loader::load::refuse;
 use text::lines::line_end;
 use text::put;
-use volume::check::Answer;
-use volume::check::refused;
+use answers::numbers::Answer;
+use answers::numbers::refused;
 use writer::room::back_fits;
 use writer::runs::write_back;
 
@@ -73,7 +73,7 @@ fn fill_undo(
 ) -> bool
     requires { ⌜ (count ≤ length (now steps)) × Lent (now file) (now before) count end ⌝ }
     ensures { λ r. ⌜ (r ≡ leb (length (undoText (now (holding .entry)) (now (file .entry)) (now (steps .entry)) (now (before .entry)) count end)) (length (now (out .entry))))
-        × (now (out .exit) ≡ pick r (filled (length (now (out .entry))) (undoText (now (holding .entry)) (now (file .entry)) (now (steps .entry)) (now (before .entry)) count end)) (zeros (length (now (out .entry))))) ⌝ }
+        × (now (out .exit) ≡ pick r (thenZeros (length (now (out .entry))) (undoText (now (holding .entry)) (now (file .entry)) (now (steps .entry)) (now (before .entry)) count end)) (zeros (length (now (out .entry))))) ⌝ }
 {
     if !undo_fits(holding, file, before, count, end, out.len()) {
         put::zeros(&mut *out);

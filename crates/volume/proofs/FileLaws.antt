@@ -12,19 +12,19 @@ use lib.ListN.{length, getD, take, drop, length-take, length-drop}
 use Rattle.base.specs.Lists.{pick, ask}
 use Rattle.theory.specs.Decimal.{value}
 use Rattle.theory.specs.Step.{Op, ins, upd, del}
-use Rattle.theory.specs.Answer.{Read, fault, file, isOp, count}
+use Rattle.theory.specs.Answer.{fault, file, isOp, count}
 use Rattle.meaning.specs.Lines.{linesOf, identifier, fieldsOf, hasFields}
 use Rattle.meaning.specs.Kinds.{Kind, Role, headerLine, bodyLine, metadataLine, trailerLine, role}
 use Rattle.meaning.specs.Format.{kindOf, named, placeFrom, endDate, proOrder, recordCount}
 use Rattle.meaning.specs.Table.{fields, scottish}
-use Rattle.meaning.specs.Sound.{Fault}
 use Rattle.meaning.specs.Records.{opOf, changeOf}
 use Rattle.meaning.specs.File.{Place, atStart, next, hasRoom, countFault, Judged, bad, good, lineFault, verdict, judgeKind, judgeText, judgeLine, Sheet, addLine, adds, bodyAfter, onLine, readFrom, readFile}
 use Rattle.meaning.specs.Load.{six, checked, checkFile}
+use Rattle.meaning.specs.Answers.{Read, Fault}
 use Rattle.text.specs.Places.{endsHere, lineLen, plainEnd}
 use Rattle.text.proofs.LineLaws.{lines-at, lines-end, ends-well-at, ends-there}
 use Rattle.layout.specs.declared.kinds.Kind.{Kind as Named}
-use Rattle.layout.specs.declared.check.Fault.{Fault as FaultTold}
+use Rattle.answers.specs.declared.refusal.Fault.{Fault as FaultTold}
 use Rattle.layout.specs.Meant.{kindMeant}
 use Rattle.layout.specs.Check.{kindDates, told}
 use Rattle.layout.proofs.CheckLaws.{fault-is}
@@ -33,11 +33,11 @@ use Rattle.volume.specs.declared.lines.Opened.{Opened}
 use Rattle.volume.specs.declared.lines.Opened.the-variants.{Good, Bad}
 use Rattle.volume.specs.declared.lines.Line.{Line as Known}
 use Rattle.volume.specs.declared.walk.Walk.{Walk}
-use Rattle.volume.specs.declared.check.Answer.{Answer}
+use Rattle.answers.specs.declared.numbers.Answer.{Answer}
 use Rattle.volume.specs.Meant.{placeMeant, changeMeant}
 use Rattle.volume.specs.Judged.{opensAt, opensAs, opens, closes, judgedAs}
 use Rattle.volume.specs.Walk.{unwalked, tally, walkedOn, checkedFrom, leftOf, Within}
-use Rattle.volume.specs.Answer.{answerOf}
+use Rattle.answers.specs.Meant.{answerOf}
 use Rattle.layout.proofs.PassLaws.{lowest}
 use Rattle.volume.proofs.WalkLaws.{within-on}
 
@@ -134,7 +134,7 @@ told-some (some w) f g z = rw g
 counted-on : (w : Walk) (k : Kind) (t : List ℕ) (p : PlaceNamed) (r : Role) (s : Read Sheet)
     → checkedFrom w (adds r k t s) ≡ checkedFrom (walkedOn w r (opOf (getD (fieldsOf t) 1 [])) p) s
 unfolding checkedFrom adds addLine walkedOn tally count changeOf
-counted-on w k t p r (fault c l f) = refl
+counted-on w k t p r (fault x) = refl
 counted-on w k t p headerLine (file s) = rw (add-zero (w .inserts), add-zero (w .updates), add-zero (w .deletes))
 counted-on w k t p metadataLine (file s) = rw (add-zero (w .inserts), add-zero (w .updates), add-zero (w .deletes))
 counted-on w k t p trailerLine (file s) = rw (add-zero (w .inserts), add-zero (w .updates), add-zero (w .deletes))
@@ -147,7 +147,7 @@ counted-on w k t p bodyLine (file s) =
 -- before the first line nothing is counted
 counted-none : (s : Read Sheet) → checkedFrom unwalked s ≡ checked s
 unfolding checkedFrom checked
-counted-none (fault c l f) = refl
+counted-none (fault r) = refl
 counted-none (file s) = rw (zero-add (count ins (s .1)), zero-add (count upd (s .1)), zero-add (count del (s .1)))
 
 -- ---- the walk, at an offset

@@ -31,7 +31,7 @@ use Rattle.layout.specs.declared.kinds.KindFound.the-variants.{Known, Unknown}
 use Rattle.layout.specs.declared.kinds.Role.{Role as RoleNamed}
 use Rattle.layout.specs.declared.kinds.Role.the-variants.{HeaderLine, BodyLine, MetadataLine, TrailerLine}
 use Rattle.layout.specs.declared.records.Layout.{Layout}
-use Rattle.layout.specs.declared.check.Fault.{Fault as FaultTold}
+use Rattle.answers.specs.declared.refusal.Fault.{Fault as FaultTold}
 use Rattle.layout.specs.Meant.{kindMeant, kindFound, roleMeant}
 use Rattle.layout.specs.Rows.{Row, bare, noRow, rowOf, laidOut}
 use Rattle.layout.specs.Check.{lowestBad, kindDates, told}

@@ -21,8 +21,8 @@ use Rattle.volume.specs.declared.lines.Change.the-variants.{Insert, Upda
 use Rattle.volume.specs.declared.walk.Walk.{Walk}
 use Rattle.volume.specs.Meant.{changeMeant}
 use Rattle.volume.specs.Walk.{tally, countedIn, walkedOn, checkedFrom, leftOf, Within}
-use Rattle.volume.specs.declared.check.Answer.{Answer}
-use Rattle.volume.specs.Answer.{answerOf}
+use Rattle.answers.specs.declared.numbers.Answer.{Answer}
+use Rattle.answers.specs.Meant.{answerOf}
 use Rattle.volume.proofs.LineLaws.{role-of}
 
 -- ---- one body line more

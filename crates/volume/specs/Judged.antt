@@ -9,8 +9,8 @@ use Rattle.meaning.specs.Lines.{identifier, fieldsOf, hasFields}
 use Rattle.meaning.specs.Kinds.{Kind, role}
 use Rattle.meaning.specs.Format.{kindOf, placeFrom, endDate}
 use Rattle.meaning.specs.Table.{fields, scottish}
-use Rattle.meaning.specs.Sound.{Fault}
 use Rattle.meaning.specs.File.{Place, next, hasRoom, countFault, Judged, bad, good, verdict}
+use Rattle.meaning.specs.Answers.{Fault}
 use Rattle.layout.specs.Meant.{kindMeant}
 use Rattle.layout.specs.Check.{kindDates}
 use Rattle.volume.specs.declared.lines.Opened.{Opened}

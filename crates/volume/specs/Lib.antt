@@ -1,4 +1,3 @@
 pub mod Meant
 pub mod Judged
 pub mod Walk
-pub mod Answer

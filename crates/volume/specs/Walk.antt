@@ -2,12 +2,13 @@
 use mathlib.Core.List.{List}
 use Prim.Native.Nat.{ℕ, suc, _+_, _≤_}
 use Rattle.theory.specs.Step.{Op, ins, upd, del}
-use Rattle.theory.specs.Answer.{Read, fault, file, isOp, count}
+use Rattle.theory.specs.Answer.{fault, file, isOp, count}
 use Rattle.meaning.specs.Lines as meant
 use Rattle.meaning.specs.Kinds.{Role, headerLine, bodyLine, metadataLine, trailerLine}
 use Rattle.meaning.specs.Table.{scottish}
 use Rattle.meaning.specs.File.{Sheet, bodyAfter, readFrom}
-use Rattle.meaning.specs.Load.{Six, six}
+use Rattle.meaning.specs.Load.{six}
+use Rattle.meaning.specs.Answers.{Read, Numbers}
 use Rattle.volume.specs.declared.places.Place.{Place}
 use Rattle.volume.specs.declared.places.Place.the-variants.{AtStart}
 use Rattle.volume.specs.declared.walk.Walk.{Walk}
@@ -47,12 +48,12 @@ walkedOn w r c p = record {
 }
 
 -- the numbers of the check, where I, U and D lines are counted already
-unfoldable pub checkedFrom : Walk → Read Sheet → Six
-checkedFrom w (fault c l f) = six c l f 0 0 0
+unfoldable pub checkedFrom : Walk → Read Sheet → Numbers
+checkedFrom w (fault r) = six (r .code) (r .line) (r .field) 0 0 0
 checkedFrom w (file s) = six 0 0 0 (w .inserts + count ins (s .1)) (w .updates + count upd (s .1)) (w .deletes + count del (s .1))
 
 -- what the walk answers of the lines that are left
-unfoldable pub leftOf : Walk → List meant.Line → Six
+unfoldable pub leftOf : Walk → List meant.Line → Numbers
 leftOf w ls = checkedFrom w (readFrom scottish (w .line) (placeMeant (w .place)) (w .body) ls)
 
 -- no number of the walk has passed the bytes before n

@@ -4,7 +4,7 @@ ghost use mathlib.Core.List.{[]};
 ghost use Rattle.meaning.specs.Table.{scottish};
 ghost use Rattle.meaning.specs.Load.{checkFile, six};
 ghost use Rattle.volume.specs.Walk.{leftOf};
-ghost use Rattle.volume.specs.Answer.{answerOf};
+ghost use Rattle.answers.specs.Meant.{answerOf};
 use crate::lines::Opened;
 use crate::lines::close_line;
 use crate::lines::known;

@@ -20,7 +20,7 @@ use crate::places::Place;
 use crate::places::PlaceFound;
 use crate::places::next_place;
 use crate::walk::Walk;
-use layout::check::Fault;
+use answers::refusal::Fault;
 use layout::check::dates_agree;
 use layout::check::kind_at;
 use layout::kinds::Kind;

@@ -11,7 +11,7 @@ use mir.Val.{Fits}
 use lib.ListN.{length, getD, take, drop, length-append, length-drop, take-append-drop}
 use lib.Seq.{length-take-le, take-add, take-all}
 use Rattle.theory.specs.Step.{Op, ins, inv, Change}
-use Rattle.theory.specs.Run.{inserts}
+use Rattle.theory.specs.Run.{asInserts}
 use Rattle.meaning.specs.Records.{Rec, changeText, changeTexts, joined}
 use Rattle.text.specs.Front.{inFront}
 use Rattle.text.proofs.FrontLaws.{front-none, front-same, front-then, front-room}
@@ -113,22 +113,22 @@ module _ (cs : List (Change Rec)) (old out : List ℕ) (pos i : ℕ) (g : Writin
 
 -- ---- a holding
 
-drop-inserts : (i : ℕ) (st : List Rec) → drop i (inserts st) ≡ inserts (drop i st)
+drop-inserts : (i : ℕ) (st : List Rec) → drop i (asInserts st) ≡ asInserts (drop i st)
 drop-inserts zero st = refl
 drop-inserts (suc i) [] = refl
 drop-inserts (suc i) (r ∷ st) = drop-inserts i st
 
-length-inserts : (st : List Rec) → length (inserts st) ≡ length st
+length-inserts : (st : List Rec) → length (asInserts st) ≡ length st
 length-inserts [] = refl
 length-inserts (r ∷ st) = ap suc (length-inserts st)
 
 module _ (h f a : List ℕ) (n i : ℕ) (l : n ≤ length a) where
   -- the next line is the record of entry i
-  pub insert-next : i < n → drop i (inserts (says h f a n)) ≡ record { op = ins; rec = recordOf h f (getD a i 0) } ∷ drop (suc i) (inserts (says h f a n))
+  pub insert-next : i < n → drop i (asInserts (says h f a n)) ≡ record { op = ins; rec = recordOf h f (getD a i 0) } ∷ drop (suc i) (asInserts (says h f a n))
   insert-next g = drop-inserts i (says h f a n) ∙ rw (says-at h f a n l i g, drop-inserts (suc i) (says h f a n))
 
   -- there are as many as entries
-  pub inserts-end : n ≤ i → length (inserts (says h f a n)) ≤ i
+  pub inserts-end : n ≤ i → length (asInserts (says h f a n)) ≤ i
   inserts-end g = omega (arith, length-inserts (says h f a n), length-says h f a n l)
 
 pub ruleset holding = (needs, writing-start, writing-room, writing-fits, writing-turn, writing-count, writing-done, insert-next, inserts-end)

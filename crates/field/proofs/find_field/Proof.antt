@@ -8,14 +8,17 @@ find-field-spec =
     tie.close
     (tie.spec
     (λ c κs. search fieldfound)  -- line-at-requires
+    (λ c κs. search fieldfound)  -- alone-requires
     (λ c κs. search fieldfound)  -- refusal-requires
     (λ c. search fieldfound)  -- returns
     (λ c. search fieldfound)  -- sub-field-at
     (λ c. search fieldfound)  -- part-field-at-start
     (λ c. search fieldfound)  -- part-field-at-end
     (λ c κs. search fieldfound)  -- field-at-requires
+    (λ c κs. search fieldfound)  -- alone-requires-2
     (λ c κs. search fieldfound)  -- refusal-requires-2
     (λ c. search fieldfound)  -- returns-2
+    (λ c κs. search fieldfound)  -- passed-requires
     (λ c. search fieldfound)  -- add-t10
     (λ c. search fieldfound)  -- sub-t13
     (λ c. search fieldfound))  -- returns-3

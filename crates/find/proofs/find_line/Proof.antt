@@ -10,12 +10,14 @@ find-line-spec =
     tie.close
     (tie.spec
     (λ c κs. search finds)  -- is-enquired-requires
+    (λ c κs. search finds)  -- alone-requires
     (λ c κs. search finds)  -- refusal-requires
     (λ c. search finds)  -- returns
     (λ c. search finds)  -- slice-aggregate-read-holding
     (λ c. search finds)  -- slice-aggregate-read-holding-2
     (λ c. search finds)  -- slice-aggregate-read-holding-3
     (λ c κs. search finds)  -- read-holding-requires
+    (λ c κs. search finds)  -- of-line-requires
     (λ c κs. search finds)  -- refusal-requires-2
     (λ c. search finds)  -- returns-2
     (λ c. search finds)  -- slice-aggregate-held-line

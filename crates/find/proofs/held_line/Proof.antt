@@ -9,6 +9,7 @@ held-line-spec =
     (tie.spec
     (λ c κs. search held)  -- asked-key-requires
     (λ c κs. search held)  -- line-of-requires
+    (λ c κs. search held)  -- alone-requires
     (λ c κs. search held)  -- refusal-requires
     (λ c. search held)  -- returns
     (λ c κs. search held)  -- line-found-requires

@@ -12,6 +12,7 @@ last-line-spec =
     (λ c. search last)  -- enum-told
     (λ c κs. search last)  -- held-line-requires
     (λ c. search last)  -- enum-told-2
+    (λ c κs. search last)  -- alone-requires
     (λ c κs. search last)  -- refusal-requires
     (λ c. search last)  -- enum-known-line
     (λ c κs. search last)  -- line-found-requires

@@ -11,15 +11,18 @@ line-in-force-spec =
     tie.close
     (tie.spec
     (λ c κs. search force)  -- is-enquired-requires
+    (λ c κs. search force)  -- alone-requires
     (λ c κs. search force)  -- refusal-requires
     (λ c. search force)  -- returns
     (λ c. search force)  -- slice-aggregate-read-holding
     (λ c. search force)  -- slice-aggregate-read-holding-2
     (λ c. search force)  -- slice-aggregate-read-holding-3
     (λ c κs. search force)  -- read-holding-requires
+    (λ c κs. search force)  -- of-line-requires
     (λ c κs. search force)  -- refusal-requires-2
     (λ c. search force)  -- returns-2
     (λ c κs. search force)  -- check-file-requires
+    (λ c κs. search force)  -- refusal-in-requires
     (λ c κs. search force)  -- refusal-requires-3
     (λ c. search force)  -- returns-3
     (λ c. search force)  -- slice-aggregate-last-line

@@ -8,5 +8,6 @@ line-found-spec =
     tie.close
     (tie.spec
     (λ c κs. search finding)  -- line-at-requires
+    (λ c κs. search finding)  -- passed-requires
     (λ c. search finding)  -- sub-t5
     (λ c. search finding))  -- returns

@@ -7,4 +7,5 @@ pub refusal-spec : {M : Type 1} → statement M
 refusal-spec =
     tie.close
     (tie.spec
+    (λ c κs. search finding)  -- faulted-requires
     (λ c. search finding))  -- returns

@@ -1,7 +1,7 @@
 -- `writer::runs::write_holding` meets its contract.
 use Rattle.writer.proofs.RunLaws.{Writing, holding, writing-turn, insert-next}
 use Rattle.meaning.specs.Holding.{written}
-use Rattle.theory.specs.Run.{inserts}
+use Rattle.theory.specs.Run.{asInserts}
 use Rattle.places.specs.Places.{says}
 use Prim.Native.Nat.{_-_, _≤_}
 use borrow.Author.Needs.{needs}
@@ -13,7 +13,7 @@ unfolding written
 write-holding-spec =
     tie.close
     (tie.spec
-    (λ out₀ holding file places count pos₀ i₀ out pos i. Writing (inserts (says holding file places count)) out₀ out pos i × (i ≤ count))
+    (λ out₀ holding file places count pos₀ i₀ out pos i. Writing (asInserts (says holding file places count)) out₀ out pos i × (i ≤ count))
     (λ out₀ holding file places count pos₀ i₀ out pos i. count - i)
     (λ c. search holding)  -- loop-holds
     (λ c. search holding)  -- sub-put-entry
