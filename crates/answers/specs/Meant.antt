@@ -3,8 +3,7 @@ use mathlib.Core.List.{List, [], _∷_}
 use Prim.Native.Nat.{ℕ}
 use Rattle.theory.specs.Answer.{Counts}
 use Rattle.meaning.specs.Answers as meant
-use Rattle.meaning.specs.Answers.{Numbers, Three}
-use Rattle.meaning.specs.Program.{numberList}
+use Rattle.meaning.specs.Answers.{Numbers, numberList, Three}
 use Rattle.answers.specs.declared.refusal.Fault.{Fault}
 use Rattle.answers.specs.declared.refusal.Refusal.{Refusal}
 use Rattle.answers.specs.declared.numbers.Answer.{Answer}

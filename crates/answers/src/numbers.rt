@@ -1,7 +1,7 @@
 // The numbers of an answer, made where something is taken and where something is refused, and nowhere else.
 ghost use mathlib.Core.Path.{_≡_};
 ghost use Rattle.meaning.specs.Answers.{takenWith, refusedWith, noFault, threeOf};
-ghost use Rattle.answers.specs.Meant.{countsOf, refusalMeant, refusalIn, answerOf, verdictOf};
+ghost use Rattle.answers.specs.Meant.{countsOf, refusalMeant, refusalIn, answerOf, answerList, verdictOf, verdictList};
 use crate::codes::ALL_DONE;
 use crate::refusal::Refusal;
 
@@ -13,6 +13,11 @@ pub struct Answer {
     pub inserts: u64,
     pub updates: u64,
     pub deletes: u64,
+}
+
+impl Answer {
+    // How many numbers there are.
+    pub const NUMBERS: usize = 6;
 }
 
 // Code, line, field.
@@ -50,6 +55,20 @@ pub fn refused(refusal: Refusal) -> Answer
     }
 }
 
+// The numbers in their order, as C reads them and as they are printed.
+pub fn in_order(answer: Answer) -> [u64; Answer::NUMBERS]
+    ensures { λ r. ⌜ r ≡ answerList answer ⌝ }
+{
+    [
+        answer.code,
+        answer.line,
+        answer.field,
+        answer.inserts,
+        answer.updates,
+        answer.deletes,
+    ]
+}
+
 // What an answer refuses.
 pub fn refusal_in(answer: Answer) -> Refusal
     ensures { λ r. ⌜ r ≡ refusalIn answer ⌝ }
@@ -72,7 +91,14 @@ pub fn passed() -> Verdict
     }
 }
 
-// Something is.
+// The three in their order.
+pub fn three(verdict: Verdict) -> [u64; 3]
+    ensures { λ r. ⌜ r ≡ verdictList verdict ⌝ }
+{
+    [verdict.code, verdict.line, verdict.field]
+}
+
+// Something is refused.
 pub fn faulted(refusal: Refusal) -> Verdict
     ensures { λ r. ⌜ r ≡ verdictOf (threeOf (refusalMeant refusal)) ⌝ }
 {

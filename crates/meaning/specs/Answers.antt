@@ -1,8 +1,8 @@
 -- Paper 01, 'Numbers given back': what is refused and where, and the numbers that the operations answer.
-use mathlib.Core.List.{List}
+use mathlib.Core.List.{List, [], _∷_}
 use Prim.Native.Nat.{ℕ}
 use Rattle.theory.specs.Answer as theory
-use Rattle.theory.specs.Answer.{Counts}
+use Rattle.theory.specs.Answer.{Counts, took, refused}
 use Rattle.meaning.specs.Codes.{allDone}
 
 -- ---- what is refused
@@ -53,6 +53,10 @@ pub record Numbers : Type 0 where
   pub updates : ℕ
   pub deletes : ℕ
 
+-- in that order
+abbrev pub numberList : Numbers → List ℕ
+numberList n = n .code ∷ n .line ∷ n .field ∷ n .inserts ∷ n .updates ∷ n .deletes ∷ []
+
 -- of a file that is taken
 abbrev pub takenWith : Counts → Numbers
 takenWith n = record { code = allDone; line = 0; field = 0; inserts = n .inserts; updates = n .updates; deletes = n .deletes }
@@ -60,6 +64,11 @@ takenWith n = record { code = allDone; line = 0; field = 0; inserts = n .inserts
 -- of one that is refused: the three counts are 0
 abbrev pub refusedWith : Refusal → Numbers
 refusedWith r = record { code = r .code; line = r .line; field = r .field; inserts = 0; updates = 0; deletes = 0 }
+
+-- of what loading a file gives
+abbrev pub numbersOf : Answer → Numbers
+numbersOf (took new n) = takenWith n
+numbersOf (refused r) = refusedWith r
 
 -- the other operations: code, line, field
 pub record Three : Type 0 where
