@@ -32,6 +32,11 @@ pub or-r : (a b : Bool) → T b → T (a || b)
 or-r true b t = tt
 or-r false b t = t
 
+-- what follows from each follows from one of two that holds
+pub or-out : (a b c : Bool) → (T a → T c) → (T b → T c) → T (a || b) → T c
+or-out true b c f g t = f tt
+or-out false b c f g t = g t
+
 -- the second holds wherever the first does
 pub or-not : (a b : Bool) → T (not a || b) → T a → T b
 or-not true b h t = h

@@ -1,9 +1,9 @@
 -- For sound records, keys as numbers stand in the order of keys as the meaning has them, and so do the keys that are referred to.
 use mathlib.Core.Path.{_≡_, refl, sym, ap, _∙_, subst}
 use mathlib.Core.Bool.{Bool, true, false, _&&_, _||_}
-use mathlib.Core.Option.{Option, none, some}
+use mathlib.Core.Option.{Option, none, some, Option·some-injective}
 use mathlib.Core.List.{List, [], _∷_, append-nil}
-use Prim.Native.Nat.{ℕ, zero, suc, _-_, _≤_, _<_}
+use Prim.Native.Nat.{ℕ, zero, suc, _≤_, _<_}
 use Prim.Native.String.{String}
 use native.Mathlib.Omega.{arith}
 use lib.Dec.{T, eqb, leb, leb→le, eqb→eq}
@@ -20,11 +20,11 @@ use Rattle.theory.specs.AgreeLaws.{get-agree, put-agree, rank-agree, asc-agree}
 use Rattle.theory.specs.Refs.{apart, has, meets, clear}
 use Rattle.meaning.specs.Lines.{fieldsOf}
 use Rattle.meaning.specs.Forms.{soundAs, valueOf}
-use Rattle.meaning.specs.Kinds.{Kind, header, street, streetXref, blpu, appXref, lpi, metadata, trailer, kinds, ident, numberedAmong}
+use Rattle.meaning.specs.Kinds.{Kind, kinds, ident, numberedAmong}
 use Rattle.meaning.specs.Format.{named, formNamed}
 use Rattle.meaning.specs.Table.{fields, keyNames, refersTo, scottish}
 use Rattle.meaning.specs.Records.{Rec, ownFields, valueNamed, valuesNamed, emptyNamed, keyOf, refsFrom, refsOf, keyed}
-use Rattle.laws.specs.Kinds.{every}
+use Rattle.laws.specs.Kinds.{every, alike}
 use Rattle.laws.specs.Body.{fine}
 use Rattle.layout.specs.Rows.{padded}
 use Rattle.keys.specs.Numbers.{numberOf, numberNamed, numbersNamed, keyNumbers, refKey, refNumbersFrom, refNumbers, refFirst, refAt, numbered}
@@ -43,24 +43,14 @@ first-agree n m a b c d f = go (cmpN n m) (cmpN-is n m)
     go eq h = f h
     go gt h = refl
 
+-- a number is its kind's
 number-in : (k : Kind) → numberedAmong kinds (value (ident k)) ≡ some k
 unfolding numberedAmong kinds ident bytes value valueF
-number-in header = refl
-number-in street = refl
-number-in streetXref = refl
-number-in blpu = refl
-number-in appXref = refl
-number-in lpi = refl
-number-in metadata = refl
-number-in trailer = refl
+number-in k = alike (λ k. numberedAmong kinds (value (ident k))) some refl k
 
 -- a kind is known by its number
 pub kind-told : (j k : Kind) → value (ident j) ≡ value (ident k) → j ≡ k
-kind-told j k e = ap (found j) (sym (number-in j) ∙ ap (numberedAmong kinds) e ∙ number-in k)
-  where
-    found : Kind → Option Kind → Kind
-    found j none = j
-    found j (some k) = k
+kind-told j k e = Option·some-injective j k (sym (number-in j) ∙ ap (numberedAmong kinds) e ∙ number-in k)
 
 -- this one field of a kind is a key's text, and must be filled
 unfoldable pub textIn : Kind → List String → Bool

@@ -2,38 +2,46 @@
 use mathlib.Core.Path.{_≡_, refl, sym, ap, _∙_, subst}
 use mathlib.Core.Bool.{Bool, true, false, _||_}
 use mathlib.Core.Option.{some, Option·some-injective}
-use mathlib.Core.List.{List, [], _∷_}
+use mathlib.Core.List.{List, [], _∷_, map, head-eq-of-cons-eq, tail-eq-of-cons-eq}
 use Prim.Native.Nat.{ℕ, zero, suc}
 use lib.Dec.{T, eqb, eqb-refl, eqb→eq}
 use Rattle.base.specs.Lists.{all, pick, same, bytes}
-use Rattle.base.specs.Tests.{and-l, and-r, or-l, or-r, some≢none}
+use Rattle.base.specs.Tests.{and-l, and-r, or-l, or-r, or-out, some≢none}
 use Rattle.meaning.specs.Kinds.{Kind, header, street, streetXref, blpu, appXref, lpi, metadata, trailer, kinds, ident, kindAmong, Role, headerLine, bodyLine, metadataLine, trailerLine}
 use Rattle.meaning.specs.Holding.{isHeld}
 
--- p holds of each
-abbrev EachKind : (Kind → Bool) → List Kind → Type 0
-EachKind p [] = Unit {0}
-EachKind p (k ∷ ks) = T (p k) × EachKind p ks
+-- a fact of each of them
+abbrev Each : (Kind → Type 0) → List Kind → Type 0
+Each P [] = Unit {0}
+Each P (k ∷ ks) = P k × Each P ks
 
--- a test of all, taken apart
-all-each : (p : Kind → Bool) (ks : List Kind) → T (all p ks) → EachKind p ks
-all-each p [] t = tt
-all-each p (k ∷ ks) t = (and-l (p k) (all p ks) t, all-each p ks (and-r (p k) (all p ks) t))
+-- there is no kind but those of the list: a fact of each of them is one of every kind
+listed : (P : Kind → Type 0) → Each P kinds → (k : Kind) → P k
+unfolding kinds
+listed P h header = h .0
+listed P h street = h .1 .0
+listed P h streetXref = h .1 .1 .0
+listed P h blpu = h .1 .1 .1 .0
+listed P h appXref = h .1 .1 .1 .1 .0
+listed P h lpi = h .1 .1 .1 .1 .1 .0
+listed P h metadata = h .1 .1 .1 .1 .1 .1 .0
+listed P h trailer = h .1 .1 .1 .1 .1 .1 .1 .0
 
 -- a test that all kinds pass is passed by each
 pub every : (p : Kind → Bool) → T (all p kinds) → (k : Kind) → T (p k)
-unfolding kinds
-every p t k = go (all-each p kinds t) k
+every p t k = listed (λ k. T (p k)) (apart kinds t) k
   where
-    go : EachKind p kinds → (k : Kind) → T (p k)
-    go h header = h .0
-    go h street = h .1 .0
-    go h streetXref = h .1 .1 .0
-    go h blpu = h .1 .1 .1 .0
-    go h appXref = h .1 .1 .1 .1 .0
-    go h lpi = h .1 .1 .1 .1 .1 .0
-    go h metadata = h .1 .1 .1 .1 .1 .1 .0
-    go h trailer = h .1 .1 .1 .1 .1 .1 .1 .0
+    apart : (ks : List Kind) → T (all p ks) → Each (λ k. T (p k)) ks
+    apart [] t = tt
+    apart (k ∷ ks) t = (and-l (p k) (all p ks) t, apart ks (and-r (p k) (all p ks) t))
+
+-- what two tables say alike of the list of kinds they say alike of each
+pub alike : {A : Type 0} (f g : Kind → A) → map f kinds ≡ map g kinds → (k : Kind) → f k ≡ g k
+alike f g e k = listed (λ k. f k ≡ g k) (apart kinds e) k
+  where
+    apart : (ks : List Kind) → map f ks ≡ map g ks → Each (λ k. f k ≡ g k) ks
+    apart [] e = tt
+    apart (k ∷ ks) e = (head-eq-of-cons-eq e, apart ks (tail-eq-of-cons-eq e))
 
 -- the test holds of one of them
 unfoldable pub any : (Kind → Bool) → List Kind → Bool
@@ -50,19 +58,18 @@ found-any p (j ∷ ks) i k e t = go (same i (ident j)) e (found-any p ks i k)
     go true e h = or-l (p j) (any p ks) (subst (λ k. T (p k)) (sym (Option·some-injective j k e)) t)
     go false e h = or-r (p j) (any p ks) (h e t)
 
+-- what follows from the test of each follows where it holds of one of them
+pub any-out : (p : Kind → Bool) (ks : List Kind) (q : Bool) → ((k : Kind) → T (p k) → T q) → T (any p ks) → T q
+unfolding any
+any-out p [] q f t = absurd t
+any-out p (k ∷ ks) q f t = or-out (p k) (any p ks) q (f k) (any-out p ks q f) t
+
 -- ---- identifiers
 
 -- an identifier is its kind's
 kind-all : (k : Kind) → kindAmong kinds (ident k) ≡ some k
 unfolding ident bytes kindAmong kinds same
-kind-all header = refl
-kind-all street = refl
-kind-all streetXref = refl
-kind-all blpu = refl
-kind-all appXref = refl
-kind-all lpi = refl
-kind-all metadata = refl
-kind-all trailer = refl
+kind-all k = alike (λ k. kindAmong kinds (ident k)) some refl k
 
 -- kinds with one identifier are one kind
 pub ident-only : (j k : Kind) → ident j ≡ ident k → j ≡ k

@@ -1,20 +1,18 @@
 -- The Scottish format is regular, and knows every kind: each fact is computed from its table.
-use mathlib.Core.Path.{_≡_, refl}
-use mathlib.Core.Bool.{Bool, true, false, _||_}
-use mathlib.Core.List.{_++_}
-use Prim.Native.Nat.{ℕ, zero, suc}
+use mathlib.Core.Path.{_≡_, refl, sym, subst}
+use mathlib.Core.Bool.{Bool, _||_}
+use Prim.Native.Nat.{ℕ}
 use native.Mathlib.Omega.{arith}
-use lib.Dec.{T, leb, eqb, le→leb}
-use mir.Facts.{no-eqb}
+use lib.Dec.{T, leb, eqb, leb→le, eqb→eq}
 use Rattle.base.specs.Lists.{bytes, same}
-use Rattle.base.specs.Tests.{T-true, T-false}
-use Rattle.meaning.specs.Kinds.{Kind, header, street, streetXref, blpu, appXref, lpi, metadata, trailer, kinds, ident, role, kindAmong}
-use Rattle.meaning.specs.Format.{opening, kindOf, knows, placeFrom}
+use Rattle.base.specs.Tests.{and-l, and-r, or-out, same-test}
+use Rattle.meaning.specs.Kinds.{Kind, kinds, ident, role, kindAmong}
+use Rattle.meaning.specs.Format.{kindOf, knows, placeFrom, endDate}
 use Rattle.meaning.specs.Table.{fields, scottish}
 use Rattle.meaning.specs.Records.{ownFields}
 use Rattle.meaning.specs.Holding.{isHeld}
-use Rattle.laws.specs.Kinds.{every, any, isRole}
-use Rattle.laws.specs.Regular.{holds, Regular, ownTest, countTest, regular-by}
+use Rattle.laws.specs.Kinds.{every, any, any-out, isRole}
+use Rattle.laws.specs.Regular.{holds, Regular, heldFields, openFields, ownTest, countTest, regular-by}
 use Rattle.laws.specs.FileRefusals.{endNumber}
 
 -- it knows every kind that there is
@@ -22,33 +20,31 @@ pub scottish-knows : (k : Kind) → T (knows scottish k)
 unfolding kinds ident bytes knows kindOf kindAmong same
 scottish-knows k = every (knows scottish) tt k
 
-opens : (k : Kind) → T (holds scottish k) → fields k ≡ opening ++ ownFields scottish k
-unfolding kinds ident bytes holds knows kindOf kindAmong same isHeld role fields ownFields
-opens header t = absurd t
-opens street t = refl
-opens streetXref t = refl
-opens blpu t = refl
-opens appXref t = refl
-opens lpi t = refl
-opens metadata t = absurd t
-opens trailer t = absurd t
-
 -- its table is regular
 pub scottish-regular : Regular scottish
-unfolding kinds ident bytes holds knows kindOf kindAmong same isHeld isRole role fields ownFields placeFrom ownTest countTest
-scottish-regular = regular-by scottish opens tt tt
+unfolding kinds ident bytes holds knows kindOf kindAmong same isHeld isRole role fields ownFields placeFrom heldFields openFields ownTest countTest
+scottish-regular = regular-by scottish refl tt tt
 
--- END_DATE is a street's field 13, a BLPU's 14, and 9 of the other three
+-- END_DATE's own number
+abbrev endAt : Kind → ℕ
+endAt k = placeFrom 1 endDate (fields k)
+
+-- it is a street's field 13, a BLPU's 14, and 9 of the other three
 pub scottish-ends : (f : ℕ) → endNumber scottish f ≡ (eqb f 9 || (eqb f 13 || eqb f 14))
 unfolding kinds fields placeFrom endNumber any
-scottish-ends zero = refl
-scottish-ends (suc f) =
-    rw (T-true (leb 1 (suc f)) (le→leb 1 (suc f) (omega arith)), T-false (eqb (suc f) 0) (no-eqb {a = suc f} {b = 0} (omega arith)))
-    (once (eqb (suc f) 9) (eqb (suc f) 13) (eqb (suc f) 14))
+scottish-ends f = same-test (endNumber scottish f) (one f) there (or-out (eqb f 9) (eqb f 13 || eqb f 14) (endNumber scottish f) (here 9 tt) (or-out (eqb f 13) (eqb f 14) (endNumber scottish f) (here 13 tt) (here 14 tt)))
   where
-    once : (a b c : Bool) → (b || (a || (c || (a || (a || false))))) ≡ (a || (b || c))
-    once true true c = refl
-    once true false c = refl
-    once false true c = refl
-    once false false true = refl
-    once false false false = refl
+    one : ℕ → Bool
+    one n = eqb n 9 || (eqb n 13 || eqb n 14)
+
+    here : (n : ℕ) → T (endNumber scottish n) → T (eqb f n) → T (endNumber scottish f)
+    here n t e = subst (λ n. T (endNumber scottish n)) (sym (eqb→eq f n e)) t
+
+    -- a kind has none, or there
+    placed : (k : Kind) → f ≡ endAt k → T (eqb f 0 || one f)
+    placed k e = subst (λ n. T (eqb n 0 || one n)) (sym e) (every (λ k. eqb (endAt k) 0 || one (endAt k)) tt k)
+
+    there : T (endNumber scottish f) → T (one f)
+    there t = any-out (λ k. eqb f (endAt k)) kinds (one f)
+        (λ k e. or-out (eqb f 0) (one f) (one f) (λ z. absurd (omega (arith, leb→le 1 f (and-l (leb 1 f) _ t), eqb→eq f 0 z))) (λ s. s) (placed k (eqb→eq f (endAt k) e)))
+        (and-r (leb 1 f) _ t)

@@ -1,4 +1,4 @@
--- The laws of identifiers and roles: two digits are known by their number, and a kind's role is the table's.
+-- The laws of identifiers and roles: two digits are known by their number, and held kinds are body lines.
 use mathlib.Core.Path.{_≡_, refl, sym, ap, ap₂, subst, _∙_}
 use mathlib.Core.Bool.{Bool, true, false, _&&_}
 use mathlib.Core.Option.{Option, none, some}
@@ -25,10 +25,11 @@ use Rattle.laws.specs.Digits.{digit-low, digit-high}
 use Rattle.laws.specs.Kinds.{every}
 use Rattle.laws.specs.Body.{kind-out}
 use Rattle.text.proofs.FieldLaws.{identifier-part}
-use Rattle.layout.specs.declared.kinds.Role as code
-use Rattle.layout.specs.declared.records.Layout.{Layout}
-use Rattle.layout.specs.Meant.{roleMeant, roleNamed}
-use Rattle.layout.specs.Rows.{laidOut}
+use Rattle.layout.specs.declared.kinds.HeldKind.{HeldKind}
+use Rattle.layout.specs.declared.kinds.HeldKind.the-variants.{Street, StreetXref, Blpu, AppXref, Lpi}
+use Rattle.layout.specs.declared.kinds.Kind.{Kind as Named}
+use Rattle.layout.specs.declared.kinds.Kind.the-variants.{Header, Held, Metadata, Trailer}
+use Rattle.layout.specs.Meant.{heldMeant, kindMeant}
 
 -- a run of two digits
 abbrev pub twoDigits : List ℕ → Bool
@@ -96,19 +97,34 @@ pub ruleset kindtold = (needs, kind-told)
 
 -- ---- roles
 
-role-named : (r : Role) → roleMeant (roleNamed r) ≡ r
-role-named headerLine = refl
-role-named bodyLine = refl
-role-named metadataLine = refl
-role-named trailerLine = refl
+-- held kinds are body lines
+held-body : (k : HeldKind) → role (heldMeant k) ≡ bodyLine
+unfolding role
+held-body Street = refl
+held-body StreetXref = refl
+held-body Blpu = refl
+held-body AppXref = refl
+held-body Lpi = refl
 
--- the role of a kind is the one that the table names
-pub role-is : (k : Kind) (l : Layout) → l ≡ laidOut k → roleMeant (l .role) ≡ role k
-unfolding laidOut
-role-is k l e = rw e (role-named (role k))
+-- the role of a kind that code names
+abbrev pub roleOf : Named → Role
+roleOf Header = headerLine
+roleOf (Held k) = bodyLine
+roleOf Metadata = metadataLine
+roleOf Trailer = trailerLine
 
--- a kind is held by the role that the table names
-pub role-told : (k : Kind) (l : Layout) (r : code.Role) (b : Bool) → l ≡ laidOut k → l .role ≡ r → b ≡ isHeld (roleMeant r) → b ≡ isHeld (role k)
-role-told k l r b e q h = rw (← role-is k l e, q) h
+-- in the arm of a kind, its role
+pub role-of : (k c : Named) → k ≡ c → role (kindMeant k) ≡ roleOf c
+role-of k c e = rw e (go c)
+  where
+    go : (k : Named) → role (kindMeant k) ≡ roleOf k
+    go Header = unfold role in refl
+    go (Held k) = held-body k
+    go Metadata = unfold role in refl
+    go Trailer = unfold role in refl
+
+-- and whether it is held
+pub role-told : (k c : Named) (b : Bool) → k ≡ c → b ≡ isHeld (roleOf c) → b ≡ isHeld (role (kindMeant k))
+role-told k c b e h = h ∙ rw (role-of k c e)
 
 pub ruleset roles = (needs, role-told)

@@ -8,11 +8,10 @@ use lib.ListN.{length, getD}
 use Rattle.base.specs.Lists.{pick, zeros}
 use Rattle.theory.specs.Decimal.{value}
 use Rattle.meaning.specs.Forms.{Form, number, atLeast1, decimal, date, time, text, changeType, xrefType, fileType, keyText}
-use Rattle.meaning.specs.Kinds.{Kind, ident, role}
+use Rattle.meaning.specs.Kinds.{Kind, ident}
 use Rattle.meaning.specs.Format.{Field, placeFrom, startDate, endDate}
 use Rattle.meaning.specs.Table.{fields, keyNames, refersTo}
 use Rattle.layout.specs.declared.records.Layout.{Layout}
-use Rattle.layout.specs.Meant.{roleNamed}
 
 -- a field's form, and whether it must be filled
 abbrev pub Row : Type 0
@@ -78,7 +77,6 @@ sources (p ∷ ps) = p .1 ++ sources ps
 unfoldable pub laidOut : Kind → Layout
 laidOut k = record {
   number = value (ident k);
-  role = roleNamed (role k);
   count = length (fields k);
   start = placeFrom 1 startDate (fields k);
   end = placeFrom 1 endDate (fields k);

@@ -1,11 +1,16 @@
-// The records that the loader knows, and which line of a file each is.
-pub enum Kind {
-    Header,
+// The kinds of record that a holding has: they are the body lines of a file.
+pub enum HeldKind {
     Street,
     StreetXref,
     Blpu,
     AppXref,
     Lpi,
+}
+
+// The records that the loader knows: those that are held, and three that are a line of every file.
+pub enum Kind {
+    Header,
+    Held(HeldKind),
     Metadata,
     Trailer,
 }
@@ -14,12 +19,4 @@ pub enum Kind {
 pub enum KindFound {
     Known(Kind),
     Unknown,
-}
-
-// Which line of a file a record is: held kinds are body lines.
-pub enum Role {
-    HeaderLine,
-    BodyLine,
-    MetadataLine,
-    TrailerLine,
 }

@@ -3,7 +3,7 @@
 // `records` is the table: for each kind its number, its fields' forms and statuses, its dates, its key and what it refers to, as
 // associated constants. Everything else asks the table through `kinds` and `rules`, so another kind is another row, and an arm where a
 // kind is matched.
-pub mod kinds; // the kinds, and which line of a file each is
+pub mod kinds; // the kinds, and which of them are held
 pub mod records; // the table
 pub mod rules; // a row of the table, read
 pub mod check; // the check of one line

@@ -1,13 +1,11 @@
 // The one table: for each kind of record, its fields and what else the rules ask of it. Document 002's field tables decide it; a law
 // of proofs/ computes that it says what the meaning's table says.
 ghost use mathlib.Core.Path.{_≡_};
-use crate::kinds::Role;
 
-// What a kind is: its number, which line of a file it is, how many fields it has, the places of START_DATE and END_DATE, of the
-// fields of its key, the numbers of the kinds it refers to, and the places of the fields by which it does. Places count from 1; 0 is none.
+// What a kind is: its number, how many fields it has, the places of START_DATE and END_DATE, of the fields of its key, the numbers of
+// the kinds it refers to, and the places of the fields by which it does. Places count from 1; 0 is none.
 pub struct Layout {
     pub number: u64,
-    pub role: Role,
     pub count: usize,
     pub start: usize,
     pub end: usize,
@@ -58,7 +56,6 @@ pub struct Header {}
 impl Header {
     pub const LAYOUT: Layout = Layout {
         number: 10,
-        role: Role::HeaderLine,
         count: 9,
         start: 0,
         end: 0,
@@ -86,7 +83,6 @@ pub struct Street {}
 impl Street {
     pub const LAYOUT: Layout = Layout {
         number: 11,
-        role: Role::BodyLine,
         count: 17,
         start: 12,
         end: 13,
@@ -128,7 +124,6 @@ pub struct StreetXref {}
 impl StreetXref {
     pub const LAYOUT: Layout = Layout {
         number: 12,
-        role: Role::BodyLine,
         count: 10,
         start: 8,
         end: 9,
@@ -157,7 +152,6 @@ pub struct Blpu {}
 impl Blpu {
     pub const LAYOUT: Layout = Layout {
         number: 21,
-        role: Role::BodyLine,
         count: 16,
         start: 13,
         end: 14,
@@ -198,7 +192,6 @@ pub struct AppXref {}
 impl AppXref {
     pub const LAYOUT: Layout = Layout {
         number: 23,
-        role: Role::BodyLine,
         count: 11,
         start: 6,
         end: 9,
@@ -228,7 +221,6 @@ pub struct Lpi {}
 impl Lpi {
     pub const LAYOUT: Layout = Layout {
         number: 24,
-        role: Role::BodyLine,
         count: 28,
         start: 8,
         end: 9,
@@ -275,7 +267,6 @@ pub struct Metadata {}
 impl Metadata {
     pub const LAYOUT: Layout = Layout {
         number: 29,
-        role: Role::MetadataLine,
         count: 15,
         start: 0,
         end: 0,
@@ -309,7 +300,6 @@ pub struct Trailer {}
 impl Trailer {
     pub const LAYOUT: Layout = Layout {
         number: 99,
-        role: Role::TrailerLine,
         count: 5,
         start: 0,
         end: 0,

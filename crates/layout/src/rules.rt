@@ -1,4 +1,4 @@
-// A row of the table, read. But for a step, which matches on kind and change, only this file goes by cases on the kind.
+// A row of the table, read. But for a step, which matches on kind and change, only this file goes by cases on the held kinds.
 ghost use mathlib.Core.Path.{_≡_};
 ghost use Prim.Native.Nat.{_<_};
 ghost use lib.ListN.{length};
@@ -6,11 +6,11 @@ ghost use Rattle.meaning.specs.Kinds.{role, kinds, numberedAmong};
 ghost use Rattle.meaning.specs.Table.{fields};
 ghost use Rattle.meaning.specs.Holding.{isHeld};
 ghost use Rattle.form.specs.Meant.{meant};
-ghost use Rattle.layout.specs.Meant.{kindMeant, kindFound};
+ghost use Rattle.layout.specs.Meant.{heldMeant, kindMeant, kindFound};
 ghost use Rattle.layout.specs.Rows.{laidOut, rowOf, decoded, formDecoded, filledDecoded};
+use crate::kinds::HeldKind;
 use crate::kinds::Kind;
 use crate::kinds::KindFound;
-use crate::kinds::Role;
 use crate::records::AppXref;
 use crate::records::Blpu;
 use crate::records::Header;
@@ -22,17 +22,26 @@ use crate::records::StreetXref;
 use crate::records::Trailer;
 use form::Form;
 
+// What a held kind is.
+pub fn held_layout(kind: HeldKind) -> Layout
+    ensures { λ r. ⌜ r ≡ laidOut (heldMeant kind) ⌝ }
+{
+    match kind {
+        HeldKind::Street => Street::LAYOUT,
+        HeldKind::StreetXref => StreetXref::LAYOUT,
+        HeldKind::Blpu => Blpu::LAYOUT,
+        HeldKind::AppXref => AppXref::LAYOUT,
+        HeldKind::Lpi => Lpi::LAYOUT,
+    }
+}
+
 // What a kind is.
 pub fn layout(kind: Kind) -> Layout
     ensures { λ r. ⌜ r ≡ laidOut (kindMeant kind) ⌝ }
 {
     match kind {
         Kind::Header => Header::LAYOUT,
-        Kind::Street => Street::LAYOUT,
-        Kind::StreetXref => StreetXref::LAYOUT,
-        Kind::Blpu => Blpu::LAYOUT,
-        Kind::AppXref => AppXref::LAYOUT,
-        Kind::Lpi => Lpi::LAYOUT,
+        Kind::Held(held) => held_layout(held),
         Kind::Metadata => Metadata::LAYOUT,
         Kind::Trailer => Trailer::LAYOUT,
     }
@@ -42,13 +51,25 @@ pub fn layout(kind: Kind) -> Layout
 pub fn is_held(kind: Kind) -> bool
     ensures { λ r. ⌜ r ≡ isHeld (role (kindMeant kind)) ⌝ }
 {
-    let l = layout(kind);
-    let role = l.role;
-    match role {
-        Role::HeaderLine => false,
-        Role::BodyLine => true,
-        Role::MetadataLine => false,
-        Role::TrailerLine => false,
+    match kind {
+        Kind::Header => false,
+        Kind::Held(_) => true,
+        Kind::Metadata => false,
+        Kind::Trailer => false,
+    }
+}
+
+// The row of a held kind's field, counted from 0.
+fn held_row(kind: HeldKind, k: usize) -> u32
+    requires { ⌜ k < length (fields (heldMeant kind)) ⌝ }
+    ensures { λ r. ⌜ decoded r ≡ rowOf (heldMeant kind) k ⌝ }
+{
+    match kind {
+        HeldKind::Street => Street::FIELDS[k],
+        HeldKind::StreetXref => StreetXref::FIELDS[k],
+        HeldKind::Blpu => Blpu::FIELDS[k],
+        HeldKind::AppXref => AppXref::FIELDS[k],
+        HeldKind::Lpi => Lpi::FIELDS[k],
     }
 }
 
@@ -59,11 +80,7 @@ pub fn row(kind: Kind, k: usize) -> u32
 {
     match kind {
         Kind::Header => Header::FIELDS[k],
-        Kind::Street => Street::FIELDS[k],
-        Kind::StreetXref => StreetXref::FIELDS[k],
-        Kind::Blpu => Blpu::FIELDS[k],
-        Kind::AppXref => AppXref::FIELDS[k],
-        Kind::Lpi => Lpi::FIELDS[k],
+        Kind::Held(held) => held_row(held, k),
         Kind::Metadata => Metadata::FIELDS[k],
         Kind::Trailer => Trailer::FIELDS[k],
     }
@@ -75,11 +92,11 @@ pub fn kind_numbered(n: u64) -> KindFound
 {
     match n {
         10 => KindFound::Known(Kind::Header),
-        11 => KindFound::Known(Kind::Street),
-        12 => KindFound::Known(Kind::StreetXref),
-        21 => KindFound::Known(Kind::Blpu),
-        23 => KindFound::Known(Kind::AppXref),
-        24 => KindFound::Known(Kind::Lpi),
+        11 => KindFound::Known(Kind::Held(HeldKind::Street)),
+        12 => KindFound::Known(Kind::Held(HeldKind::StreetXref)),
+        21 => KindFound::Known(Kind::Held(HeldKind::Blpu)),
+        23 => KindFound::Known(Kind::Held(HeldKind::AppXref)),
+        24 => KindFound::Known(Kind::Held(HeldKind::Lpi)),
         29 => KindFound::Known(Kind::Metadata),
         99 => KindFound::Known(Kind::Trailer),
         _ => KindFound::Unknown,

@@ -31,10 +31,9 @@ use Rattle.layout.proofs.CheckLaws.{fault-is}
 use Rattle.volume.specs.declared.places.Place.{Place as PlaceNamed}
 use Rattle.volume.specs.declared.lines.Opened.{Opened}
 use Rattle.volume.specs.declared.lines.Opened.the-variants.{Good, Bad}
-use Rattle.volume.specs.declared.lines.Line.{Line as Known}
 use Rattle.volume.specs.declared.walk.Walk.{Walk}
 use Rattle.answers.specs.declared.numbers.Answer.{Answer}
-use Rattle.volume.specs.Meant.{placeMeant, changeMeant}
+use Rattle.volume.specs.Meant.{placeMeant}
 use Rattle.volume.specs.Judged.{opensAt, opensAs, opens, closes, judgedAs}
 use Rattle.volume.specs.Walk.{unwalked, tally, walkedOn, checkedFrom, leftOf, Within}
 use Rattle.answers.specs.Meant.{answerOf}
@@ -245,12 +244,9 @@ module _ (s : List ℕ) (w : Walk) (at e : ℕ) (h : at < length s) (q : e ≡ p
             (counted-on w (kindMeant kind) (take (e - at) (drop at s)) place (role (kindMeant kind)) (rest (kindMeant kind) (placeMeant place)))
 
         -- and the walk goes on after it
-        pub read-turn : f .code ≡ 0 → (l : Known) → l .kind ≡ kind → changeMeant (l .change) ≡ opOf (getD (fieldsOf (take (e - at) (drop at s))) 1 [])
-            → (u : Walk) → u ≡ walkedOn w (role (kindMeant (l .kind))) (changeMeant (l .change)) place → at ≤ e → e ≤ length s → Reading s u (e + 2)
-        read-turn m l k c u x a d =
-            let x′ : u ≡ walkedOn w (role (kindMeant kind)) (opOf (getD (fieldsOf (take (e - at) (drop at s))) 1 [])) place = x ∙ rw (k, c) in
-            rw x′ (record {
-              left = sym (passed m);
-              within = within-on w (role (kindMeant kind)) (opOf (getD (fieldsOf (take (e - at) (drop at s))) 1 [])) place at (e + 2) (v .within) (omega arith);
-              stands = omega arith;
-            })
+        pub read-turn : f .code ≡ 0 → (u : Walk) → u ≡ walkedOn w (role (kindMeant kind)) (opOf (getD (fieldsOf (take (e - at) (drop at s))) 1 [])) place → at ≤ e → e ≤ length s → Reading s u (e + 2)
+        read-turn m u x a d = rw x (record {
+          left = sym (passed m);
+          within = within-on w (role (kindMeant kind)) (opOf (getD (fieldsOf (take (e - at) (drop at s))) 1 [])) place at (e + 2) (v .within) (omega arith);
+          stands = omega arith;
+        })

@@ -1,7 +1,7 @@
 -- The laws of one line in its place: before its fields, and after them.
 use mathlib.Core.Path.{_≡_, refl, sym, _∙_}
 use mathlib.Core.Bool.{Bool, true, false, _&&_}
-use mathlib.Core.Option.{none}
+use mathlib.Core.Option.{Option, none}
 use mathlib.Core.List.{List, [], _∷_, map}
 use Prim.Native.Nat.{ℕ, zero, suc, _+_, _≤_, _<_}
 use Prim.Native.String.{String}
@@ -21,21 +21,21 @@ use Rattle.meaning.specs.Kinds.{Kind, kinds, Role, headerLine, bodyLine, metada
 use Rattle.meaning.specs.Format.{kindOf, named, placeFrom, proOrder, recordCount}
 use Rattle.meaning.specs.Table.{fields, scottish}
 use Rattle.meaning.specs.Records.{letter, opOf}
-use Rattle.meaning.specs.File.{Place, afterTrailer, next, hasRoom, countFault, bad, good, verdict}
+use Rattle.meaning.specs.File.{Place, afterTrailer, next, mostBody, hasRoom, countFault, bad, good, verdict}
 use Rattle.laws.specs.Kinds.{every}
 use Rattle.text.specs.Places.{fieldCount}
 use Rattle.text.proofs.FieldLaws.{fields-wrong}
+use Rattle.layout.specs.declared.kinds.HeldKind.{HeldKind}
 use Rattle.layout.specs.declared.kinds.Kind.{Kind as Named}
+use Rattle.layout.specs.declared.kinds.Kind.the-variants.{Header, Held, Metadata, Trailer}
 use Rattle.layout.specs.declared.kinds.KindFound.{KindFound}
 use Rattle.layout.specs.declared.kinds.KindFound.the-variants.{Known, Unknown}
-use Rattle.layout.specs.declared.kinds.Role.{Role as RoleNamed}
-use Rattle.layout.specs.declared.kinds.Role.the-variants.{HeaderLine, BodyLine, MetadataLine, TrailerLine}
 use Rattle.layout.specs.declared.records.Layout.{Layout}
 use Rattle.answers.specs.declared.refusal.Fault.{Fault as FaultTold}
-use Rattle.layout.specs.Meant.{kindMeant, kindFound, roleMeant}
+use Rattle.layout.specs.Meant.{kindMeant, kindFound}
 use Rattle.layout.specs.Rows.{Row, bare, noRow, rowOf, laidOut}
 use Rattle.layout.specs.Check.{lowestBad, kindDates, told}
-use Rattle.layout.proofs.KindLaws.{role-is}
+use Rattle.layout.proofs.KindLaws.{roleOf, role-of}
 use Rattle.layout.proofs.CheckLaws.{named-at, right-count}
 use Rattle.volume.specs.declared.places.Place.{Place as PlaceNamed}
 use Rattle.volume.specs.declared.places.Place.the-variants.{AfterTrailer}
@@ -55,6 +55,12 @@ next-last p r e = rw e (go r)
     go bodyLine = unfold next in refl
     go metadataLine = unfold next in refl
     go trailerLine = unfold next in refl
+
+-- the place after a line, in the arms of its place and kind
+pub next-arm : (p q : PlaceNamed) (k c : Named) (o : Option Place) → p ≡ q → k ≡ c → o ≡ next (placeMeant q) (roleOf c) → o ≡ next (placeMeant p) (role (kindMeant k))
+next-arm p q k c o e i h = h ∙ rw (e, role-of k c i)
+
+pub ruleset nexts = (needs, next-last, next-arm)
 
 module _ (f g : List ℕ) (a : Bool) (e : f ≡ g) (p : a ≡ same f (34 ∷ 73 ∷ 34 ∷ [])) where
   -- an insert is written "I"
@@ -154,9 +160,16 @@ third-short s k t h z =
 
 -- ---- a line before its fields
 
--- the role of a kind is known by the table's row
-pub role-of : (k : Kind) (l : Layout) (r : RoleNamed) → l ≡ laidOut k → l .role ≡ r → role k ≡ roleMeant r
-role-of k l r e h = sym (role-is k l e) ∙ rw h
+-- whether there is room, in the arm of a kind
+pub room-arm : (k c : Named) (n : ℕ) (b : Bool) → k ≡ c → b ≡ hasRoom (roleOf c) n → b ≡ hasRoom (role (kindMeant k)) n
+room-arm k c n b e h = h ∙ rw (role-of k c e)
+
+-- a body line has room before the last that there may be
+pub room-body : (k : Named) (h : HeldKind) (n m : ℕ) → k ≡ Held h → m ≡ mostBody → ltb n m ≡ hasRoom (role (kindMeant k)) n
+unfolding hasRoom
+room-body k h n m e i = rw (role-of k (Held h) e, i)
+
+pub ruleset rooms = (needs, room-arm, room-body)
 
 count-is : (k : Kind) (l : Layout) → l ≡ laidOut k → l .count ≡ length (fields k)
 unfolding laidOut
@@ -174,77 +187,77 @@ module _ (p : Place) (n : ℕ) (t : List ℕ) (b : Bool) where
     unfolding opens opensAs
     open-unknown u = rw (e, ← g, u)
 
-    module _ (kind : Named) (h : kf ≡ Known kind) (l : Layout) (d : l ≡ laidOut (kindMeant kind)) (pf : PlaceFound) (y : placeFound pf ≡ next p (roleMeant (l .role))) where
+    module _ (kind : Named) (h : kf ≡ Known kind) (pf : PlaceFound) (y : placeFound pf ≡ next p (role (kindMeant kind))) where
       -- a known kind is judged in its place
       known : opens p n b t ≡ opensAt n t (kindMeant kind) (placeFound pf)
       unfolding opens opensAs
-      known = rw (e, ← g, h, y, role-is (kindMeant kind) l d)
+      known = rw (e, ← g, h, y)
 
       -- 3
       pub open-nowhere : pf ≡ Nowhere → bad (3, 0) ≡ opens p n b t
       unfolding opensAt
       open-nowhere u = rw (known, u)
 
-      module _ (q : PlaceNamed) (z : pf ≡ At q) (r : Bool) (m : r ≡ hasRoom (roleMeant (l .role)) n) where
+      module _ (q : PlaceNamed) (z : pf ≡ At q) (r : Bool) (m : r ≡ hasRoom (role (kindMeant kind)) n) where
         -- 9
         pub open-full : r ≡ false → bad (9, 0) ≡ opens p n b t
         unfolding opensAt ask verdict
-        open-full u = rw (known, z, ← role-is (kindMeant kind) l d, sym m ∙ u)
+        open-full u = rw (known, z, sym m ∙ u)
 
-        module _ (w : r ≡ true) (a : ℕ) (i : a ≡ fieldCount t) where
+        module _ (w : r ≡ true) (l : Layout) (d : l ≡ laidOut (kindMeant kind)) (a : ℕ) (i : a ≡ fieldCount t) where
           -- 4
           pub open-count : (a ≡ l .count → ⊥) → bad (4, 0) ≡ opens p n b t
           unfolding opensAt ask verdict
-          open-count u = rw (known, z, ← role-is (kindMeant kind) l d, sym m ∙ w, ← count-is (kindMeant kind) l d, ← fields-wrong t (l .count) a i u)
+          open-count u = rw (known, z, sym m ∙ w, ← count-is (kindMeant kind) l d, ← fields-wrong t (l .count) a i u)
 
           -- else its fields are to be judged
           pub open-good : a ≡ l .count → good (kindMeant kind) (placeMeant q) ≡ opens p n b t
           unfolding opensAt ask verdict
-          open-good u = rw (known, z, ← role-is (kindMeant kind) l d, sym m ∙ w, ← right-count (kindMeant kind) t l d a i u)
+          open-good u = rw (known, z, sym m ∙ w, ← right-count (kindMeant kind) t l d a i u)
 
 pub ruleset opening = (needs, not-true, not-false, open-unended, open-unknown, open-nowhere, open-full, open-count, open-good)
 
 -- ---- a line after its fields
 
-module _ (k : Kind) (n : ℕ) (t : List ℕ) (l : Layout) (e : l ≡ laidOut k) where
+module _ (kind : Named) (n : ℕ) (t : List ℕ) where
   -- a body line's number is no longer than 16 bytes
-  pub close-short : l .role ≡ BodyLine → 0 ≡ lowestBad 1 (map bare (fields k)) (fieldsOf t) → length (getD (fieldsOf t) 2 []) ≤ 16
-  close-short h z = third-short proOrder k t (rw (role-of k l BodyLine e h) at (third k)) z
+  pub close-short : (h : HeldKind) → kind ≡ Held h → 0 ≡ lowestBad 1 (map bare (fields (kindMeant kind))) (fieldsOf t) → length (getD (fieldsOf t) 2 []) ≤ 16
+  close-short h c z = third-short proOrder (kindMeant kind) t (rw (role-of kind (Held h) c) at (third (kindMeant kind))) z
 
   -- nor a trailer's
-  pub close-short-last : l .role ≡ TrailerLine → 0 ≡ lowestBad 1 (map bare (fields k)) (fieldsOf t) → length (getD (fieldsOf t) 2 []) ≤ 16
-  close-short-last h z = third-short recordCount k t (rw (role-of k l TrailerLine e h) at (third k)) z
+  pub close-short-last : kind ≡ Trailer → 0 ≡ lowestBad 1 (map bare (fields (kindMeant kind))) (fieldsOf t) → length (getD (fieldsOf t) 2 []) ≤ 16
+  close-short-last c z = third-short recordCount (kindMeant kind) t (rw (role-of kind Trailer c) at (third (kindMeant kind))) z
 
-  module _ (b : Bool) (r : b ≡ kindDates k (fieldsOf t)) where
+  module _ (b : Bool) (r : b ≡ kindDates (kindMeant kind) (fieldsOf t)) where
     -- 6
-    pub close-dates : b ≡ false → record { code = 6; field = l .end } ≡ told (closes n k t)
+    pub close-dates : (l : Layout) → l ≡ laidOut (kindMeant kind) → b ≡ false → record { code = 6; field = l .end } ≡ told (closes n (kindMeant kind) t)
     unfolding closes ask laidOut
-    close-dates f = rw (sym r ∙ f, e)
+    close-dates l e f = rw (sym r ∙ f, e)
 
     module _ (d : b ≡ true) where
       -- a header has no number
-      pub close-header : l .role ≡ HeaderLine → record { code = 0; field = 0 } ≡ told (closes n k t)
+      pub close-header : kind ≡ Header → record { code = 0; field = 0 } ≡ told (closes n (kindMeant kind) t)
       unfolding closes ask countFault
-      close-header h = rw (sym r ∙ d, role-of k l HeaderLine e h)
+      close-header c = rw (sym r ∙ d, role-of kind Header c)
 
       -- nor has metadata
-      pub close-metadata : l .role ≡ MetadataLine → record { code = 0; field = 0 } ≡ told (closes n k t)
+      pub close-metadata : kind ≡ Metadata → record { code = 0; field = 0 } ≡ told (closes n (kindMeant kind) t)
       unfolding closes ask countFault
-      close-metadata h = rw (sym r ∙ d, role-of k l MetadataLine e h)
+      close-metadata c = rw (sym r ∙ d, role-of kind Metadata c)
 
       module _ (v : ℕ) (q : v ≡ value (getD (fieldsOf t) 2 [])) (f : FaultTold) where
         -- 7
-        pub close-body : l .role ≡ BodyLine → f ≡ told (ask (eqb v (n + 1)) (7, 3) none) → f ≡ told (closes n k t)
+        pub close-body : (h : HeldKind) → kind ≡ Held h → f ≡ told (ask (eqb v (n + 1)) (7, 3) none) → f ≡ told (closes n (kindMeant kind) t)
         unfolding closes ask countFault
-        close-body h g =
-            let w = third-is proOrder k t (rw (role-of k l BodyLine e h) at (third k)) in
-            g ∙ rw (sym r ∙ d, role-of k l BodyLine e h, w .0, w .1, q, add-one n)
+        close-body h c g =
+            let w = third-is proOrder (kindMeant kind) t (rw (role-of kind (Held h) c) at (third (kindMeant kind))) in
+            g ∙ rw (sym r ∙ d, role-of kind (Held h) c, w .0, w .1, q, add-one n)
 
         -- 8
-        pub close-trailer : l .role ≡ TrailerLine → f ≡ told (ask (eqb v n) (8, 3) none) → f ≡ told (closes n k t)
+        pub close-trailer : kind ≡ Trailer → f ≡ told (ask (eqb v n) (8, 3) none) → f ≡ told (closes n (kindMeant kind) t)
         unfolding closes ask countFault
-        close-trailer h g =
-            let w = third-is recordCount k t (rw (role-of k l TrailerLine e h) at (third k)) in
-            g ∙ rw (sym r ∙ d, role-of k l TrailerLine e h, w .0, w .1, q)
+        close-trailer c g =
+            let w = third-is recordCount (kindMeant kind) t (rw (role-of kind Trailer c) at (third (kindMeant kind))) in
+            g ∙ rw (sym r ∙ d, role-of kind Trailer c, w .0, w .1, q)
 
 pub ruleset closing = (needs, not-true, not-false, close-short, close-short-last, close-dates, close-header, close-metadata, close-body, close-trailer)

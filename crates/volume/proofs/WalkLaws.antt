@@ -8,12 +8,14 @@ use native.Mathlib.Omega.{arith}
 use borrow.Author.Needs.{needs}
 use Rattle.theory.specs.Step.{Op, ins, upd, del}
 use Rattle.theory.specs.Answer.{count}
-use Rattle.meaning.specs.Kinds.{Kind, Role, headerLine, bodyLine, metadataLine, trailerLine, role}
+use Rattle.meaning.specs.Kinds.{Role, headerLine, bodyLine, metadataLine, trailerLine, role}
 use Rattle.meaning.specs.File.{bodyAfter, atEnd, readFrom}
 use Rattle.meaning.specs.Load.{six}
-use Rattle.layout.specs.declared.kinds.Role.the-variants.{HeaderLine, BodyLine, MetadataLine, TrailerLine}
-use Rattle.layout.specs.declared.records.Layout.{Layout}
-use Rattle.layout.specs.Rows.{laidOut}
+use Rattle.layout.specs.declared.kinds.HeldKind.{HeldKind}
+use Rattle.layout.specs.declared.kinds.Kind.{Kind as Named}
+use Rattle.layout.specs.declared.kinds.Kind.the-variants.{Header, Held, Metadata, Trailer}
+use Rattle.layout.specs.Meant.{kindMeant}
+use Rattle.layout.proofs.KindLaws.{role-of}
 use Rattle.volume.specs.declared.places.Place.{Place}
 use Rattle.volume.specs.declared.places.Place.the-variants.{AtStart, InBody, AfterMetadata, AfterTrailer}
 use Rattle.volume.specs.declared.lines.Change.{Change}
@@ -23,7 +25,6 @@ use Rattle.volume.specs.Meant.{changeMeant}
 use Rattle.volume.specs.Walk.{tally, countedIn, walkedOn, checkedFrom, leftOf, Within}
 use Rattle.answers.specs.declared.numbers.Answer.{Answer}
 use Rattle.answers.specs.Meant.{answerOf}
-use Rattle.volume.proofs.LineLaws.{role-of}
 
 -- ---- one body line more
 
@@ -106,26 +107,26 @@ within-on w r c p n m h l = record {
   deletesIn = let q = h .deletesIn in omega (arith, tally-one r del c);
 }
 
-module _ (w : Walk) (p : Place) (c : Op) (k : Kind) (l : Layout) (e : l ≡ laidOut k) where
+module _ (w : Walk) (p : Place) (c : Op) (kind : Named) where
   -- a header is not counted
-  pub after-header : l .role ≡ HeaderLine → stepped w p ≡ walkedOn w (role k) c p
+  pub after-header : kind ≡ Header → stepped w p ≡ walkedOn w (role (kindMeant kind)) c p
   unfolding walkedOn tally bodyAfter
-  after-header h = rw (role-of k l HeaderLine e h, add-one (w .line), add-zero (w .inserts), add-zero (w .updates), add-zero (w .deletes))
+  after-header h = rw (role-of kind Header h, add-one (w .line), add-zero (w .inserts), add-zero (w .updates), add-zero (w .deletes))
 
   -- nor is metadata
-  pub after-metadata : l .role ≡ MetadataLine → stepped w p ≡ walkedOn w (role k) c p
+  pub after-metadata : kind ≡ Metadata → stepped w p ≡ walkedOn w (role (kindMeant kind)) c p
   unfolding walkedOn tally bodyAfter
-  after-metadata h = rw (role-of k l MetadataLine e h, add-one (w .line), add-zero (w .inserts), add-zero (w .updates), add-zero (w .deletes))
+  after-metadata h = rw (role-of kind Metadata h, add-one (w .line), add-zero (w .inserts), add-zero (w .updates), add-zero (w .deletes))
 
   -- nor is the trailer
-  pub after-trailer : l .role ≡ TrailerLine → stepped w p ≡ walkedOn w (role k) c p
+  pub after-trailer : kind ≡ Trailer → stepped w p ≡ walkedOn w (role (kindMeant kind)) c p
   unfolding walkedOn tally bodyAfter
-  after-trailer h = rw (role-of k l TrailerLine e h, add-one (w .line), add-zero (w .inserts), add-zero (w .updates), add-zero (w .deletes))
+  after-trailer h = rw (role-of kind Trailer h, add-one (w .line), add-zero (w .inserts), add-zero (w .updates), add-zero (w .deletes))
 
   -- a body line is
-  pub after-body : (v : Walk) → l .role ≡ BodyLine → v ≡ countedIn (stepped w p) c → v ≡ walkedOn w (role k) c p
+  pub after-body : (v : Walk) (held : HeldKind) (o : Op) → kind ≡ Held held → o ≡ c → v ≡ countedIn (stepped w p) o → v ≡ walkedOn w (role (kindMeant kind)) c p
   unfolding walkedOn tally bodyAfter countedIn
-  after-body v h q = q ∙ rw (role-of k l BodyLine e h, add-one (w .line))
+  after-body v held o h i q = q ∙ rw (i, role-of kind (Held held) h, add-one (w .line))
 
 pub ruleset after = (needs, after-header, after-metadata, after-trailer, after-body, within-stepped)
 

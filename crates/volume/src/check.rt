@@ -7,7 +7,6 @@ ghost use Rattle.volume.specs.Walk.{leftOf};
 ghost use Rattle.answers.specs.Meant.{answerOf};
 use crate::lines::Opened;
 use crate::lines::close_line;
-use crate::lines::known;
 use crate::lines::open_line;
 use crate::places::Place;
 use crate::walk::Walk;
@@ -93,7 +92,7 @@ pub fn check_file(file: &[u8]) -> Answer
                 if closed.code != 0 {
                     return refused(closed.code, walk.line, closed.field);
                 }
-                walk = after_line(walk, known(kind, text), after);
+                walk = after_line(walk, kind, text, after);
                 at = end + 2;
             }
         }

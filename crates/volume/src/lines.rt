@@ -7,10 +7,11 @@ ghost use lib.ListN.{length, getD};
 ghost use Rattle.base.specs.Lists.{ask};
 ghost use Rattle.theory.specs.Decimal.{value};
 ghost use Rattle.meaning.specs.Lines.{fieldsOf};
+ghost use Rattle.meaning.specs.Kinds.{role};
 ghost use Rattle.meaning.specs.Table.{fields};
 ghost use Rattle.meaning.specs.Records.{opOf};
 ghost use Rattle.meaning.specs.File.{hasRoom};
-ghost use Rattle.layout.specs.Meant.{kindMeant, roleMeant};
+ghost use Rattle.layout.specs.Meant.{kindMeant};
 ghost use Rattle.layout.specs.Rows.{bare};
 ghost use Rattle.text.specs.Places.{fieldCount};
 ghost use Rattle.layout.specs.Check.{lowestBad, Parted, told};
@@ -23,9 +24,9 @@ use crate::walk::Walk;
 use answers::refusal::Fault;
 use layout::check::dates_agree;
 use layout::check::kind_at;
+use layout::kinds::HeldKind;
 use layout::kinds::Kind;
 use layout::kinds::KindFound;
-use layout::kinds::Role;
 use layout::limits::File;
 use layout::rules::layout;
 use text::fields::field;
@@ -41,9 +42,9 @@ pub enum Change {
     Delete,
 }
 
-// A line as it is known: of one kind, and as an insert, update or delete.
+// A body line as it is known: an insert, update or delete of one held kind.
 pub struct Line {
-    pub kind: Kind,
+    pub kind: HeldKind,
     pub change: Change,
 }
 
@@ -54,14 +55,14 @@ pub enum Opened {
 }
 
 // Whether there is room for a line after so many body lines: only a body line takes room.
-pub fn has_room(role: Role, body: usize) -> bool
-    ensures { λ r. ⌜ r ≡ hasRoom (roleMeant role) body ⌝ }
+pub fn has_room(kind: Kind, body: usize) -> bool
+    ensures { λ r. ⌜ r ≡ hasRoom (role (kindMeant kind)) body ⌝ }
 {
-    match role {
-        Role::HeaderLine => true,
-        Role::BodyLine => body < File::most_body_lines(),
-        Role::MetadataLine => true,
-        Role::TrailerLine => true,
+    match kind {
+        Kind::Header => true,
+        Kind::Held(_) => body < File::most_body_lines(),
+        Kind::Metadata => true,
+        Kind::Trailer => true,
     }
 }
 
@@ -77,15 +78,13 @@ pub fn open_line(walk: Walk, text: &[u8], fields: usize, ended: bool) -> Opened
     let KindFound::Known(kind) = kind_at(text) else {
         return Opened::Bad(2, 1);
     };
-    let l = layout(kind);
-    let role = l.role;
-    let count = l.count;
-    let PlaceFound::At(after) = next_place(place, role) else {
+    let PlaceFound::At(after) = next_place(place, kind) else {
         return Opened::Bad(3, 0);
     };
-    if !has_room(role, walk.body) {
+    if !has_room(kind, walk.body) {
         return Opened::Bad(9, 0);
     }
+    let count = layout(kind).count;
     if fields != count {
         return Opened::Bad(4, 0);
     }
@@ -118,9 +117,7 @@ pub fn close_line(kind: Kind, body: usize, text: &[u8], ends: &[usize]) -> Fault
     requires { ⌜ Parted (kindMeant kind) (now text) (now ends) × (0 ≡ lowestBad 1 (map bare (fields (kindMeant kind))) (fieldsOf (now text))) × (body < 2 ^ 63) ⌝ }
     ensures { λ r. ⌜ r ≡ told (closes body (kindMeant kind) (now (text .entry))) ⌝ }
 {
-    let l = layout(kind);
-    let role = l.role;
-    let end = l.end;
+    let end = layout(kind).end;
     if !dates_agree(kind, text, ends) {
         return Fault {
             code: 6,
@@ -129,11 +126,11 @@ pub fn close_line(kind: Kind, body: usize, text: &[u8], ends: &[usize]) -> Fault
     }
     let lines = body as u64;
     let next = lines + 1;
-    match role {
-        Role::HeaderLine => Fault { code: 0, field: 0 },
-        Role::BodyLine => number_fault(number_of(text) == next, 7),
-        Role::MetadataLine => Fault { code: 0, field: 0 },
-        Role::TrailerLine => number_fault(number_of(text) == lines, 8),
+    match kind {
+        Kind::Header => Fault { code: 0, field: 0 },
+        Kind::Held(_) => number_fault(number_of(text) == next, 7),
+        Kind::Metadata => Fault { code: 0, field: 0 },
+        Kind::Trailer => number_fault(number_of(text) == lines, 8),
     }
 }
 
@@ -151,8 +148,8 @@ pub fn change_of(text: &[u8]) -> Change
     Change::Delete
 }
 
-// A sound line, as it is known; the change says something of a body line only.
-pub fn known(kind: Kind, text: &[u8]) -> Line
+// A sound body line of a kind, as it is known.
+pub fn known(kind: HeldKind, text: &[u8]) -> Line
     ensures { λ r. ⌜ (r .kind ≡ kind) × (changeMeant (r .change) ≡ opOf (getD (fieldsOf (now (text .entry))) 1 [])) ⌝ }
 {
     let change = change_of(text);

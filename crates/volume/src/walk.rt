@@ -1,15 +1,19 @@
 // The walk of a file's lines: where it stands, and what is counted so far.
 ghost use mathlib.Core.Path.{_≡_};
+ghost use mathlib.Core.List.{[]};
 ghost use Prim.Native.Nat.{_+_, _^_};
+ghost use lib.ListN.{getD};
+ghost use Rattle.meaning.specs.Lines.{fieldsOf};
 ghost use Rattle.meaning.specs.Kinds.{role};
+ghost use Rattle.meaning.specs.Records.{opOf};
 ghost use Rattle.layout.specs.Meant.{kindMeant};
 ghost use Rattle.volume.specs.Meant.{changeMeant};
 ghost use Rattle.volume.specs.Walk.{unwalked, walkedOn, countedIn, Within};
 use crate::lines::Change;
 use crate::lines::Line;
+use crate::lines::known;
 use crate::places::Place;
-use layout::kinds::Role;
-use layout::rules::layout;
+use layout::kinds::Kind;
 
 // The place and number of the next line, and the body lines before it, with I, U and D.
 pub struct Walk {
@@ -38,10 +42,11 @@ impl Walk {
 }
 
 // The walk with one body line more.
-fn counted(walk: Walk, change: Change) -> Walk
+fn counted(walk: Walk, line: Line) -> Walk
     requires { ⌜ Within walk (2 ^ 63 + 1) ⌝ }
-    ensures { λ r. ⌜ r ≡ countedIn walk (changeMeant change) ⌝ }
+    ensures { λ r. ⌜ r ≡ countedIn walk (changeMeant (line .change)) ⌝ }
 {
+    let change = line.change;
     let mut after = walk;
     after.body = walk.body + 1;
     match change {
@@ -60,15 +65,11 @@ fn counted(walk: Walk, change: Change) -> Walk
     }
 }
 
-// The walk after a line, before a place.
-pub fn after_line(walk: Walk, line: Line, place: Place) -> Walk
+// The walk after a sound line of a kind, before a place: a body line is counted.
+pub fn after_line(walk: Walk, kind: Kind, text: &[u8], place: Place) -> Walk
     requires { ⌜ Within walk (2 ^ 63) ⌝ }
-    ensures { λ r. ⌜ r ≡ walkedOn walk (role (kindMeant (line .kind))) (changeMeant (line .change)) place ⌝ }
+    ensures { λ r. ⌜ r ≡ walkedOn walk (role (kindMeant kind)) (opOf (getD (fieldsOf (now (text .entry))) 1 [])) place ⌝ }
 {
-    let kind = line.kind;
-    let change = line.change;
-    let l = layout(kind);
-    let role = l.role;
     let after = Walk {
         place,
         line: walk.line + 1,
@@ -77,10 +78,10 @@ pub fn after_line(walk: Walk, line: Line, place: Place) -> Walk
         updates: walk.updates,
         deletes: walk.deletes,
     };
-    match role {
-        Role::HeaderLine => after,
-        Role::BodyLine => counted(after, change),
-        Role::MetadataLine => after,
-        Role::TrailerLine => after,
+    match kind {
+        Kind::Header => after,
+        Kind::Held(held) => counted(after, known(held, text)),
+        Kind::Metadata => after,
+        Kind::Trailer => after,
     }
 }

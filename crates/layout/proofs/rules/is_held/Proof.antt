@@ -9,7 +9,6 @@ unfolding isHeld
 is-held-spec =
     tie.close
     (tie.spec
-    (λ c κs. search roles)  -- layout-requires
     (λ c. search roles)  -- enum-told
     (λ c. search roles)  -- enum-told-2
     (λ c. search roles)  -- enum-told-3

@@ -52,11 +52,10 @@ check-file-spec =
     (λ c κs. let t = c .before in let o = t .before .before .before .before .before .before in let e = o .before .before .before .before .before .before in let l = e .before .before in (t .before .loop .inv .0 .parted, pass-done _ _ _ _ _ _ (t .before .loop .inv .0) (t .loop-test .left), (let w = l .lines .inv .0 .within .bodies in omega arith)))  -- close-line-requires
     (λ c κs. search needs)  -- refused-requires-2
     (λ c. let t = c .before .before .before .before .before in let o = t .before .before .before .before .before .before in let e = o .before .before .before .before .before .before in let l = e .before .before in read-closed _ _ _ _ (e .before .lines-test .taken) (e .plain-end .ensures .0) (l .lines .inv .0) _ (o .before .ends-at .ensures) (o .open-line .result) (o .open-line .ensures) _ _ (t .before .before .before .before .kind .given .1) (pass-done _ _ _ _ _ _ (t .before .loop .inv .0) (t .loop-test .left)) (c .before .before .before .close-line .result) (c .before .before .before .close-line .ensures) _ (c .before .if2 .taken) (c .refused2 .ensures))  -- returns-2
-    (λ c κs. search needs)  -- known-requires
-    (λ c κs. let t = c .before .before .before .before .before in let o = t .before .before .before .before .before .before in let e = o .before .before .before .before .before .before in let l = e .before .before in within-more _ _ _ (l .lines .inv .0 .within) (omega (arith, e .before .lines-test .taken)))  -- after-line-requires
-    (λ c. let t = c .before .before .before .before .before .before in let o = t .before .before .before .before .before .before in let e = o .before .before .before .before .before .before in let l = e .before .before in omega (arith, e .plain-end .ensures .2, e .before .lines-test .taken))  -- add-at
-    (λ c. let t = c .before .before .before .before .before .before in let o = t .before .before .before .before .before .before in let e = o .before .before .before .before .before .before in let l = e .before .before in omega (arith, e .plain-end .ensures .1, e .plain-end .ensures .2, e .before .lines-test .taken))  -- lines-less
-    (λ c. let t = c .before .before .before .before .before .before in let o = t .before .before .before .before .before .before in let e = o .before .before .before .before .before .before in let l = e .before .before in (read-turn _ _ _ _ (e .before .lines-test .taken) (e .plain-end .ensures .0) (l .lines .inv .0) _ (o .before .ends-at .ensures) (o .open-line .result) (o .open-line .ensures) _ _ (t .before .before .before .before .kind .given .1) (pass-done _ _ _ _ _ _ (t .before .loop .inv .0) (t .loop-test .left)) (c .before .before .before .before .close-line .result) (c .before .before .before .before .close-line .ensures) (c .before .before .if2 .left) (c .before .known .result) (c .before .known .ensures .0) (c .before .known .ensures .1) _ (c .after-line .ensures) (e .plain-end .ensures .1) (e .plain-end .ensures .2), t .before .loop .inv .1, o .before .before .before .split .ensures .2 ∙ l .lines .inv .2))  -- lines-again
+    (λ c κs. let t = c .before .before .before .before in let o = t .before .before .before .before .before .before in let e = o .before .before .before .before .before .before in let l = e .before .before in within-more _ _ _ (l .lines .inv .0 .within) (omega (arith, e .before .lines-test .taken)))  -- after-line-requires
+    (λ c. let t = c .before .before .before .before .before in let o = t .before .before .before .before .before .before in let e = o .before .before .before .before .before .before in let l = e .before .before in omega (arith, e .plain-end .ensures .2, e .before .lines-test .taken))  -- add-at
+    (λ c. let t = c .before .before .before .before .before in let o = t .before .before .before .before .before .before in let e = o .before .before .before .before .before .before in let l = e .before .before in omega (arith, e .plain-end .ensures .1, e .plain-end .ensures .2, e .before .lines-test .taken))  -- lines-less
+    (λ c. let t = c .before .before .before .before .before in let o = t .before .before .before .before .before .before in let e = o .before .before .before .before .before .before in let l = e .before .before in (read-turn _ _ _ _ (e .before .lines-test .taken) (e .plain-end .ensures .0) (l .lines .inv .0) _ (o .before .ends-at .ensures) (o .open-line .result) (o .open-line .ensures) _ _ (t .before .before .before .before .kind .given .1) (pass-done _ _ _ _ _ _ (t .before .loop .inv .0) (t .loop-test .left)) (c .before .before .before .close-line .result) (c .before .before .before .close-line .ensures) (c .before .if2 .left) _ (c .after-line .ensures) (e .plain-end .ensures .1) (e .plain-end .ensures .2), t .before .loop .inv .1, o .before .before .before .split .ensures .2 ∙ l .lines .inv .2))  -- lines-again
     (λ c κs. search needs)  -- refused-requires-3
     (λ c. ⊎-elim (λ w. absurd (c .before .if3 .taken (w .1 ∙ c .before .before .before .lines .inv .1))) (λ w. read-malformed _ _ _ _ (w .0 .taken) (w .1 .ensures .0) (c .before .before .before .lines .inv .0) _ (w .6 .ensures) (w .7 .result) (w .7 .ensures) _ _ (w .9 .given .1) _ _ _ (pass-stop _ _ _ _ _ _ (w .12 .inv .0) (w .13 .taken) _ (w .15 .ensures) (not-true _ (w .16 .taken))) (w .17) (c .refused3 .ensures)) (c .before .before .lines-test .came))  -- returns-3
     (λ c κs. search needs)  -- ended-requires

@@ -1,6 +1,6 @@
 -- `volume::lines::has_room` meets its contract.
-use borrow.Author.Needs.{needs}
 use Rattle.meaning.specs.File.{hasRoom}
+use Rattle.volume.proofs.LineLaws.{rooms}
 use Rattle.volume.proofs.lines.has_room.Statement.{statement}
 use Rattle.volume.proofs.lines.has_room.Tie as tie
 
@@ -9,12 +9,12 @@ unfolding hasRoom
 has-room-spec =
     tie.close
     (tie.spec
-    (λ c. search needs)  -- enum-told
-    (λ c. search needs)  -- enum-told-2
-    (λ c κs. search needs)  -- most-body-lines-requires
-    (λ c. search needs)  -- enum-told-3
-    (λ c. search needs)  -- enum-told-4
-    (λ c. cc)  -- returns
-    (λ c. cc)  -- returns-2
-    (λ c. cc)  -- returns-3
-    (λ c. cc))  -- returns-4
+    (λ c. search rooms)  -- enum-told
+    (λ c. search rooms)  -- enum-told-2
+    (λ c κs. search rooms)  -- most-body-lines-requires
+    (λ c. search rooms)  -- enum-told-3
+    (λ c. search rooms)  -- enum-told-4
+    (λ c. search rooms)  -- returns
+    (λ c. search rooms)  -- returns-2
+    (λ c. search rooms)  -- returns-3
+    (λ c. search rooms))  -- returns-4

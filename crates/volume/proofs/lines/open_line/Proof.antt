@@ -12,12 +12,12 @@ open-line-spec =
     (λ c. search opening)  -- enum-known-kind
     (λ c. search opening)  -- enum-told
     (λ c. search opening)  -- returns-2
-    (λ c κs. search opening)  -- layout-requires
     (λ c κs. search opening)  -- next-place-requires
     (λ c. search opening)  -- enum-known-after
     (λ c. search opening)  -- enum-told-2
     (λ c. search opening)  -- returns-3
     (λ c κs. search opening)  -- has-room-requires
     (λ c. search opening)  -- returns-4
+    (λ c κs. search opening)  -- layout-requires
     (λ c. search opening)  -- returns-5
     (λ c. search opening))  -- returns-6

@@ -7,13 +7,13 @@ pub after-line-spec : {M : Type 1} → statement M
 after-line-spec =
     tie.close
     (tie.spec
-    (λ c κs. search after)  -- layout-requires
-    (λ c. search after)  -- add-t9
+    (λ c. search after)  -- add-t7
     (λ c. search after)  -- enum-told
-    (λ c. search after)  -- enum-told-2
+    (λ c. search after)  -- enum-known-kind
+    (λ c κs. search after)  -- known-requires
     (λ c κs. search after)  -- counted-requires
+    (λ c. search after)  -- enum-told-2
     (λ c. search after)  -- enum-told-3
-    (λ c. search after)  -- enum-told-4
     (λ c. search after)  -- returns
     (λ c. search after)  -- returns-2
     (λ c. search after)  -- returns-3

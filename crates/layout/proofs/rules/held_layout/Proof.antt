@@ -1,0 +1,26 @@
+-- `layout::rules::held_layout` meets its contract.
+use borrow.Author.Needs.{needs}
+use Rattle.meaning.specs.Kinds.{ident}
+use Rattle.meaning.specs.Format.{placeFrom}
+use Rattle.meaning.specs.Table.{fields, keyNames, refersTo}
+use Rattle.base.specs.Lists.{bytes, zeros}
+use Rattle.theory.specs.Decimal.{value, valueF}
+use Rattle.layout.specs.Rows.{laidOut, placesOf, padded, targets, sources}
+use Rattle.layout.proofs.rules.held_layout.Statement.{statement}
+use Rattle.layout.proofs.rules.held_layout.Tie as tie
+
+pub held-layout-spec : {M : Type 1} → statement M
+unfolding laidOut placesOf padded targets sources ident fields keyNames refersTo placeFrom bytes zeros value valueF
+held-layout-spec =
+    tie.close
+    (tie.spec
+    (λ c. search needs)  -- enum-told
+    (λ c. search needs)  -- enum-told-2
+    (λ c. search needs)  -- enum-told-3
+    (λ c. search needs)  -- enum-told-4
+    (λ c. search needs)  -- enum-told-5
+    (λ c. rw (c .enum-told .given .1))  -- returns
+    (λ c. rw (c .enum-told2 .given .1))  -- returns-2
+    (λ c. rw (c .enum-told3 .given .1))  -- returns-3
+    (λ c. rw (c .enum-told4 .given .1))  -- returns-4
+    (λ c. rw (c .enum-told5 .given .1)))  -- returns-5
