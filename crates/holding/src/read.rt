@@ -1,6 +1,7 @@
 // A holding is tested first over all lines, then for references; each gives its lowest faulty line.
 ghost use Prim.Native.Nat.{_≤_};
 ghost use lib.ListN.{length};
+ghost use Rattle.theory.specs.Limits.{most};
 ghost use Rattle.holding.specs.Read.{HeldIs};
 use crate::scan::scan;
 use crate::unmet::unmet;
@@ -19,7 +20,7 @@ pub fn read_holding(
     tags: &mut [u64],
     counts: &mut [u16],
 ) -> Held
-    requires { ⌜ (8192 ≤ length (now starts)) × (8192 ≤ length (now tags)) × (8192 ≤ length (now counts)) ⌝ }
+    requires { ⌜ (most ≤ length (now starts)) × (most ≤ length (now tags)) × (most ≤ length (now counts)) ⌝ }
     ensures { λ r. ⌜ HeldIs (now (holding .entry)) r (now (starts .exit)) (now (tags .exit)) (now (counts .exit)) ⌝ }
 {
     let held = scan(holding, &mut *starts, &mut *tags);

@@ -3,6 +3,7 @@ ghost use mathlib.Core.Path.{_≡_};
 ghost use mathlib.Core.Option.{none};
 ghost use Prim.Native.Nat.{_≤_};
 ghost use lib.ListN.{length};
+ghost use Rattle.theory.specs.Limits.{most};
 ghost use Rattle.meaning.specs.Lines.{linesOf};
 ghost use Rattle.meaning.specs.Table.{scottish};
 ghost use Rattle.meaning.specs.Holding.{scan};
@@ -52,7 +53,7 @@ fn next_key(holding: &[u8], at: usize, end: usize, line: usize, before: Key) -> 
 
 // The lowest faulty line, or 0 and where each line starts, twice: an entry of the holding; with the tag of each key.
 pub fn scan(holding: &[u8], starts: &mut [u64], tags: &mut [u64]) -> Held
-    requires { ⌜ (8192 ≤ length (now starts)) × (8192 ≤ length (now tags)) ⌝ }
+    requires { ⌜ (most ≤ length (now starts)) × (most ≤ length (now tags)) ⌝ }
     ensures { λ r. ⌜ ReadAs (now (holding .entry)) (scan scottish 1 none (linesOf (now (holding .entry)))) r (now (starts .exit)) (now (tags .exit)) ⌝ }
 {
     let mut before = Key {

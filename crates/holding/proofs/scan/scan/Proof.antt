@@ -1,5 +1,6 @@
 -- `holding::scan::scan` meets its contract.
 use Rattle.holding.proofs.ScanLaws.{scanning, Scanning}
+use Rattle.theory.specs.Limits.{most}
 use Rattle.keys.specs.Numbers.{keyList}
 use Prim.Native.Nat.{_-_, _≤_}
 use mathlib.Core.Path.{_≡_}
@@ -11,7 +12,7 @@ pub scan-spec : {M : Type 1} → statement M
 scan-spec =
     tie.close
     (tie.spec
-    (λ holding starts₀ tags₀ before₀ count₀ at₀ starts tags before count at. Scanning holding starts tags count at (keyList before) × (8192 ≤ length starts) × (length starts ≡ length starts₀) × (8192 ≤ length tags) × (length tags ≡ length tags₀))
+    (λ holding starts₀ tags₀ before₀ count₀ at₀ starts tags before count at. Scanning holding starts tags count at (keyList before) × (most ≤ length starts) × (length starts ≡ length starts₀) × (most ≤ length tags) × (length tags ≡ length tags₀))
     (λ holding starts₀ tags₀ before₀ count₀ at₀ starts tags before count at. length holding - at)
     (λ c. search scanning)  -- loop-holds
     (λ c κs. search scanning)  -- plain-end-requires
