@@ -28,9 +28,9 @@ use Rattle.meaning.specs.Table.{fields, keyNames, enquiries, scottish}
 use Rattle.meaning.specs.Records.{Rec, ownFields, keyOf, keyed, changeTexts}
 use Rattle.meaning.specs.Enquiries.{first, refusal, partOf, heldAt, heldPart, findIn, findKind, find}
 use Rattle.meaning.specs.Holding as meaning
-use Rattle.meaning.specs.Holding.{sound, unsound, readHolding}
+use Rattle.meaning.specs.Holding.{sound, unsound, readHolding, mostRecords}
 use Rattle.keys.specs.Numbers.{keyNumbers, numbered}
-use Rattle.keys.specs.KeyLaws.{Agree, get-alike, rank-alike, asc-numbered, number-agrees}
+use Rattle.keys.specs.KeyLaws.{Agree, get-alike, rank-alike, number-agrees}
 use Rattle.keys.specs.FieldLaws.{numbersIn, narrow}
 use Rattle.theory.specs.ReadBack.{Sound}
 use Rattle.theory.specs.Run.{asInserts}
@@ -38,18 +38,15 @@ use Rattle.meaning.specs.Steps.{heldTests}
 use Rattle.laws.specs.LinesAndFields.{endsAll}
 use Rattle.laws.specs.SoundHolding.{held-is-sound}
 use Rattle.laws.specs.Body.{fine}
-use Rattle.laws.specs.HoldingReadBack.{holding, heldRecords}
 use Rattle.laws.specs.Scottish.{scottish-regular}
 use Rattle.meaning.specs.Codes.{keyAbsent, holdingUnsound, kindNotAsked}
 use Rattle.meaning.specs.Answers.{ofLine, atLine, alone}
 use Rattle.enquiries.proofs.HandLaws.{refusal-made}
 use Rattle.holding.specs.declared.read.Held.{Held}
 use Rattle.holding.specs.Read.{faultOf, recordsOf, HeldIs}
-use Rattle.holding.proofs.ReadLaws.{held-sound}
+use Rattle.holding.proofs.ReadLaws.{held-sound, held-state, held-ordered}
 use Rattle.places.specs.Places.{says}
-use Rattle.places.specs.Counts.{byKey}
-use Rattle.entries.specs.Tags.{tagOf}
-use Rattle.places.specs.Tags.{Tagged}
+use Rattle.places.specs.Ordered.{Ordered}
 use Rattle.layout.specs.Rows.{padded}
 use Rattle.enquiries.specs.declared.finding.Finding.{Finding}
 use Rattle.enquiries.specs.Finding.{findingOf}
@@ -207,24 +204,15 @@ module _ (s a o : List ℕ) (r : Held) (kind n : ℕ) (w : Enquired s a o r kind
   sounds = held-sound s (sym (w .read .line) ∙ w .sound)
 
   state : Sound (keyed scottish) (fine scottish) (heldTests scottish) st
-  unfolding heldRecords
-  state = holding scottish scottish-regular .holds s st (ap heldRecords sounds) .1
+  state = held-state s a o (w .counts) r (w .read) (w .sound)
 
   -- they are few
-  pub held-few : r .count ≤ 8192
+  pub held-few : r .count ≤ mostRecords
   held-few = w .read .listed (w .sound) .few
 
-  -- the array has them all
-  pub held-space : r .count ≤ length a
-  held-space = omega (arith, held-few, w .space)
-
-  -- the tags are those of their keys
-  pub held-tagged : Tagged s s a o (r .count)
-  held-tagged = record { space = w .tagSpace; told = w .read .tagged (w .sound) ∙ ap (byKey tagOf) (sym (w .read .listed (w .sound) .says s)) }
-
-  -- the state that it says is in order by numbers
-  pub held-asc : Asc numbered (says s s a (r .count))
-  held-asc = rw (w .read .listed (w .sound) .says s) (asc-numbered st (state .fines) (state .asc))
+  -- and their entries are in order
+  pub asked-ordered : Ordered s s a o (r .count)
+  asked-ordered = held-ordered s a o (w .counts) r (w .read) (w .sound) s (w .space)
 
   module _ (k : List ℕ) (y : k ≡ kind ∷ n ∷ 0 ∷ 0 ∷ []) (l : ℕ) (g : l ≡ lineFound k (says s s a (r .count))) where
     here : l ≡ lineFound (kind ∷ n ∷ 0 ∷ 0 ∷ []) st
@@ -249,13 +237,13 @@ module _ (s a o : List ℕ) (r : Held) (kind n : ℕ) (w : Enquired s a o r kind
       unfolding heldPart
       held-there u v = rw (place, ne-eqb l 0 u) v
 
-pub ruleset held = (needs, refusal-made, held-few, held-space, held-tagged, held-asc, held-in, held-absent, held-there)
+pub ruleset held = (needs, held-few, asked-ordered, held-in, held-absent, held-there)
 
 -- ---- find
 
 -- what is read of a sound holding serves an enquiry
-pub enquired : (h a o c : List ℕ) (r : Held) (kind : ℕ) (b : Bool) → b ≡ some? (numberedAmong enquiries kind) → b ≡ true → HeldIs h r a o c → r .line ≡ 0 → 8192 ≤ length a → 8192 ≤ length o → Enquired h a o r kind
-enquired h a o c r kind b e t w z l m = record { asked = sym e ∙ t; counts = c; read = w; sound = z; space = l; tagSpace = m }
+pub enquired : (h a o c : List ℕ) (r : Held) (kind : ℕ) (b : Bool) → b ≡ some? (numberedAmong enquiries kind) → b ≡ true → HeldIs h r a o c → r .line ≡ 0 → mostRecords ≤ length a → Enquired h a o r kind
+enquired h a o c r kind b e t w z l = record { asked = sym e ∙ t; counts = c; read = w; sound = z; space = l }
 
 module _ (s : List ℕ) (kind n : ℕ) (x : Finding) (b : Bool) (e : b ≡ some? (numberedAmong enquiries kind)) where
   -- 15 for a kind that can't be asked for

@@ -10,6 +10,7 @@ use Rattle.theory.specs.Place.{rank}
 use Rattle.meaning.specs.Kinds.{numberedAmong}
 use Rattle.meaning.specs.Table.{enquiries}
 use Rattle.meaning.specs.Records.{Rec}
+use Rattle.meaning.specs.Holding.{mostRecords}
 use Rattle.keys.specs.Numbers.{numbered}
 use Rattle.holding.specs.declared.read.Held.{Held}
 use Rattle.holding.specs.Read.{HeldIs}
@@ -18,11 +19,10 @@ use Rattle.holding.specs.Read.{HeldIs}
 unfoldable pub lineFound : List ℕ → List Rec → ℕ
 lineFound k st = pick (some? (get numbered k st)) (suc (rank numbered k st)) 0
 
--- the kind is one that an enquiry may name; the holding was read, and is sound; the arrays have room for every holding
+-- the kind is one that an enquiry may name; the holding was read, and is sound; its starts have room for every holding
 pub record Enquired (h a g : List ℕ) (r : Held) (kind : ℕ) : Type 0 where
   pub asked : some? (numberedAmong enquiries kind) ≡ true
   pub counts : List ℕ
   pub read : HeldIs h r a g counts
   pub sound : r .line ≡ 0
-  pub space : 8192 ≤ length a
-  pub tagSpace : 8192 ≤ length g
+  pub space : mostRecords ≤ length a

@@ -4,14 +4,12 @@ ghost use mathlib.Core.List.{[], _∷_};
 ghost use Rattle.base.specs.Lists.{some?};
 ghost use Rattle.meaning.specs.Kinds.{numberedAmong};
 ghost use Rattle.meaning.specs.Table.{enquiries, scottish};
-ghost use Rattle.meaning.specs.Holding.{readHolding};
+ghost use Rattle.meaning.specs.Holding.{readHolding, mostRecords};
 ghost use Rattle.meaning.specs.Enquiries.{heldAt, heldPart, find};
 ghost use Prim.Native.Nat.{_≤_};
-ghost use lib.ListN.{length};
-ghost use Rattle.theory.specs.Store.{Asc};
-ghost use Rattle.keys.specs.Numbers.{numbered, keyList};
+ghost use Rattle.keys.specs.Numbers.{keyList};
 ghost use Rattle.places.specs.Places.{says};
-ghost use Rattle.places.specs.Tags.{Tagged};
+ghost use Rattle.places.specs.Ordered.{Ordered};
 ghost use Rattle.holding.specs.Read.{recordsOf};
 ghost use Rattle.enquiries.specs.Finding.{findingOf};
 ghost use Rattle.enquiries.specs.Handed.{Handed};
@@ -57,7 +55,7 @@ pub fn asked_key(kind: u64, number: u64) -> Key
 
 // The line of the record with that key, counted from 1, or 0.
 pub fn line_of(holding: &[u8], starts: &[u64], tags: &[u64], count: usize, key: Key) -> usize
-    requires { ⌜ (count ≤ length (now starts)) × (count ≤ 8192) × Tagged (now holding) (now holding) (now starts) (now tags) count × Asc numbered (says (now holding) (now holding) (now starts) count) ⌝ }
+    requires { ⌜ Ordered (now holding) (now holding) (now starts) (now tags) count × (count ≤ mostRecords) ⌝ }
     ensures { λ r. ⌜ r ≡ lineFound (keyList key) (says (now (holding .entry)) (now (holding .entry)) (now (starts .entry)) count) ⌝ }
 {
     let i = place(holding, holding, starts, tags, count, key);

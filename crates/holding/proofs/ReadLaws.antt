@@ -14,7 +14,7 @@ use lib.Seq.{length-take-le, take-add, take-all}
 use Rattle.base.specs.Lists.{all, pick, zeros}
 use Rattle.base.specs.Tests.{and-l}
 use Rattle.base.specs.ListLaws.{append-all}
-use Rattle.theory.specs.Store.{Asc}
+use Rattle.theory.specs.ReadBack.{Sound}
 use Rattle.theory.specs.Refs.{meets}
 use Rattle.meaning.specs.Lines.{Line, linesOf}
 use Rattle.meaning.specs.Table.{scottish}
@@ -22,8 +22,9 @@ use Rattle.meaning.specs.Records.{Rec, keyOf, keyed, refsOf}
 use Rattle.meaning.specs.Holding as meaning
 use Rattle.meaning.specs.Holding.{sound, unsound, heldLine, addRec, above, onHeld, scan, referring, onScan, readHolding, mostRecords}
 use Rattle.meaning.specs.Load.{heldNumbers, checkHolding}
+use Rattle.meaning.specs.Steps.{heldTests}
 use Rattle.laws.specs.Body.{fine}
-use Rattle.laws.specs.HoldingReadBack.{Scanned, Reads, scanned}
+use Rattle.laws.specs.HoldingReadBack.{Scanned, Reads, scanned, holding, heldRecords}
 use Rattle.laws.specs.Scottish.{scottish-regular}
 use Rattle.keys.specs.Numbers.{refNumbers}
 use Rattle.keys.specs.KeyLaws.{meets-agree}
@@ -31,9 +32,9 @@ use Rattle.entries.specs.Entries.{recordOf}
 use Rattle.entries.specs.Tags.{tagOf}
 use Rattle.places.specs.Places.{says}
 use Rattle.places.specs.Counts.{times, refers, tally, byKey, moved, Open, Notes}
-use Rattle.places.specs.Tags.{Tagged}
+use Rattle.places.specs.Ordered.{Ordered}
 use Rattle.places.proofs.SaysLaws.{length-says, says-at}
-use Rattle.places.proofs.MetLaws.{asc-told}
+use Rattle.places.proofs.OrderedLaws.{ordered-asc}
 use Rattle.places.proofs.CountLaws.{refs-few, tally-few, tally-more, by-cong, by-nothing, count-all, open-up, has-all}
 use Rattle.holding.specs.declared.read.Held.{Held}
 use Rattle.holding.specs.Read.{faultOf, recordsOf, Listed, ReadAs, CountsAs, HeldIs}
@@ -41,15 +42,15 @@ use Rattle.answers.specs.Meant.{verdictOf}
 
 -- ---- references, i records on
 
-module _ (h a : List ℕ) (n i : ℕ) (l : n ≤ length a) (g : i < n) where
+module _ (h a o : List ℕ) (n i : ℕ) (v : Ordered h h a o n) (g : i < n) where
   -- what is left begins with the record of entry i
   left-at : drop i (says h h a n) ≡ recordOf h h (getD a i 0) ∷ drop (i + 1) (says h h a n)
-  left-at = rw (add-one i) (says-at h h a n l i g)
+  left-at = rw (add-one i) (says-at h h a n (v .within) i g)
 
   -- which is sound, as all are
-  pub fine-at : T (all (fine scottish) (says h h a n)) → T (fine scottish (recordOf h h (getD a i 0)))
-  fine-at t =
-      let d : T (all (fine scottish) (drop i (says h h a n))) = append-all (fine scottish) (take i (says h h a n)) (drop i (says h h a n)) (rw (take-append-drop i (says h h a n)) t) .1 in
+  pub fine-at : T (fine scottish (recordOf h h (getD a i 0)))
+  fine-at =
+      let d : T (all (fine scottish) (drop i (says h h a n))) = append-all (fine scottish) (take i (says h h a n)) (drop i (says h h a n)) (rw (take-append-drop i (says h h a n)) (v .fines)) .1 in
       and-l (fine scottish (recordOf h h (getD a i 0))) _ (subst (λ s. T (all (fine scottish) s)) left-at d)
 
 -- the records from i on are left, and the references of those before it are counted
@@ -62,20 +63,20 @@ pub record Counting (h a : List ℕ) (n : ℕ) (t : List ℕ) (i : ℕ) : Type 0
 pub unmet-start : (h a : List ℕ) (n : ℕ) (t : List ℕ) → n ≤ length a → take n t ≡ zeros n → Counting h a n t 0
 unmet-start h a n t l e = record { left = refl; told = e ∙ sym (by-nothing (says h h a n) ∙ ap zeros (length-says h h a n l)); within = omega arith }
 
-module _ (h a : List ℕ) (n : ℕ) (t : List ℕ) (i : ℕ) (w : Counting h a n t i) (l : n ≤ length a) where
-  module _ (m : n ≤ 8192) (g : i < n) (y : Asc (keyed scottish) (says h h a n)) (p : T (all (fine scottish) (says h h a n))) where
+module _ (h a o : List ℕ) (n : ℕ) (t : List ℕ) (i : ℕ) (w : Counting h a n t i) (v : Ordered h h a o n) where
+  module _ (m : n ≤ mostRecords) (g : i < n) where
     -- one record's references more can be counted
     pub unmet-open : Open true (says h h a n) t (refNumbers (recordOf h h (getD a i 0)))
     unmet-open =
-        open-up (says h h a n) (asc-told (says h h a n) y p) n (sym (length-says h h a n l)) (refNumbers (recordOf h h (getD a i 0))) (tally (take i (says h h a n))) t (w .told)
-        (λ k. omega (arith, tally-few (take i (says h h a n)) k, length-take-le i (says h h a n) (omega (arith, length-says h h a n l)), refs-few (recordOf h h (getD a i 0))))
+        open-up (says h h a n) (ordered-asc h h a o n v) n (sym (length-says h h a n (v .within))) (refNumbers (recordOf h h (getD a i 0))) (tally (take i (says h h a n))) t (w .told)
+        (λ k. omega (arith, tally-few (take i (says h h a n)) k, length-take-le i (says h h a n) (omega (arith, length-says h h a n (v .within))), refs-few (recordOf h h (getD a i 0))))
 
     module _ (u : List ℕ) (b : Bool) (q : Notes true (says h h a n) (recordOf h h (getD a i 0)) t u b) where
       here : faultOf (pick b (referring scottish (says h h a n) (suc (i + 1)) (drop (i + 1) (says h h a n))) (unsound (i + 1))) ≡ faultOf (referring scottish (says h h a n) 1 (says h h a n))
       unfolding referring
       here =
-          let e : b ≡ meets (keyed scottish) (refsOf scottish) (says h h a n) (recordOf h h (getD a i 0)) = q .met ∙ meets-agree (says h h a n) p (recordOf h h (getD a i 0)) (fine-at h a n i l g p) in
-          rw (left-at h a n i l g, ← e) at (w .left)
+          let e : b ≡ meets (keyed scottish) (refsOf scottish) (says h h a n) (recordOf h h (getD a i 0)) = q .met ∙ meets-agree (says h h a n) (v .fines) (recordOf h h (getD a i 0)) (fine-at h a o n i v g) in
+          rw (left-at h a o n i v g, ← e) at (w .left)
 
       -- one that is not met is the lowest
       pub unmet-stop : b ≡ false → CountsAs h a n u (i + 1)
@@ -94,13 +95,13 @@ module _ (h a : List ℕ) (n : ℕ) (t : List ℕ) (i : ℕ) (w : Counting h a n
 
           more : take (i + 1) st ≡ take i st ++ (x ∷ [])
           more =
-              let e : drop i st ≡ x ∷ drop (i + 1) st = left-at h a n i l g in
+              let e : drop i st ≡ x ∷ drop (i + 1) st = left-at h a o n i v g in
               take-add i 1 st ∙ rw e
 
           counted : take n u ≡ byKey (tally (take (i + 1) st)) st
           counted =
               ap (take n) (q .noted c)
-              ∙ count-all st (asc-told st y p) n (sym (length-says h h a n l)) true (refNumbers x) (has-all st x (subst T (sym (sym (q .met) ∙ c)) tt)) (tally (take i st)) t (w .told)
+              ∙ count-all st (ordered-asc h h a o n v) n (sym (length-says h h a n (v .within))) true (refNumbers x) (has-all st x (subst T (sym (sym (q .met) ∙ c)) tt)) (tally (take i st)) t (w .told)
               ∙ by-cong (λ k. moved true (times k (refNumbers x)) (tally (take i st) k)) (tally (take (i + 1) st)) (λ k. one k) st
             where
               one : (k : List ℕ) → moved true (times k (refNumbers x)) (tally (take i st) k) ≡ tally (take (i + 1) st) k
@@ -110,11 +111,11 @@ module _ (h a : List ℕ) (n : ℕ) (t : List ℕ) (i : ℕ) (w : Counting h a n
   pub unmet-done : n ≤ i → CountsAs h a n t 0
   unfolding referring faultOf
   unmet-done g =
-      let e : drop i (says h h a n) ≡ [] = drop-of-length-le (says h h a n) {i = i} (omega (arith, length-says h h a n l)) in
-      let f : take i (says h h a n) ≡ says h h a n = take-all i (says h h a n) (omega (arith, length-says h h a n l)) in
+      let e : drop i (says h h a n) ≡ [] = drop-of-length-le (says h h a n) {i = i} (omega (arith, length-says h h a n (v .within))) in
+      let f : take i (says h h a n) ≡ says h h a n = take-all i (says h h a n) (omega (arith, length-says h h a n (v .within))) in
       record { line = rw e at (w .left); told = λ z. w .told ∙ ap (λ s. byKey (tally s) (says h h a n)) f }
 
-pub ruleset unmets = (needs, not-true, not-false, asc-told, fine-at, unmet-start, unmet-open, unmet-stop, unmet-turn, unmet-done)
+pub ruleset unmets = (needs, not-true, not-false, fine-at, unmet-start, unmet-open, unmet-stop, unmet-turn, unmet-done)
 
 -- ---- a faulty line is never 0
 
@@ -199,25 +200,13 @@ module _ (h a g : List ℕ) (r : Held) (s : ReadAs h (scan scottish 1 none (line
     reads : Reads scottish 1 none (linesOf h) (says h h a (r .count))
     reads = subst (Reads scottish 1 none (linesOf h)) (sym says-is) (subst (Scanned scottish 1 none (linesOf h)) scan-sound (scanned scottish scottish-regular 1 none (linesOf h) (omega arith)))
 
-    -- the starts are no more than there is room for
-    pub read-room : 8192 ≤ length a → r .count ≤ length a
-    read-room l = omega (arith, s .listed z .few)
-
-    -- and no more than a holding may have
-    pub read-few : r .count ≤ 8192
+    -- the starts are no more than a holding may have
+    pub read-few : r .count ≤ mostRecords
     read-few = s .listed z .few
 
-    -- the records are in order
-    pub read-asc : Asc (keyed scottish) (says h h a (r .count))
-    read-asc = reads .asc
-
-    -- and sound
-    pub read-fines : T (all (fine scottish) (says h h a (r .count)))
-    read-fines = reads .fines
-
-    -- their keys are tagged
-    pub read-tagged : 8192 ≤ length g → Tagged h h a g (r .count)
-    read-tagged l = record { space = l; told = s .tagged z ∙ ap (byKey tagOf) (sym says-is) }
+    -- the records are sound and in order, and their keys are tagged
+    pub read-ordered : mostRecords ≤ length a → Ordered h h a g (r .count)
+    read-ordered l = record { within = omega (arith, read-few); asc = reads .asc; fines = reads .fines; tagged = s .tagged z ∙ ap (byKey tagOf) (sym says-is) }
 
     -- the second pass says the rest
     pub read-told : (t : List ℕ) (x : ℕ) → CountsAs h a (r .count) t x → HeldIs h (record { line = x; count = r .count }) a g t
@@ -247,7 +236,21 @@ module _ (h a g : List ℕ) (r : Held) (s : ReadAs h (scan scottish 1 none (line
         counts (sound t) i y q = unfold recordsOf in (rw i q)
         counts (unsound n) i y q = absurd (i (unfold faultOf in y))
 
-pub ruleset readings = (needs, read-faulty, read-room, read-few, read-asc, read-fines, read-tagged, read-told)
+pub ruleset readings = (needs, read-faulty, read-few, read-ordered, read-told)
+
+-- ---- a sound holding that was read
+
+module _ (h a g t : List ℕ) (r : Held) (s : HeldIs h r a g t) (z : r .line ≡ 0) where
+  -- its records are as steps leave them
+  pub held-state : Sound (keyed scottish) (fine scottish) (heldTests scottish) (recordsOf (readHolding scottish h))
+  unfolding heldRecords
+  held-state = holding scottish scottish-regular .holds h (recordsOf (readHolding scottish h)) (ap heldRecords (held-sound h (sym (s .line) ∙ z))) .1
+
+  -- so its entries are in order, beside any file
+  pub held-ordered : (f : List ℕ) → mostRecords ≤ length a → Ordered h f a g (r .count)
+  held-ordered f l =
+      let e : says h f a (r .count) ≡ recordsOf (readHolding scottish h) = s .listed z .says f in
+      record { within = omega (arith, s .listed z .few); asc = rw e (held-state .asc); fines = rw e (held-state .fines); tagged = rw e (s .tagged z) }
 
 -- ---- the three numbers
 

@@ -2,6 +2,7 @@
 ghost use Prim.Native.Nat.{_≤_};
 ghost use lib.ListN.{length};
 ghost use Rattle.holding.specs.Read.{HeldIs};
+ghost use Rattle.meaning.specs.Holding.{mostRecords};
 use crate::scan::scan;
 use crate::unmet::unmet;
 
@@ -19,7 +20,7 @@ pub fn read_holding(
     tags: &mut [u64],
     counts: &mut [u16],
 ) -> Held
-    requires { ⌜ (8192 ≤ length (now starts)) × (8192 ≤ length (now tags)) × (8192 ≤ length (now counts)) ⌝ }
+    requires { ⌜ (mostRecords ≤ length (now starts)) × (mostRecords ≤ length (now tags)) × (mostRecords ≤ length (now counts)) ⌝ }
     ensures { λ r. ⌜ HeldIs (now (holding .entry)) r (now (starts .exit)) (now (tags .exit)) (now (counts .exit)) ⌝ }
 {
     let held = scan(holding, &mut *starts, &mut *tags);

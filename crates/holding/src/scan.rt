@@ -5,7 +5,7 @@ ghost use Prim.Native.Nat.{_≤_};
 ghost use lib.ListN.{length};
 ghost use Rattle.meaning.specs.Lines.{linesOf};
 ghost use Rattle.meaning.specs.Table.{scottish};
-ghost use Rattle.meaning.specs.Holding.{scan};
+ghost use Rattle.meaning.specs.Holding.{scan, mostRecords};
 ghost use Rattle.text.specs.Places.{plainEnd};
 ghost use Rattle.keys.specs.Numbers.{keyList};
 ghost use Rattle.holding.specs.Held.{recordUpTo, nextAs, keyTaken};
@@ -52,7 +52,7 @@ fn next_key(holding: &[u8], at: usize, end: usize, line: usize, before: Key) -> 
 
 // The lowest faulty line, or 0 and where each line starts, twice: an entry of the holding; with the tag of each key.
 pub fn scan(holding: &[u8], starts: &mut [u64], tags: &mut [u64]) -> Held
-    requires { ⌜ (8192 ≤ length (now starts)) × (8192 ≤ length (now tags)) ⌝ }
+    requires { ⌜ (mostRecords ≤ length (now starts)) × (mostRecords ≤ length (now tags)) ⌝ }
     ensures { λ r. ⌜ ReadAs (now (holding .entry)) (scan scottish 1 none (linesOf (now (holding .entry)))) r (now (starts .exit)) (now (tags .exit)) ⌝ }
 {
     let mut before = Key {

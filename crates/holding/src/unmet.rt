@@ -1,15 +1,9 @@
 // References come after all lines: a record may refer to one on a later line.
 ghost use Prim.Native.Nat.{_≤_};
-ghost use lib.Dec.{T};
 ghost use lib.ListN.{length};
-ghost use Rattle.base.specs.Lists.{all};
-ghost use Rattle.theory.specs.Store.{Asc};
-ghost use Rattle.meaning.specs.Table.{scottish};
-ghost use Rattle.meaning.specs.Records.{keyed};
-ghost use Rattle.laws.specs.Body.{fine};
-ghost use Rattle.places.specs.Places.{says};
-ghost use Rattle.places.specs.Tags.{Tagged};
+ghost use Rattle.places.specs.Ordered.{Ordered};
 ghost use Rattle.holding.specs.Read.{CountsAs};
+ghost use Rattle.meaning.specs.Holding.{mostRecords};
 use places::counts::clear;
 use places::counts::note;
 
@@ -21,7 +15,7 @@ pub fn unmet(
     counts: &mut [u16],
     count: usize,
 ) -> usize
-    requires { ⌜ (count ≤ length (now starts)) × (count ≤ length (now counts)) × (count ≤ 8192) × Asc (keyed scottish) (says (now holding) (now holding) (now starts) count) × T (all (fine scottish) (says (now holding) (now holding) (now starts) count)) × Tagged (now holding) (now holding) (now starts) (now tags) count ⌝ }
+    requires { ⌜ Ordered (now holding) (now holding) (now starts) (now tags) count × (count ≤ length (now counts)) × (count ≤ mostRecords) ⌝ }
     ensures { λ r. ⌜ CountsAs (now (holding .entry)) (now (starts .entry)) count (now (counts .exit)) r ⌝ }
 {
     clear(&mut *counts, count);

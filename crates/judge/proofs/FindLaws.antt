@@ -23,7 +23,6 @@ use Rattle.entries.specs.Entries.{recordOf}
 use Rattle.places.specs.Places.{says}
 use Rattle.places.proofs.SaysLaws.{says-at}
 use Rattle.places.proofs.SearchLaws.{Stops, get-rank, stands-in}
-use Rattle.places.proofs.MetLaws.{asc-told}
 use Rattle.judge.specs.Ready.{Finds}
 
 -- a look-up by numbers finds what the look-up by keys finds
@@ -36,7 +35,7 @@ pub finds : (h f a : List ℕ) (n v : ℕ) (k : Key) (i : ℕ) (b : Bool) → T 
 finds h f a n v k i b p g e r l q =
     record { placed = r ∙ ap (λ z. rank numbered z (says h f a n)) e; within = l; there = q ∙ ap (λ z. some? (get numbered z (says h f a n))) e ∙ ap some? (get-both (says h f a n) (recordOf h f v) p g) }
 
-pub ruleset finding = (needs, asc-told, finds)
+pub ruleset finding = (needs, finds)
 
 -- where a key stands, the entry at its place is of the record that stands there
 pub found-at : (h f a k : List ℕ) (n i : ℕ) → n ≤ length a → i ≡ rank numbered k (says h f a n) → T (some? (get numbered k (says h f a n))) → get numbered k (says h f a n) ≡ some (recordOf h f (getD a i 0))

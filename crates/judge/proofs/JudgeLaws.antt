@@ -32,15 +32,17 @@ use Rattle.keys.specs.Numbers.{keyNumbers, refNumbers, numbered}
 use Rattle.keys.specs.KeyLaws.{clear-agree}
 use Rattle.entries.specs.Entries.{recordOf}
 use Rattle.places.specs.Places.{says}
-use Rattle.places.specs.Counts.{tally, Counted}
+use Rattle.places.specs.Counts.{tally}
+use Rattle.places.specs.Ordered.{Ordered}
 use Rattle.places.specs.Changes.{change}
+use Rattle.places.proofs.SaysLaws.{length-says}
+use Rattle.places.proofs.OrderedLaws.{ordered-asc}
 use Rattle.places.proofs.SearchLaws.{stands-in}
-use Rattle.places.proofs.MetLaws.{asc-told}
 use Rattle.places.proofs.CountLaws.{clear-tally, count-at}
 use Rattle.judge.specs.declared.State.{State}
 use Rattle.judge.specs.declared.Found.{Found}
 use Rattle.judge.specs.declared.Judged.{Judged}
-use Rattle.judge.specs.Ready.{codeNumber, Ready, Finds, Judges}
+use Rattle.judge.specs.Ready.{codeNumber, Holds, Ready, Finds, Judges}
 use Rattle.judge.proofs.FindLaws.{get-both, found-at}
 
 -- ---- lengths of lines
@@ -66,19 +68,27 @@ clear-all x (r ∷ rs) g h = rw (clear-agree r x (and-l (fine scottish r) (all (
 
 -- ---- what a state that is ready for a step gives
 
-module _ (h f a : List ℕ) (room : ℕ) (s : State) (y : Ready h f a room s) where
-  -- there are not too many records
-  pub ready-few : s .count ≤ 8192
-  unfolding few
-  ready-few = omega (arith, y .counted, leb→le (length (says h f a (s .count))) mostRecords (and-l (few (says h f a (s .count))) _ (y .pass)))
+-- it holds what it says
+pub ready-holds : (h f a tags counts : List ℕ) (room : ℕ) (s : State) → Ready h f a tags counts room s → Holds h f a tags room s
+ready-holds h f a tags counts room s y = y .holds
 
-  -- they are within the array
-  pub ready-in : s .count ≤ length a
-  ready-in = omega (arith, ready-few, y .space)
+module _ (h f a tags : List ℕ) (room : ℕ) (s : State) (y : Holds h f a tags room s) where
+  -- its entries are in order
+  pub holds-ordered : Ordered h f a tags (s .count)
+  holds-ordered = y .ordered
+
+  -- they are as many as its records
+  pub holds-counted : s .count ≡ length (says h f a (s .count))
+  holds-counted = sym (length-says h f a (s .count) (y .ordered .within))
+
+  -- there are not too many
+  pub holds-few : s .count ≤ most
+  unfolding few
+  holds-few = omega (arith, holds-counted, leb→le (length (says h f a (s .count))) most (and-l (few (says h f a (s .count))) _ (y .pass)))
 
   -- the bytes fit the room
-  pub ready-fits : s .size ≤ room
-  ready-fits = y .fits
+  pub holds-fits : s .size ≤ room
+  holds-fits = y .fits
 
   -- lengths of records can be added
   pub long-fits : (m : ℕ) → m ≤ max (length h) (length f) → Fits w64 (m + 10)
@@ -103,16 +113,16 @@ module _ (h f a : List ℕ) (room : ℕ) (s : State) (y : Ready h f a room s) wh
     at-none t = none-of (get (keyed scottish) (keyOf scottish (recordOf h f v)) (says h f a (s .count))) (sym (q .there) ∙ t)
 
     stood : p .stands ≡ true → T (some? (get numbered (keyNumbers (recordOf h f v)) (says h f a (s .count))))
-    stood t = rw (get-both (says h f a (s .count)) (recordOf h f v) (y .fines) g, sym (q .there) ∙ t) tt
+    stood t = rw (get-both (says h f a (s .count)) (recordOf h f v) (y .ordered .fines) g, sym (q .there) ∙ t) tt
 
     at-some : p .stands ≡ true → get (keyed scottish) (keyOf scottish (recordOf h f v)) (says h f a (s .count)) ≡ some (recordOf h f (getD a (p .place) 0))
     at-some t =
-        sym (get-both (says h f a (s .count)) (recordOf h f v) (y .fines) g)
-        ∙ found-at h f a (keyNumbers (recordOf h f v)) (s .count) (p .place) ready-in (q .placed) (stood t)
+        sym (get-both (says h f a (s .count)) (recordOf h f v) (y .ordered .fines) g)
+        ∙ found-at h f a (keyNumbers (recordOf h f v)) (s .count) (p .place) (y .ordered .within) (q .placed) (stood t)
 
     -- the place of a key that stands is in the array
     pub place-in : p .stands ≡ true → p .place < length a
-    place-in t = omega (arith, ready-in, stands-in h f a (s .count) (p .place) (keyNumbers (recordOf h f v)) ready-in (q .placed) (some? (get numbered (keyNumbers (recordOf h f v)) (says h f a (s .count)))) refl (T-true _ (stood t)))
+    place-in t = omega (arith, (y .ordered .within), stands-in h f a (s .count) (p .place) (keyNumbers (recordOf h f v)) (y .ordered .within) (q .placed) (some? (get numbered (keyNumbers (recordOf h f v)) (says h f a (s .count)))) refl (T-true _ (stood t)))
 
     refused : (o : Op) (w z : ℕ) → w ≡ codeNumber (judge (keyed scottish) (stepRules scottish room) (says h f a (s .count)) (change o (recordOf h f v))) → (w ≡ 0 → ⊥)
         → Judges h f a room (change o (recordOf h f v)) s (record { code = w; place = p .place; size = z })
@@ -130,7 +140,7 @@ module _ (h f a : List ℕ) (room : ℕ) (s : State) (y : Ready h f a room s) wh
         (ask (meets (keyed scottish) (refsOf scottish) (says h f a (s .count)) (recordOf h f v)) 12
         (ask (leb (length (render printed (says h f a (s .count))) + bare printed (recordOf h f v) + width (suc (length (says h f a (s .count))))) room) 13 none)))
     unfolding fast fewAfter metAfter sizeAfter
-    told-ins = fast-step scottish room (says h f a (s .count)) (change ins (recordOf h f v)) (y .asc) (y .pass)
+    told-ins = fast-step scottish room (says h f a (s .count)) (change ins (recordOf h f v)) (y .ordered .asc) (y .pass)
 
     -- a key that stands is not inserted
     pub ins-held : p .stands ≡ true → Judges h f a room (change ins (recordOf h f v)) s (record { code = 10; place = p .place; size = s .size })
@@ -141,11 +151,11 @@ module _ (h f a : List ℕ) (room : ℕ) (s : State) (y : Ready h f a room s) wh
       -- 8,192 records are enough
       pub ins-many : limit ≤ s .count → Judges h f a room (change ins (recordOf h f v)) s (record { code = 16; place = p .place; size = s .size })
       unfolding ask
-      ins-many m = refused ins 16 (s .size) (rw (told-ins, ← q .there, t, lt-leb (suc (length (says h f a (s .count)))) mostRecords (omega (arith, y .counted)))) (λ e. omega arith)
+      ins-many m = refused ins 16 (s .size) (rw (told-ins, ← q .there, t, lt-leb (suc (length (says h f a (s .count)))) most (omega (arith, holds-counted)))) (λ e. omega arith)
 
       module _ (m : s .count < limit) (b : Bool) (r : b ≡ meets (keyed scottish) (refsOf scottish) (says h f a (s .count)) (recordOf h f v)) where
-        few-ok : leb (suc (length (says h f a (s .count)))) mostRecords ≡ true
-        few-ok = le-leb (suc (length (says h f a (s .count)))) mostRecords (omega (arith, y .counted))
+        few-ok : leb (suc (length (says h f a (s .count)))) most ≡ true
+        few-ok = le-leb (suc (length (says h f a (s .count)))) most (omega (arith, holds-counted))
 
         -- its references must be met
         pub ins-unmet : b ≡ false → Judges h f a room (change ins (recordOf h f v)) s (record { code = 12; place = p .place; size = s .size })
@@ -155,7 +165,7 @@ module _ (h f a : List ℕ) (room : ℕ) (s : State) (y : Ready h f a room s) wh
         module _ (u : b ≡ true) (l w : ℕ) (d : l ≡ length (recordOf h f v .content)) (e : w ≡ width (s .count + 1)) where
           wider : width (suc (length (says h f a (s .count)))) ≡ w
           wider =
-              let i : suc (length (says h f a (s .count))) ≡ s .count + 1 = omega (arith, y .counted) in
+              let i : suc (length (says h f a (s .count))) ≡ s .count + 1 = omega (arith, holds-counted) in
               rw i (sym e)
 
           grown : length (render printed (says h f a (s .count))) + bare printed (recordOf h f v) + width (suc (length (says h f a (s .count)))) ≡ s .size + (l + 10 + w)
@@ -180,14 +190,14 @@ module _ (h f a : List ℕ) (room : ℕ) (s : State) (y : Ready h f a room s) wh
     -- a key that stands nowhere is not updated
     pub upd-absent : p .stands ≡ false → Judges h f a room (change upd (recordOf h f v)) s (record { code = 11; place = p .place; size = s .size })
     unfolding ask fast
-    upd-absent t = refused upd 11 (s .size) (rw (fast-step scottish room (says h f a (s .count)) (change upd (recordOf h f v)) (y .asc) (y .pass), at-none t)) (λ e. omega arith)
+    upd-absent t = refused upd 11 (s .size) (rw (fast-step scottish room (says h f a (s .count)) (change upd (recordOf h f v)) (y .ordered .asc) (y .pass), at-none t)) (λ e. omega arith)
 
     module _ (t : p .stands ≡ true) where
       told-upd : judge (keyed scottish) (stepRules scottish room) (says h f a (s .count)) (change upd (recordOf h f v))
           ≡ ask (meets (keyed scottish) (refsOf scottish) (says h f a (s .count)) (recordOf h f v)) 12
           (ask (leb (length (render printed (says h f a (s .count))) + bare printed (recordOf h f v) - bare printed (recordOf h f (getD a (p .place) 0))) room) 13 none)
       unfolding fast fewAfter metAfter sizeAfter ask
-      told-upd = fast-step scottish room (says h f a (s .count)) (change upd (recordOf h f v)) (y .asc) (y .pass) ∙ rw (at-some t)
+      told-upd = fast-step scottish room (says h f a (s .count)) (change upd (recordOf h f v)) (y .ordered .asc) (y .pass) ∙ rw (at-some t)
 
       module _ (b : Bool) (r : b ≡ meets (keyed scottish) (refsOf scottish) (says h f a (s .count)) (recordOf h f v)) where
         -- its references must be met
@@ -228,28 +238,28 @@ module _ (h f a : List ℕ) (room : ℕ) (s : State) (y : Ready h f a room s) wh
     -- a key that stands nowhere is not deleted
     pub del-absent : p .stands ≡ false → Judges h f a room (change del (recordOf h f v)) s (record { code = 11; place = p .place; size = s .size })
     unfolding ask fast
-    del-absent t = refused del 11 (s .size) (rw (fast-step scottish room (says h f a (s .count)) (change del (recordOf h f v)) (y .asc) (y .pass), at-none t)) (λ e. omega arith)
+    del-absent t = refused del 11 (s .size) (rw (fast-step scottish room (says h f a (s .count)) (change del (recordOf h f v)) (y .ordered .asc) (y .pass), at-none t)) (λ e. omega arith)
 
     module _ (t : p .stands ≡ true) where
       told-del : judge (keyed scottish) (stepRules scottish room) (says h f a (s .count)) (change del (recordOf h f v))
           ≡ ask (all (clear (keyed scottish) (refsOf scottish) (keyOf scottish (recordOf h f v))) (says h f a (s .count))) 12
           (ask (leb (length (render printed (says h f a (s .count))) - bare printed (recordOf h f (getD a (p .place) 0)) - width (length (says h f a (s .count)))) room) 13 none)
       unfolding fast fewAfter metAfter sizeAfter ask
-      told-del = fast-step scottish room (says h f a (s .count)) (change del (recordOf h f v)) (y .asc) (y .pass) ∙ rw (at-some t)
+      told-del = fast-step scottish room (says h f a (s .count)) (change del (recordOf h f v)) (y .ordered .asc) (y .pass) ∙ rw (at-some t)
 
-      module _ (c : List ℕ) (k : Counted h f a c (s .count)) where
+      module _ (c : List ℕ) (k : Ready h f a tags c room s) where
         -- its count is beside it
         pub count-in : p .place < length c
-        count-in = omega (arith, k .space, ready-few, stands-in h f a (s .count) (p .place) (keyNumbers (recordOf h f v)) ready-in (q .placed) (some? (get numbered (keyNumbers (recordOf h f v)) (says h f a (s .count)))) refl (T-true _ (stood t)))
+        count-in = omega (arith, k .countSpace, holds-few, stands-in h f a (s .count) (p .place) (keyNumbers (recordOf h f v)) (y .ordered .within) (q .placed) (some? (get numbered (keyNumbers (recordOf h f v)) (says h f a (s .count)))) refl (T-true _ (stood t)))
 
         counts : getD c (p .place) 0 ≡ tally (says h f a (s .count)) (keyNumbers (recordOf h f v))
         unfolding has
         counts =
             ap (λ i. getD c i 0) (q .placed)
-            ∙ count-at (says h f a (s .count)) (asc-told (says h f a (s .count)) (y .asc) (y .fines)) (s .count) (y .counted) true (tally (says h f a (s .count))) c (k .told) (keyNumbers (recordOf h f v)) (stood t)
+            ∙ count-at (says h f a (s .count)) (ordered-asc h f a tags (s .count) (y .ordered)) (s .count) (holds-counted) true (tally (says h f a (s .count))) c (k .counted) (keyNumbers (recordOf h f v)) (stood t)
 
         seen : all (clear (keyed scottish) (refsOf scottish) (keyOf scottish (recordOf h f v))) (says h f a (s .count)) ≡ eqb (getD c (p .place) 0) 0
-        seen = sym (clear-all (recordOf h f v) (says h f a (s .count)) g (y .fines)) ∙ clear-tally (keyNumbers (recordOf h f v)) (says h f a (s .count)) ∙ ap (λ n. eqb n 0) (sym counts)
+        seen = sym (clear-all (recordOf h f v) (says h f a (s .count)) g (y .ordered .fines)) ∙ clear-tally (keyNumbers (recordOf h f v)) (says h f a (s .count)) ∙ ap (λ n. eqb n 0) (sym counts)
 
         -- no record may refer to the one that goes
         pub del-met : (getD c (p .place) 0 ≡ 0 → ⊥) → Judges h f a room (change del (recordOf h f v)) s (record { code = 12; place = p .place; size = s .size })
@@ -258,7 +268,7 @@ module _ (h f a : List ℕ) (room : ℕ) (s : State) (y : Ready h f a room s) wh
 
       module _ (l w : ℕ) (d : l ≡ length (recordOf h f (getD a (p .place) 0) .content)) (e : w ≡ width (s .count)) where
         narrower : width (length (says h f a (s .count))) ≡ w
-        narrower = ap width (sym (y .counted)) ∙ sym e
+        narrower = ap width (sym holds-counted) ∙ sym e
 
         del-sized : length (written (after (keyed scottish) (says h f a (s .count)) (change del (recordOf h f v)))) + (l + 10 + w) ≡ s .size
         unfolding after
@@ -269,7 +279,7 @@ module _ (h f a : List ℕ) (room : ℕ) (s : State) (y : Ready h f a room s) wh
         del-room = omega (arith, del-sized)
 
         -- else it is taken
-        pub del-taken : (c : List ℕ) → Counted h f a c (s .count) → getD c (p .place) 0 ≡ 0
+        pub del-taken : (c : List ℕ) → Ready h f a tags c room s → getD c (p .place) 0 ≡ 0
             → Judges h f a room (change del (recordOf h f v)) s (record { code = 0; place = p .place; size = s .size - (l + 10 + w) })
         unfolding ask
         del-taken c k u =
@@ -280,8 +290,8 @@ module _ (h f a : List ℕ) (room : ℕ) (s : State) (y : Ready h f a room s) wh
 pub judged-told : (h f a : List ℕ) (room : ℕ) (c : Change Rec) (s : State) (x y : Judged) → x ≡ y → Judges h f a room c s y → Judges h f a room c s x
 judged-told h f a room c s x y e j = rw e j
 
-pub ruleset inserting = (needs, judged-told, not-true, not-false, ready-in, ready-fits, long-fits, wide-fits, room-fits, ins-held, ins-many, ins-unmet, ins-long, ins-taken)
+pub ruleset inserting = (needs, judged-told, not-true, not-false, holds-ordered, holds-fits, long-fits, wide-fits, room-fits, ins-held, ins-many, ins-unmet, ins-long, ins-taken)
 
-pub ruleset updating = (needs, judged-told, not-true, not-false, ready-in, ready-fits, room-fits, place-in, upd-absent, upd-unmet, upd-room, upd-shorter, upd-long, upd-longer)
+pub ruleset updating = (needs, judged-told, not-true, not-false, holds-ordered, holds-fits, room-fits, place-in, upd-absent, upd-unmet, upd-room, upd-shorter, upd-long, upd-longer)
 
-pub ruleset deleting = (needs, judged-told, not-true, not-false, ready-in, ready-fits, long-fits, wide-fits, place-in, count-in, del-absent, del-met, del-room, del-taken)
+pub ruleset deleting = (needs, judged-told, not-true, not-false, ready-holds, holds-ordered, long-fits, wide-fits, place-in, count-in, del-absent, del-met, del-room, del-taken)

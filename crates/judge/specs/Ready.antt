@@ -2,21 +2,22 @@
 use mathlib.Core.Path.{_≡_}
 use mathlib.Core.Option.{Option, none, some}
 use mathlib.Core.List.{List}
-use Prim.Native.Nat.{ℕ, _≤_, _<_}
+use Prim.Native.Nat.{ℕ, _^_, _≤_, _<_}
 use lib.Dec.{T}
-use lib.ListN.{length}
-use Rattle.base.specs.Lists.{all, some?}
-use Rattle.theory.specs.Store.{get, Asc}
+use lib.ListN.{length, take}
+use Rattle.base.specs.Lists.{some?}
+use Rattle.theory.specs.Store.{get}
 use Rattle.theory.specs.Place.{rank}
 use Rattle.theory.specs.Step.{Change, passes, judge, after}
 use Rattle.meaning.specs.Table.{scottish}
 use Rattle.meaning.specs.Records.{Rec, keyed, keyOf}
-use Rattle.meaning.specs.Holding.{written}
+use Rattle.meaning.specs.Holding.{written, mostRecords}
 use Rattle.meaning.specs.Steps.{stepRules, heldTests}
-use Rattle.laws.specs.Body.{fine}
 use Rattle.keys.specs.Numbers.{keyNumbers, numbered}
 use Rattle.entries.specs.Entries.{recordOf}
 use Rattle.places.specs.Places.{says}
+use Rattle.places.specs.Counts.{tally, byKey}
+use Rattle.places.specs.Ordered.{Ordered}
 use Rattle.judge.specs.declared.State.{State}
 use Rattle.judge.specs.declared.Found.{Found}
 use Rattle.judge.specs.declared.Judged.{Judged}
@@ -26,18 +27,27 @@ abbrev pub codeNumber : Option ℕ → ℕ
 codeNumber none = 0
 codeNumber (some w) = w
 
--- the records in force are those of a sound holding, count and size are its records and bytes, it fits the room, and the array has room for every holding
-pub record Ready (h f a : List ℕ) (room : ℕ) (s : State) : Type 0 where
-  pub asc : Asc (keyed scottish) (says h f a (s .count))
-  pub fines : T (all (fine scottish) (says h f a (s .count)))
+-- less than 2 ^ 63, as the length of every slice is
+abbrev pub short : ℕ → Type 0
+short n = n < 2 ^ 63
+
+-- the records in force are those of a sound holding, count and size are its records and bytes, and it fits the room
+pub record Holds (h f a g : List ℕ) (room : ℕ) (s : State) : Type 0 where
+  pub ordered : Ordered h f a g (s .count)
   pub pass : T (passes (heldTests scottish) (says h f a (s .count)))
-  pub counted : s .count ≡ length (says h f a (s .count))
   pub sized : s .size ≡ length (written (says h f a (s .count)))
   pub fits : s .size ≤ room
-  pub space : 8192 ≤ length a
-  pub roomShort : room < 9223372036854775808
-  pub heldShort : length h < 9223372036854775808
-  pub fileShort : length f < 9223372036854775808
+  pub roomShort : short room
+  pub heldShort : short (length h)
+  pub fileShort : short (length f)
+
+-- such a state is ready for a step: the counts say how often its records refer to each of them, and the arrays have room for every holding
+pub record Ready (h f a g t : List ℕ) (room : ℕ) (s : State) : Type 0 where
+  pub holds : Holds h f a g room s
+  pub counted : take (s .count) t ≡ byKey (tally (says h f a (s .count))) (says h f a (s .count))
+  pub space : mostRecords ≤ length a
+  pub tagSpace : mostRecords ≤ length g
+  pub countSpace : mostRecords ≤ length t
 
 -- the place of the key of an entry's record among the first n, and whether a record stands there
 pub record Finds (h f a : List ℕ) (n v : ℕ) (r : Found) : Type 0 where

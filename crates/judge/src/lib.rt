@@ -1,21 +1,13 @@
 // How a step is judged, before it is made: the code with which it is refused, by what it touches alone: 10 or 11, then 16, 12 and 13.
 ghost use mathlib.Core.Path.{_≡_};
-ghost use Prim.Native.Nat.{_≤_};
 ghost use lib.Dec.{T};
-ghost use lib.ListN.{length};
-ghost use Rattle.base.specs.Lists.{all};
-ghost use Rattle.theory.specs.Store.{Asc};
 ghost use Rattle.theory.specs.Step.{ins, upd, del};
-ghost use Rattle.theory.specs.Decimal.{width};
 ghost use Rattle.meaning.specs.Table.{scottish};
-ghost use Rattle.meaning.specs.Records.{keyed};
 ghost use Rattle.laws.specs.Body.{fine};
 ghost use Rattle.entries.specs.Entries.{recordOf};
-ghost use Rattle.places.specs.Places.{says};
-ghost use Rattle.places.specs.Counts.{Counted};
-ghost use Rattle.places.specs.Tags.{Tagged};
+ghost use Rattle.places.specs.Ordered.{Ordered};
 ghost use Rattle.places.specs.Changes.{change};
-ghost use Rattle.judge.specs.Ready.{Ready, Finds, Judges};
+ghost use Rattle.judge.specs.Ready.{Holds, Ready, Finds, Judges};
 use entries::key::entry_key;
 use entries::lengths::entry_length;
 use layout::limits::Holding;
@@ -62,7 +54,7 @@ pub fn find(
     count: usize,
     entry: u64,
 ) -> Found
-    requires { ⌜ (count ≤ length (now places)) × Asc (keyed scottish) (says (now holding) (now file) (now places) count) × T (all (fine scottish) (says (now holding) (now file) (now places) count)) × T (fine scottish (recordOf (now holding) (now file) entry)) × Tagged (now holding) (now file) (now places) (now tags) count ⌝ }
+    requires { ⌜ Ordered (now holding) (now file) (now places) (now tags) count × T (fine scottish (recordOf (now holding) (now file) entry)) ⌝ }
     ensures { λ r. ⌜ Finds (now (holding .entry)) (now (file .entry)) (now (places .entry)) count entry r ⌝ }
 {
     let key = entry_key(holding, file, entry);
@@ -84,7 +76,7 @@ pub fn judge_insert(
     state: State,
     room: usize,
 ) -> Judged
-    requires { ⌜ Ready (now holding) (now file) (now places) room state × T (fine scottish (recordOf (now holding) (now file) entry)) × Tagged (now holding) (now file) (now places) (now tags) (state .count) ⌝ }
+    requires { ⌜ Holds (now holding) (now file) (now places) (now tags) room state × T (fine scottish (recordOf (now holding) (now file) entry)) ⌝ }
     ensures { λ r. ⌜ Judges (now (holding .entry)) (now (file .entry)) (now (places .entry)) room (change ins (recordOf (now (holding .entry)) (now (file .entry)) entry)) state r ⌝ }
 {
     let count = state.count;
@@ -119,7 +111,7 @@ pub fn judge_update(
     state: State,
     room: usize,
 ) -> Judged
-    requires { ⌜ Ready (now holding) (now file) (now places) room state × T (fine scottish (recordOf (now holding) (now file) entry)) × Tagged (now holding) (now file) (now places) (now tags) (state .count) ⌝ }
+    requires { ⌜ Holds (now holding) (now file) (now places) (now tags) room state × T (fine scottish (recordOf (now holding) (now file) entry)) ⌝ }
     ensures { λ r. ⌜ Judges (now (holding .entry)) (now (file .entry)) (now (places .entry)) room (change upd (recordOf (now (holding .entry)) (now (file .entry)) entry)) state r ⌝ }
 {
     let count = state.count;
@@ -155,7 +147,7 @@ pub fn judge_delete(
     state: State,
     room: usize,
 ) -> Judged
-    requires { ⌜ Ready (now holding) (now file) (now places) room state × Counted (now holding) (now file) (now places) (now counts) (state .count) × T (fine scottish (recordOf (now holding) (now file) entry)) × Tagged (now holding) (now file) (now places) (now tags) (state .count) ⌝ }
+    requires { ⌜ Ready (now holding) (now file) (now places) (now tags) (now counts) room state × T (fine scottish (recordOf (now holding) (now file) entry)) ⌝ }
     ensures { λ r. ⌜ Judges (now (holding .entry)) (now (file .entry)) (now (places .entry)) room (change del (recordOf (now (holding .entry)) (now (file .entry)) entry)) state r ⌝ }
 {
     let count = state.count;

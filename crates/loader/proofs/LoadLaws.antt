@@ -10,20 +10,16 @@ use Rattle.base.specs.Lists.{pick}
 use Rattle.theory.specs.Step.{ins, upd, del, after, back}
 use Rattle.theory.specs.Trail.{undo}
 use Rattle.theory.specs.TrailLaws.{length-undo}
-use Rattle.theory.specs.ReadBack.{Sound}
 use Rattle.theory.specs.Run.{done, run}
 use Rattle.theory.specs.Answer.{fault, file, took, refused, count}
 use Rattle.meaning.specs.Table.{scottish}
 use Rattle.meaning.specs.Records.{Rec, keyed, changeTexts, joined}
 use Rattle.meaning.specs.File.{Sheet, readFile}
 use Rattle.meaning.specs.Holding as meaning
-use Rattle.meaning.specs.Holding.{sound, unsound, readHolding, written}
+use Rattle.meaning.specs.Holding.{sound, unsound, readHolding, written, mostRecords}
 use Rattle.meaning.specs.Load.{six, outcome, fromStart, onFile, onHolding, load, checked, checkFile}
-use Rattle.meaning.specs.Answers.{Read}
-use Rattle.meaning.specs.Steps.{fits, stepRules, heldTests}
+use Rattle.meaning.specs.Steps.{fits, stepRules}
 use Rattle.meaning.specs.Undo.{undoSheet, undoHeld, undoBytes}
-use Rattle.laws.specs.Body.{fine}
-use Rattle.laws.specs.HoldingReadBack.{holding, heldRecords}
 use Rattle.laws.specs.FileRefusals.{ReadIn, among, file-codes}
 use Rattle.laws.specs.SoundHolding.{held-is-sound}
 use Rattle.laws.specs.SoundFile.{SoundFile, read-sound}
@@ -33,15 +29,12 @@ use Rattle.text.specs.Places.{lineEnd}
 use Rattle.answers.specs.declared.numbers.Answer.{Answer as Six′}
 use Rattle.answers.specs.Meant.{answerOf}
 use Rattle.places.specs.Places.{says}
-use Rattle.places.specs.Counts.{Counted}
-use Rattle.places.specs.Tags.{Tagged}
 use Rattle.places.specs.Changes.{stepsBack}
 use Rattle.places.proofs.BackLaws.{length-back}
 use Rattle.holding.specs.declared.read.Held.{Held}
 use Rattle.holding.specs.Read.{faultOf, recordsOf, HeldIs}
-use Rattle.holding.proofs.ReadLaws.{held-sound}
-use Rattle.judge.specs.Ready.{Ready}
-use Rattle.judge.proofs.JudgeLaws.{ready-in}
+use Rattle.holding.proofs.ReadLaws.{held-sound, held-state, held-ordered}
+use Rattle.judge.specs.Ready.{short, Ready}
 use Rattle.steps.specs.declared.run.Ran.{Ran}
 use Rattle.steps.specs.Run.{isFile, changesOf, ranAs, Kept, Runs}
 use Rattle.writer.specs.Runs.{backTexts}
@@ -67,10 +60,6 @@ module _ (h f : List ℕ) (room : ℕ) (r : Held) (a o tl : List ℕ) (w : HeldI
 
   sounds : readHolding scottish h ≡ sound st
   sounds = held-sound h (sym (w .line) ∙ z)
-
-  state : Sound (keyed scottish) (fine scottish) (heldTests scottish) st
-  unfolding heldRecords
-  state = holding scottish scottish-regular .holds h st (ap heldRecords sounds) .1
 
   bytes : h ≡ written st
   bytes = held-bytes scottish h st (held-is-sound scottish scottish-regular h st sounds)
@@ -126,37 +115,27 @@ module _ (h f : List ℕ) (room : ℕ) (r : Held) (a o tl : List ℕ) (w : HeldI
         on-steps = on-start ∙ ap (λ b. pick b (outcome (read .sheet .1) (run (keyed scottish) (stepRules scottish room) 2 st (read .sheet .1))) (refused 13 0 0)) (le-leb (length (written st)) room (omega (arith, ap length bytes)))
 
         -- the holding as it stands is ready for them
-        pub load-ready : 8192 ≤ length a → room < 9223372036854775808 → length h < 9223372036854775808 → length f < 9223372036854775808
-            → Ready h f a room (record { count = r .count; size = length h })
-        load-ready p u v x =
-            let g = w .listed z in
-            let y : says h f a (r .count) ≡ st = g .says f in
+        pub load-ready : mostRecords ≤ length a → mostRecords ≤ length o → mostRecords ≤ length tl → short room → short (length h) → short (length f)
+            → Ready h f a o tl room (record { count = r .count; size = length h })
+        load-ready p d k u v x =
+            let y : says h f a (r .count) ≡ st = w .listed z .says f in
             record {
-              asc = rw y (state .asc);
-              fines = rw y (state .fines);
-              pass = rw y (state .pass);
-              counted = g .count ∙ ap length (sym y);
-              sized = ap length bytes ∙ ap (λ l. length (written l)) (sym y);
-              fits = s;
+              holds = record {
+                ordered = held-ordered h a o tl r w z f p;
+                pass = rw y (held-state h a o tl r w z .pass);
+                sized = ap length bytes ∙ ap (λ l. length (written l)) (sym y);
+                fits = s;
+                roomShort = u;
+                heldShort = v;
+                fileShort = x;
+              };
+              counted = rw y (w .told z);
               space = p;
-              roomShort = u;
-              heldShort = v;
-              fileShort = x;
+              tagSpace = d;
+              countSpace = k;
             }
 
-        -- tagged
-        pub load-tagged : 8192 ≤ length o → Tagged h f a o (r .count)
-        load-tagged p =
-            let y : says h f a (r .count) ≡ st = w .listed z .says f in
-            record { space = p; told = rw y (w .tagged z) }
-
-        -- and counted
-        pub load-counted : 8192 ≤ length tl → Counted h f a tl (r .count)
-        load-counted p =
-            let y : says h f a (r .count) ≡ st = w .listed z .says f in
-            record { space = p; told = rw y (w .told z) }
-
-        module _ (b t u : List ℕ) (n : Ran) (y : Runs h f a b t u room (record { count = r .count; size = length h }) n) where
+        module _ (b o′ tl′ t u : List ℕ) (n : Ran) (y : Runs h f a b o′ tl′ t u room (record { count = r .count; size = length h }) n) where
           said : says h f a (r .count) ≡ st
           said = w .listed z .says f
 
@@ -173,7 +152,7 @@ module _ (h f : List ℕ) (room : ℕ) (r : Held) (a o tl : List ℕ) (w : HeldI
             kept : Kept h f a t u (record { count = r .count; size = length h }) n
             kept = y .kept m
 
-            ready : Ready h f b room (n .state)
+            ready : Ready h f b o′ tl′ room (n .state)
             ready = y .ready m
 
             -- all steps made
@@ -206,8 +185,8 @@ module _ (h f : List ℕ) (room : ℕ) (r : Held) (a o tl : List ℕ) (w : HeldI
               answered = read .counts ∙ ap (λ x. answerOf (six 0 0 0 (x .inserts) (x .updates) (x .deletes))) (sym (read .counts)) ∙ ap (λ y. answerOf (numbers y)) (sym made);
               taken = λ v. record {
                 loaded = made;
-                held = ready-in h f b room (n .state) ready;
-                fits = omega (arith, ready .sized, ready .fits);
+                held = ready .holds .ordered .within;
+                fits = omega (arith, ready .holds .sized, ready .holds .fits);
                 few = kept .few;
                 opens = frame-opens f (read .sheet .0) (read .sheet .1) file-sound (n .end) (n .steps) (kept .rest) many;
                 ends = frame-ends f (read .sheet .0) (read .sheet .1) file-sound (n .end) (n .steps) (kept .rest) many;

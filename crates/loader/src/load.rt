@@ -1,10 +1,13 @@
 // What apply and undo share: 14, then the whole file check, then 13 for the start, then the steps.
 ghost use mathlib.Core.Path.{_≡_};
-ghost use Prim.Native.Nat.{_≤_, _<_};
+ghost use Prim.Native.Nat.{_≤_};
 ghost use lib.ListN.{length};
 ghost use Rattle.base.specs.Lists.{zeros};
+ghost use Rattle.meaning.specs.File.{mostBody};
 ghost use Rattle.meaning.specs.Load.{six};
-ghost use Rattle.answers.specs.Meant.{answerOf};
+ghost use Rattle.meaning.specs.Holding.{mostRecords};
+ghost use Rattle.volume.specs.Answer.{answerOf};
+ghost use Rattle.judge.specs.Ready.{short};
 ghost use Rattle.loader.specs.Loaded.{Loads};
 use holding::read::read_holding;
 use judge::State;
@@ -58,7 +61,7 @@ pub fn load(
     before: &mut [u64],
     room: usize,
 ) -> Loaded
-    requires { ⌜ (8192 ≤ length (now places)) × (4096 ≤ length (now steps)) × (4096 ≤ length (now before)) × (room < 9223372036854775808) ⌝ }
+    requires { ⌜ (mostRecords ≤ length (now places)) × (mostBody ≤ length (now steps)) × (mostBody ≤ length (now before)) × short room ⌝ }
     ensures { λ r. ⌜ Loads (now (holding .entry)) (now (file .entry)) (now (places .exit)) (now (steps .exit)) (now (before .exit)) room r ⌝ }
 {
     let mut tags = [0u64; Holding::MOST_LINES];

@@ -14,12 +14,13 @@ use Rattle.theory.specs.StoreLaws.{asc-put}
 use Rattle.theory.specs.Place.{rank}
 use Rattle.theory.specs.Refs.{meets}
 use Rattle.meaning.specs.Records.{Rec}
+use Rattle.meaning.specs.Holding.{mostRecords}
 use Rattle.keys.specs.Numbers.{keyNumbers, refNumbers, numbered}
 use Rattle.places.specs.Places.{opened, closed}
 use Rattle.places.specs.Counts.{times, refers, tally, byKey, moved, notedAll, Open}
 use Rattle.places.proofs.CountLaws.{refs-few, tally-few, tally-put, tally-absent, by-cong, count-all, open-up, open-down, has-all, count-open, count-close, count-same}
 
-module _ (st : List Rec) (n : ℕ) (t : List ℕ) (l : n ≡ length st) (a : Asc numbered st) (m : T (all (meets numbered refNumbers st) st)) (f : n ≤ 8192) (e : take n t ≡ byKey (tally st) st)
+module _ (st : List Rec) (n : ℕ) (t : List ℕ) (l : n ≡ length st) (a : Asc numbered st) (m : T (all (meets numbered refNumbers st) st)) (f : n ≤ mostRecords) (e : take n t ≡ byKey (tally st) st)
     (x : Rec) (i : ℕ) (r : i ≡ rank numbered (keyNumbers x) st) where
   -- the records with x put
   abbrev new : List Rec

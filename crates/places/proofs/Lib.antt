@@ -1,5 +1,5 @@
 pub mod SaysLaws
-pub mod TaggedLaws
+pub mod OrderedLaws
 pub mod SearchLaws
 pub mod MoveLaws
 pub mod MetLaws

@@ -10,7 +10,7 @@ use lib.Dec.{T}
 use Rattle.base.specs.Lists.{all, some?}
 use Rattle.theory.specs.Tri.{isEq}
 use Rattle.theory.specs.Lex.{lex}
-use Rattle.theory.specs.Store.{cons?, get, Asc}
+use Rattle.theory.specs.Store.{cons?, get}
 use Rattle.theory.specs.Refs.{apart, has, meets}
 use Rattle.meaning.specs.Table.{scottish}
 use Rattle.meaning.specs.Records.{Rec, keyed, refsOf}
@@ -19,7 +19,7 @@ use Rattle.keys.specs.declared.Key.{Key}
 use Rattle.keys.specs.declared.Referred.{Referred}
 use Rattle.keys.specs.declared.Referred.the-variants.{To, Nothing}
 use Rattle.keys.specs.Numbers.{keyList, referredAs, refNumbers, numbered}
-use Rattle.keys.specs.KeyLaws.{meets-agree, asc-numbered}
+use Rattle.keys.specs.KeyLaws.{meets-agree}
 use Rattle.entries.specs.declared.references.Named.{Named}
 use Rattle.entries.specs.References.{RefersAs}
 use Rattle.places.specs.Places.{metBy}
@@ -82,8 +82,4 @@ module _ (st : List Rec) (x : Rec) (r : Named) (e : RefersAs x r) (b : Bool) (q 
     pub meets-second : (c : Bool) → b ≡ true → c ≡ metBy st (keyList (r .own)) (referredAs (r .second)) → c ≡ meets (keyed scottish) (refsOf scottish) st x
     meets-second c t v = rows-second c t v ∙ meets-agree st p x g
 
--- keys of sound records ascend by their numbers
-pub asc-told : (st : List Rec) → Asc (keyed scottish) st → T (all (fine scottish) st) → Asc numbered st
-asc-told st a h = asc-numbered st h a
-
-pub ruleset entrymet = (needs, not-true, not-false, asc-told, meets-first, meets-second)
+pub ruleset entrymet = (needs, not-true, not-false, meets-first, meets-second)

@@ -24,9 +24,9 @@ use Rattle.keys.specs.Numbers.{keyNumbers, numbered}
 use Rattle.entries.specs.Entries.{recordOf}
 use Rattle.entries.specs.Tags.{tagOf}
 use Rattle.places.specs.Places.{says}
-use Rattle.places.specs.Tags.{Tagged}
+use Rattle.places.specs.Ordered.{Ordered}
 use Rattle.places.proofs.SaysLaws.{length-says, says-at, says-split}
-use Rattle.places.proofs.TaggedLaws.{tagged-in, tagged-at}
+use Rattle.places.proofs.OrderedLaws.{ordered-asc, tagged-in, tagged-at}
 
 -- ---- the search
 
@@ -37,33 +37,33 @@ pub record Placing (h f a : List ℕ) (n : ℕ) (k : List ℕ) (low high : ℕ) 
   pub order : low ≤ high
   pub within : high ≤ n
 
-module _ (h f a : List ℕ) (n : ℕ) (k : List ℕ) (l : n ≤ length a) where
+module _ (h f a t : List ℕ) (n : ℕ) (k : List ℕ) (w : Ordered h f a t n) where
   -- at first nothing is known
   pub placing-start : Placing h f a n k 0 n
   unfolding rank
-  placing-start = record { below = tt; beyond = rw (drop-of-length-le (says h f a n) {i = n} (omega (arith, length-says h f a n l))); order = omega arith; within = omega arith }
+  placing-start = record { below = tt; beyond = rw (drop-of-length-le (says h f a n) {i = n} (omega (arith, length-says h f a n (w .within)))); order = omega arith; within = omega arith }
 
-  module _ (s : Asc numbered (says h f a n)) (low high mid : ℕ) (o p : Order) (g : Placing h f a n k low high) (y : low < high) (m : mid ≡ low + (high - low) / 2)
+  module _ (low high mid : ℕ) (o p : Order) (g : Placing h f a n k low high) (y : low < high) (m : mid ≡ low + (high - low) / 2)
       (u : triOf o ≡ lex k (keyNumbers (recordOf h f (getD a mid 0)))) (q : o ≡ p) where
     -- a record in the middle that stands before the key leaves the upper half
     pub placing-up : triOf p ≡ gt → Placing h f a n k (mid + 1) high
-    placing-up t =
-        let b : T (ahead numbered k (recordOf h f (getD a mid 0))) = unfold ahead in rw (← u, q, t) tt in
-        let before = ahead-before numbered k (take mid (says h f a n)) (recordOf h f (getD a mid 0)) (drop (suc mid) (says h f a n)) (subst (Asc numbered) (says-split h f a n l mid (omega (arith, g .within))) s) b in
+    placing-up z =
+        let b : T (ahead numbered k (recordOf h f (getD a mid 0))) = unfold ahead in rw (← u, q, z) tt in
+        let before = ahead-before numbered k (take mid (says h f a n)) (recordOf h f (getD a mid 0)) (drop (suc mid) (says h f a n)) (subst (Asc numbered) (says-split h f a n (w .within) mid (omega (arith, g .within))) (ordered-asc h f a t n w)) b in
         record { below = rw more (all-snoc (ahead numbered k) (take mid (says h f a n)) (recordOf h f (getD a mid 0)) before b); beyond = g .beyond; order = omega arith; within = g .within }
       where
         more : take (mid + 1) (says h f a n) ≡ take mid (says h f a n) ++ (recordOf h f (getD a mid 0) ∷ [])
         more =
-            let e : drop mid (says h f a n) ≡ recordOf h f (getD a mid 0) ∷ drop (suc mid) (says h f a n) = says-at h f a n l mid (omega (arith, g .within)) in
+            let e : drop mid (says h f a n) ≡ recordOf h f (getD a mid 0) ∷ drop (suc mid) (says h f a n) = says-at h f a n (w .within) mid (omega (arith, g .within)) in
             take-add mid 1 (says h f a n) ∙ rw e
 
     -- any other the lower half
     pub placing-down : isGt (triOf p) ≡ false → Placing h f a n k low mid
-    placing-down t =
-        let b : T (not (ahead numbered k (recordOf h f (getD a mid 0)))) = unfold ahead in rw (← u, q, t) tt in
+    placing-down z =
+        let b : T (not (ahead numbered k (recordOf h f (getD a mid 0)))) = unfold ahead in rw (← u, q, z) tt in
         record {
           below = g .below;
-          beyond = rw (says-at h f a n l mid (omega (arith, g .within))) (rank-stop numbered k (recordOf h f (getD a mid 0)) (drop (suc mid) (says h f a n)) b);
+          beyond = rw (says-at h f a n (w .within) mid (omega (arith, g .within))) (rank-stop numbered k (recordOf h f (getD a mid 0)) (drop (suc mid) (says h f a n)) b);
           order = omega arith;
           within = omega (arith, g .within);
         }
@@ -72,25 +72,26 @@ module _ (h f a : List ℕ) (n : ℕ) (k : List ℕ) (l : n ≤ length a) where
   pub placing-done : (low high : ℕ) → Placing h f a n k low high → high ≤ low → low ≡ rank numbered k (says h f a n)
   placing-done low high g m =
       let q : high ≡ low = omega (arith, g .order) in
-      let t = rank-scan numbered k (take low (says h f a n)) (drop low (says h f a n)) (g .below) in
-      sym (rw (take-append-drop low (says h f a n)) at t ∙ omega (arith, length-take-le low (says h f a n) (omega (arith, length-says h f a n l, g .within)), rw q at (g .beyond)))
+      let r = rank-scan numbered k (take low (says h f a n)) (drop low (says h f a n)) (g .below) in
+      sym (rw (take-append-drop low (says h f a n)) at r ∙ omega (arith, length-take-le low (says h f a n) (omega (arith, length-says h f a n (w .within), g .within)), rw q at (g .beyond)))
 
--- it is among the entries, or after them
-pub placing-in : (h f a : List ℕ) (n : ℕ) (k : List ℕ) (low high : ℕ) → Placing h f a n k low high → high ≤ low → low ≤ n
-placing-in h f a n k low high g m = omega (arith, g .order, g .within)
+  module _ (low high : ℕ) (g : Placing h f a n k low high) where
+    -- it is among the entries, or after them
+    pub placing-in : high ≤ low → low ≤ n
+    placing-in m = omega (arith, g .order, g .within)
 
--- the middle is among them
-pub mid-in : (h f a : List ℕ) (n : ℕ) (k : List ℕ) (low high : ℕ) → Placing h f a n k low high → n ≤ length a → low < high → low + (high - low) / 2 < length a
-mid-in h f a n k low high g l y = omega (arith, g .within)
+    module _ (y : low < high) where
+      -- the middle is among them
+      pub mid-in : low + (high - low) / 2 < length a
+      mid-in = omega (arith, g .within, w .within)
 
-module _ (h f a t : List ℕ) (n : ℕ) (k : List ℕ) (low high : ℕ) (g : Placing h f a n k low high) (l : n ≤ length a) (u : Tagged h f a t n) (y : low < high) where
-  -- so is its tag
-  pub mid-tag-in : low + (high - low) / 2 < length t
-  mid-tag-in = tagged-in h f a t n u l (low + (high - low) / 2) (omega (arith, g .within))
+      -- so is its tag
+      pub mid-tag-in : low + (high - low) / 2 < length t
+      mid-tag-in = tagged-in h f a t n w (low + (high - low) / 2) (omega (arith, g .within))
 
-  -- which is that of its key
-  pub mid-tag : getD t (low + (high - low) / 2) 0 ≡ tagOf (keyNumbers (recordOf h f (getD a (low + (high - low) / 2) 0)))
-  mid-tag = tagged-at h f a t n u l (low + (high - low) / 2) (omega (arith, g .within))
+      -- which is that of its key
+      pub mid-tag : getD t (low + (high - low) / 2) 0 ≡ tagOf (keyNumbers (recordOf h f (getD a (low + (high - low) / 2) 0)))
+      mid-tag = tagged-at h f a t n w (low + (high - low) / 2) (omega (arith, g .within))
 
 pub ruleset placing = (needs, placing-start, placing-up, placing-down, placing-done, placing-in, mid-in, mid-tag-in, mid-tag)
 

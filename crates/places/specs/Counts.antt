@@ -5,7 +5,7 @@ use mathlib.Core.Option.{Option}
 use mathlib.Core.List.{List, [], _∷_, map}
 use Prim.Native.Nat.{ℕ, _+_, _-_, _≤_, _<_}
 use lib.Dec.{T}
-use lib.ListN.{length, getD, take, set}
+use lib.ListN.{getD, set}
 use Rattle.base.specs.Lists.{pick}
 use Rattle.theory.specs.Fold.{sum}
 use Rattle.theory.specs.Store.{cons?}
@@ -13,7 +13,7 @@ use Rattle.theory.specs.Place.{rank}
 use Rattle.theory.specs.Refs.{apart, has, meets}
 use Rattle.meaning.specs.Records.{Rec}
 use Rattle.keys.specs.Numbers.{keyNumbers, refNumbers, numbered}
-use Rattle.places.specs.Places.{says, metBy}
+use Rattle.places.specs.Places.{metBy}
 
 -- ---- what is counted
 
@@ -37,11 +37,6 @@ tally st k = sum (refers k) st
 -- a number for the key of each record
 abbrev pub byKey : (List ℕ → ℕ) → List Rec → List ℕ
 byKey w st = map (λ r. w (keyNumbers r)) st
-
--- the first n counts are how often the records that the first n entries say refer to each of them, and there is room for every holding
-pub record Counted (h f a t : List ℕ) (n : ℕ) : Type 0 where
-  pub space : 8192 ≤ length t
-  pub told : take n t ≡ byKey (tally (says h f a n)) (says h f a n)
 
 -- ---- how it is counted
 

@@ -1,4 +1,4 @@
 pub mod Places
 pub mod Counts
-pub mod Tags
+pub mod Ordered
 pub mod Changes

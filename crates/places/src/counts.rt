@@ -4,12 +4,12 @@ ghost use mathlib.Core.List.{[]};
 ghost use Prim.Native.Nat.{_≤_, _<_};
 ghost use lib.ListN.{length, take};
 ghost use Rattle.base.specs.Lists.{zeros};
-ghost use Rattle.theory.specs.Store.{Asc, cons?};
-ghost use Rattle.keys.specs.Numbers.{keyList, referredAs, numbered, refNumbers};
+ghost use Rattle.theory.specs.Store.{cons?};
+ghost use Rattle.keys.specs.Numbers.{keyList, referredAs, refNumbers};
 ghost use Rattle.entries.specs.Entries.{recordOf};
 ghost use Rattle.places.specs.Places.{says, opened, closed};
 ghost use Rattle.places.specs.Counts.{moved, Movable, Open, NotesOne, Notes};
-ghost use Rattle.places.specs.Tags.{Tagged};
+ghost use Rattle.places.specs.Ordered.{Ordered};
 use crate::search::place;
 use crate::search::stands;
 use entries::references::is_same_key;
@@ -78,7 +78,7 @@ fn note_one(
     to: Referred,
     up: bool,
 ) -> bool
-    requires { ⌜ (count ≤ length (now places)) × (count ≤ length (now counts)) × Asc numbered (says (now holding) (now file) (now places) count) × Open up (says (now holding) (now file) (now places) count) (now counts) (cons? (referredAs to) []) × Tagged (now holding) (now file) (now places) (now tags) count ⌝ }
+    requires { ⌜ Ordered (now holding) (now file) (now places) (now tags) count × (count ≤ length (now counts)) × Open up (says (now holding) (now file) (now places) count) (now counts) (cons? (referredAs to) []) ⌝ }
     ensures { λ r. ⌜ NotesOne up (says (now (holding .entry)) (now (file .entry)) (now (places .entry)) count) (keyList own) (referredAs to) (now (counts .entry)) (now (counts .exit)) r ⌝ }
 {
     let Referred::To(key) = to else {
@@ -107,7 +107,7 @@ pub fn note(
     entry: u64,
     up: bool,
 ) -> bool
-    requires { ⌜ (count ≤ length (now places)) × (count ≤ length (now counts)) × Asc numbered (says (now holding) (now file) (now places) count) × Open up (says (now holding) (now file) (now places) count) (now counts) (refNumbers (recordOf (now holding) (now file) entry)) × Tagged (now holding) (now file) (now places) (now tags) count ⌝ }
+    requires { ⌜ Ordered (now holding) (now file) (now places) (now tags) count × (count ≤ length (now counts)) × Open up (says (now holding) (now file) (now places) count) (now counts) (refNumbers (recordOf (now holding) (now file) entry)) ⌝ }
     ensures { λ r. ⌜ Notes up (says (now (holding .entry)) (now (file .entry)) (now (places .entry)) count) (recordOf (now (holding .entry)) (now (file .entry)) entry) (now (counts .entry)) (now (counts .exit)) r ⌝ }
 {
     let named = references(holding, file, entry);

@@ -1,18 +1,14 @@
 // Whether what a record refers to stands among the first `count` entries; naming itself counts as unmet.
 ghost use mathlib.Core.Path.{_≡_};
-ghost use Prim.Native.Nat.{_≤_};
 ghost use lib.Dec.{T};
-ghost use lib.ListN.{length};
-ghost use Rattle.base.specs.Lists.{all};
-ghost use Rattle.theory.specs.Store.{Asc};
 ghost use Rattle.theory.specs.Refs.{meets};
 ghost use Rattle.meaning.specs.Table.{scottish};
 ghost use Rattle.meaning.specs.Records.{keyed, refsOf};
 ghost use Rattle.laws.specs.Body.{fine};
-ghost use Rattle.keys.specs.Numbers.{keyList, referredAs, numbered};
+ghost use Rattle.keys.specs.Numbers.{keyList, referredAs};
 ghost use Rattle.entries.specs.Entries.{recordOf};
 ghost use Rattle.places.specs.Places.{says, metBy};
-ghost use Rattle.places.specs.Tags.{Tagged};
+ghost use Rattle.places.specs.Ordered.{Ordered};
 use crate::search::place;
 use crate::search::stands;
 use entries::references::is_same_key;
@@ -30,7 +26,7 @@ fn is_met(
     own: Key,
     to: Referred,
 ) -> bool
-    requires { ⌜ (count ≤ length (now places)) × Tagged (now holding) (now file) (now places) (now tags) count × Asc numbered (says (now holding) (now file) (now places) count) ⌝ }
+    requires { ⌜ Ordered (now holding) (now file) (now places) (now tags) count ⌝ }
     ensures { λ r. ⌜ r ≡ metBy (says (now (holding .entry)) (now (file .entry)) (now (places .entry)) count) (keyList own) (referredAs to) ⌝ }
 {
     let Referred::To(key) = to else {
@@ -52,7 +48,7 @@ pub fn meets(
     count: usize,
     entry: u64,
 ) -> bool
-    requires { ⌜ (count ≤ length (now places)) × Tagged (now holding) (now file) (now places) (now tags) count × Asc (keyed scottish) (says (now holding) (now file) (now places) count) × T (all (fine scottish) (says (now holding) (now file) (now places) count)) × T (fine scottish (recordOf (now holding) (now file) entry)) ⌝ }
+    requires { ⌜ Ordered (now holding) (now file) (now places) (now tags) count × T (fine scottish (recordOf (now holding) (now file) entry)) ⌝ }
     ensures { λ r. ⌜ r ≡ meets (keyed scottish) (refsOf scottish) (says (now (holding .entry)) (now (file .entry)) (now (places .entry)) count) (recordOf (now (holding .entry)) (now (file .entry)) entry) ⌝ }
 {
     let named = references(holding, file, entry);

@@ -1,9 +1,8 @@
 // Where a key stands among entries in key order.
 ghost use mathlib.Core.Path.{_≡_};
 ghost use Prim.Native.Nat.{_≤_};
-ghost use lib.ListN.{length};
 ghost use Rattle.base.specs.Lists.{some?};
-ghost use Rattle.theory.specs.Store.{get, Asc};
+ghost use Rattle.theory.specs.Store.{get};
 ghost use Rattle.theory.specs.Place.{rank};
 ghost use Rattle.theory.specs.Lex.{lex};
 ghost use Rattle.text.specs.Order.{triOf};
@@ -11,7 +10,7 @@ ghost use Rattle.keys.specs.Numbers.{keyList, keyNumbers, numbered};
 ghost use Rattle.entries.specs.Entries.{recordOf};
 ghost use Rattle.entries.specs.Tags.{tagOf};
 ghost use Rattle.places.specs.Places.{says};
-ghost use Rattle.places.specs.Tags.{Tagged};
+ghost use Rattle.places.specs.Ordered.{Ordered};
 use entries::key::against;
 use entries::tags::tag;
 use keys::Key;
@@ -43,7 +42,7 @@ pub fn place(
     count: usize,
     key: Key,
 ) -> usize
-    requires { ⌜ (count ≤ length (now places)) × Tagged (now holding) (now file) (now places) (now tags) count × Asc numbered (says (now holding) (now file) (now places) count) ⌝ }
+    requires { ⌜ Ordered (now holding) (now file) (now places) (now tags) count ⌝ }
     ensures { λ r. ⌜ (r ≡ rank numbered (keyList key) (says (now (holding .entry)) (now (file .entry)) (now (places .entry)) count)) × (r ≤ count) ⌝ }
 {
     let ours = tag(key);
@@ -71,7 +70,7 @@ pub fn stands(
     i: usize,
     key: Key,
 ) -> bool
-    requires { ⌜ (count ≤ length (now places)) × Tagged (now holding) (now file) (now places) (now tags) count × (i ≡ rank numbered (keyList key) (says (now holding) (now file) (now places) count)) ⌝ }
+    requires { ⌜ Ordered (now holding) (now file) (now places) (now tags) count × (i ≡ rank numbered (keyList key) (says (now holding) (now file) (now places) count)) ⌝ }
     ensures { λ r. ⌜ r ≡ some? (get numbered (keyList key) (says (now (holding .entry)) (now (file .entry)) (now (places .entry)) count)) ⌝ }
 {
     if count <= i {

@@ -42,8 +42,6 @@ use Rattle.volume.specs.Meant.{changeMeant}
 use Rattle.entries.specs.Entries.{recOf, lineAt}
 use Rattle.entries.proofs.EntryLaws.{line-here}
 use Rattle.entries.proofs.LineLaws.{role-known}
-use Rattle.places.specs.Counts.{Counted}
-use Rattle.places.specs.Tags.{Tagged}
 use Rattle.places.specs.Places.{says}
 use Rattle.places.specs.Changes.{change, changeAt, stepsBack}
 use Rattle.places.proofs.BackLaws.{back-turn}
@@ -107,14 +105,12 @@ pub record Going (h f a₀ : List ℕ) (room : ℕ) (s₀ : State) (a o t steps 
   pub left : Theory.run (keyed scottish) (stepRules scottish room) (n + 2) (says h f a (s .count)) (bodyFrom (linesOf (drop at f))) ≡ Theory.run (keyed scottish) (stepRules scottish room) 2 (says h f a₀ (s₀ .count)) (changesOf (readFile scottish f))
   pub backed : Backed h f a₀ s₀ a s (bodyFrom (linesOf (drop at f))) steps before n
   pub rest : linesOf (drop at f) ≡ drop (n + 1) (linesOf f)
-  pub ready : Ready h f a room s
-  pub tagged : Tagged h f a o (s .count)
-  pub tallied : Counted h f a t (s .count)
+  pub ready : Ready h f a o t room s
   pub fines : T (all (fineC scottish) (bodyFrom (linesOf (drop at f))))
   pub few : n + length (bodyFrom (linesOf (drop at f))) ≤ mostBody
   pub within : at ≤ length f + 2
-  pub stepsSpace : 4096 ≤ length steps
-  pub beforeSpace : 4096 ≤ length before
+  pub stepsSpace : mostBody ≤ length steps
+  pub beforeSpace : mostBody ≤ length before
 
 -- the lines after the one at an offset
 lines-after : (f : List ℕ) (at e : ℕ) → e ≡ lineEnd f at → at < length f → linesOf (drop (e + 2) f) ≡ drop 1 (linesOf (drop at f))
@@ -123,18 +119,16 @@ lines-after f at e q m =
     ap (λ z. linesOf (drop z f)) (sym i) ∙ sym (ap (drop 1) (lines-at f at m))
 
 -- the walk starts after the header
-pub go-start : (h f a o c steps before : List ℕ) (room : ℕ) (s : State) (e : ℕ) → Ready h f a room s → Tagged h f a o (s .count) → Counted h f a c (s .count) → T (isFile (readFile scottish f)) → 4096 ≤ length steps → 4096 ≤ length before → e ≡ lineEnd f 0 → e ≤ length f
+pub go-start : (h f a o c steps before : List ℕ) (room : ℕ) (s : State) (e : ℕ) → Ready h f a o c room s → T (isFile (readFile scottish f)) → mostBody ≤ length steps → mostBody ≤ length before → e ≡ lineEnd f 0 → e ≤ length f
     → Going h f a room s a o c steps before s (e + 2) 0
 unfolding stepsBack
-go-start h f a o c steps before room s e y i d t p k q m =
+go-start h f a o c steps before room s e y t p k q m =
     let b = body-of f t (readFile scottish f) refl in
     record {
       left = ap (Theory.run (keyed scottish) (stepRules scottish room) 2 (says h f a (s .count))) (body ∙ b .0);
       backed = append-nil _ ∙ ap (undo (after (keyed scottish)) (back (keyed scottish)) (says h f a (s .count))) (body ∙ b .0);
       rest = lines-after f 0 e q full;
       ready = y;
-      tagged = i;
-      tallied = d;
       fines = subst (λ cs. T (all (fineC scottish) cs)) (sym (body ∙ b .0)) (b .1);
       few = omega (arith, ap length (body ∙ b .0), b .3);
       within = omega arith;
@@ -150,7 +144,7 @@ go-start h f a o c steps before room s e y i d t p k q m =
 
 -- ---- each way out
 module _ (h f a₀ : List ℕ) (room : ℕ) (s₀ : State) (a o t steps before : List ℕ) (s : State) (at n : ℕ) (g : Going h f a₀ room s₀ a o t steps before s at n) where
-  ended : bodyFrom (linesOf (drop at f)) ≡ [] → Runs h f a₀ a steps before room s₀ (record { code = 0; line = 0; state = s; steps = n; end = at })
+  ended : bodyFrom (linesOf (drop at f)) ≡ [] → Runs h f a₀ a o t steps before room s₀ (record { code = 0; line = 0; state = s; steps = n; end = at })
   ended e = record {
     ended = run-nil ∙ ap (Theory.run (keyed scottish) (stepRules scottish room) (n + 2) (says h f a (s .count))) (sym e) ∙ g .left;
     ready = λ z. g .ready;
@@ -161,7 +155,7 @@ module _ (h f a₀ : List ℕ) (room : ℕ) (s₀ : State) (a o t steps before :
       run-nil = unfold Theory.run in refl
 
   -- where no line is left the run is done
-  pub go-done : (r : Ran) → r ≡ record { code = 0; line = 0; state = s; steps = n; end = at } → length f ≤ at → Runs h f a₀ a steps before room s₀ r
+  pub go-done : (r : Ran) → r ≡ record { code = 0; line = 0; state = s; steps = n; end = at } → length f ≤ at → Runs h f a₀ a o t steps before room s₀ r
   unfolding bodyFrom
   go-done r u m = rw u (ended (ap bodyFrom (lines-end f at m)))
 
@@ -174,7 +168,7 @@ module _ (h f a₀ : List ℕ) (room : ℕ) (s₀ : State) (a o t steps before :
     body-at = ap bodyFrom (lines-at f at m) ∙ ap (λ z. pick z (changeAt f at ∷ bodyFrom (linesOf (drop (at + (lineLen (drop at f) + 2)) f))) []) held-here
 
     -- where the metadata stands it is done too
-    pub go-last : (r : Ran) → r ≡ record { code = 0; line = 0; state = s; steps = n; end = at } → b ≡ false → Runs h f a₀ a steps before room s₀ r
+    pub go-last : (r : Ran) → r ≡ record { code = 0; line = 0; state = s; steps = n; end = at } → b ≡ false → Runs h f a₀ a o t steps before room s₀ r
     go-last r w u = rw w (ended (body-at ∙ rw u))
 
     module _ (u : b ≡ true) where
@@ -207,7 +201,7 @@ module _ (h f a₀ : List ℕ) (room : ℕ) (s₀ : State) (a o t steps before :
         run-here = sym (ap (Theory.run (keyed scottish) (stepRules scottish room) (n + 2) (says h f a (s .count))) body-here) ∙ g .left
 
         -- a step that is refused ends the run at its line
-        pub go-stop : (x : Ran) → x ≡ record { code = r .code; line = n + 2; state = s; steps = n; end = at } → (r .code ≡ 0 → ⊥) → Runs h f a₀ b′ steps before room s₀ x
+        pub go-stop : (x : Ran) → x ≡ record { code = r .code; line = n + 2; state = s; steps = n; end = at } → (r .code ≡ 0 → ⊥) → Runs h f a₀ b′ o′ t′ steps before room s₀ x
         go-stop p v x = rw v (record {
           ended = rw (ne-eqb (r .code) 0 x) (sym (halt (judge (keyed scottish) (stepRules scottish room) (says h f a (s .count)) (changeAt f at)) (w .coded) _) ∙ run-here);
           ready = λ z. absurd (x z);
@@ -231,8 +225,6 @@ module _ (h f a₀ : List ℕ) (room : ℕ) (s₀ : State) (a o t steps before :
               backed = rw (x .said, ← i) (back-turn h f steps before n at (r .before) (says h f a (s .count)) (bodyFrom (linesOf (drop (at + (lineLen (drop at f) + 2)) f))) _ go-steps go-before (x .stood) (subst (λ cs. Backed h f a₀ s₀ a s cs steps before n) body-here (g .backed)));
               rest = lines-after f at e q m ∙ ap (drop 1) (g .rest) ∙ drop-drop 1 (n + 1) (linesOf f);
               ready = x .ready;
-              tagged = x .tagged;
-              tallied = x .tallied;
               fines = rw (← i) (and-r (fineC scottish (changeAt f at)) _ fines-here);
               few = rw (← i) (omega (arith, few-here));
               within = omega arith;
@@ -250,10 +242,10 @@ module _ (h f a₀ : List ℕ) (room : ℕ) (s₀ : State) (a o t steps before :
 
   -- the next line's start can be
   pub next-fits : (e : ℕ) → e ≤ length f → Fits w64 (e + 2)
-  next-fits e m = record { fits = omega (arith, g .ready .fileShort) }
+  next-fits e m = record { fits = omega (arith, g .ready .holds .fileShort) }
 
 -- the start of the second line can be counted
-pub first-fits : (h f a : List ℕ) (room : ℕ) (s : State) (e : ℕ) → Ready h f a room s → e ≤ length f → Fits w64 (e + 2)
-first-fits h f a room s e y m = record { fits = omega (arith, y .fileShort) }
+pub first-fits : (h f a o t : List ℕ) (room : ℕ) (s : State) (e : ℕ) → Ready h f a o t room s → e ≤ length f → Fits w64 (e + 2)
+first-fits h f a o t room s e y m = record { fits = omega (arith, y .holds .fileShort) }
 
 pub ruleset running = (needs, not-true, not-false, first-fits, go-start, go-done, go-last, go-carries, go-steps, go-before, go-stop, go-turn, step-fits, line-fits, next-fits)

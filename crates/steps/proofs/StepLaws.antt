@@ -17,7 +17,6 @@ use Rattle.base.specs.Tests.{and-in, and-l, and-r, T-true, T-false}
 use Rattle.theory.specs.Fold.{all?}
 use Rattle.theory.specs.FoldLaws.{length-put, all-put, put-all?}
 use Rattle.theory.specs.Store.{get, put, Asc}
-use Rattle.theory.specs.StoreLaws.{asc-put}
 use Rattle.theory.specs.Refs.{meets, met}
 use Rattle.theory.specs.Step.{Op, ins, upd, del, Change, fails, passes, new, allowed, judge, after}
 use Rattle.theory.specs.StepLaws.{ok-judge, asc-after}
@@ -39,19 +38,19 @@ use Rattle.entries.specs.Entries.{recOf, lineAt, recordOf}
 use Rattle.entries.specs.Tags.{tagOf}
 use Rattle.entries.proofs.EntryLaws.{entry-odd}
 use Rattle.places.specs.Places.{says, opened, closed}
-use Rattle.places.specs.Counts.{tally, byKey, Counted, notedAll, Open, Notes}
-use Rattle.places.specs.Tags.{Tagged}
+use Rattle.places.specs.Counts.{tally, byKey, notedAll, Open, Notes}
+use Rattle.places.specs.Ordered.{Ordered}
 use Rattle.places.specs.Changes.{change, changeAt}
 use Rattle.places.proofs.SaysLaws.{put-says, set-says, close-says}
 use Rattle.places.proofs.SearchLaws.{stands-in}
-use Rattle.places.proofs.MetLaws.{asc-told}
+use Rattle.places.proofs.OrderedLaws.{ordered-asc}
 use Rattle.places.proofs.CountLaws.{length-noted, count-open, count-close, count-same}
 use Rattle.places.proofs.CountedLaws.{insert-open, insert-told, old-open, old-met, update-open, update-told, delete-told}
 use Rattle.judge.specs.declared.State.{State}
 use Rattle.judge.specs.declared.Judged.{Judged}
 use Rattle.judge.specs.Ready.{codeNumber, Ready, Judges}
 use Rattle.judge.proofs.FindLaws.{get-both, found-at}
-use Rattle.judge.proofs.JudgeLaws.{ready-in, ready-few, none-of}
+use Rattle.judge.proofs.JudgeLaws.{ready-holds, holds-counted, holds-few, none-of}
 use Rattle.steps.specs.declared.step.Stepped.{Stepped}
 use Rattle.steps.specs.Steps.{Carries, Steps}
 
@@ -115,10 +114,16 @@ length-closed a n i l m =
 
 -- ---- a step that is not refused
 
-module _ (h f a : List ℕ) (room v : ℕ) (s : State) (y : Ready h f a room s) (g : T (fine scottish (recordOf h f v))) (j : Judged) where
+module _ (h f a o t : List ℕ) (room v : ℕ) (s : State) (y : Ready h f a o t room s) (g : T (fine scottish (recordOf h f v))) (j : Judged) where
+  few-now : s .count ≤ most
+  few-now = holds-few h f a o room s (y .holds)
+
+  counted-now : s .count ≡ length (says h f a (s .count))
+  counted-now = holds-counted h f a o room s (y .holds)
+
   -- a step that is refused leaves everything as it was
-  pub step-refused : (o t : List ℕ) (p : Op) (r : Stepped) → Judges h f a room (change p (recordOf h f v)) s j → (j .code ≡ 0 → ⊥) → r ≡ record { code = j .code; state = s; before = v } → Steps h f a a o t room (change p (recordOf h f v)) s r
-  step-refused o t p r q n e = rw e (record { coded = q .coded; left = λ z. absurd (n z) })
+  pub step-refused : (p : Op) (r : Stepped) → Judges h f a room (change p (recordOf h f v)) s j → (j .code ≡ 0 → ⊥) → r ≡ record { code = j .code; state = s; before = v } → Steps h f a a o t room (change p (recordOf h f v)) s r
+  step-refused p r q n e = rw e (record { coded = q .coded; left = λ z. absurd (n z) })
 
   module _ (p : Op) (q : Judges h f a room (change p (recordOf h f v)) s j) (z : j .code ≡ 0) where
     passed : T (allowed p (get (keyed scottish) (keyOf scottish (recordOf h f v)) (says h f a (s .count)))) × T (passes (stepRules scottish room) (after (keyed scottish) (says h f a (s .count)) (change p (recordOf h f v))))
@@ -141,45 +146,61 @@ module _ (h f a : List ℕ) (room v : ℕ) (s : State) (y : Ready h f a room s) 
 
     fines-after : T (all (fine scottish) (after (keyed scottish) (says h f a (s .count)) (change p (recordOf h f v))))
     unfolding after
-    fines-after = all-put (keyed scottish) (fine scottish) (keyOf scottish (recordOf h f v)) (new p (recordOf h f v)) (says h f a (s .count)) (new-fine p (recordOf h f v) g) (y .fines)
+    fines-after = all-put (keyed scottish) (fine scottish) (keyOf scottish (recordOf h f v)) (new p (recordOf h f v)) (says h f a (s .count)) (new-fine p (recordOf h f v) g) (y .holds .ordered .fines)
 
-    ready-next : (b : List ℕ) (m : ℕ) → says h f b m ≡ after (keyed scottish) (says h f a (s .count)) (change p (recordOf h f v)) → m ≡ length (after (keyed scottish) (says h f a (s .count)) (change p (recordOf h f v))) → length b ≡ length a
-        → Ready h f b room (record { count = m; size = j .size })
-    ready-next b m e n l = record {
-      asc = subst (Asc (keyed scottish)) (sym e) (asc-after (keyed scottish) (says h f a (s .count)) (change p (recordOf h f v)) (y .asc));
+    ordered-next : (b c : List ℕ) (m : ℕ) → says h f b m ≡ after (keyed scottish) (says h f a (s .count)) (change p (recordOf h f v)) → m ≡ length (after (keyed scottish) (says h f a (s .count)) (change p (recordOf h f v))) → length b ≡ length a → take m c ≡ byKey tagOf (says h f b m)
+        → Ordered h f b c m
+    unfolding few
+    ordered-next b c m e n l i = record {
+      within = omega (arith, y .space, leb→le (length (after (keyed scottish) (says h f a (s .count)) (change p (recordOf h f v)))) most few-after);
+      asc = subst (Asc (keyed scottish)) (sym e) (asc-after (keyed scottish) (says h f a (s .count)) (change p (recordOf h f v)) (y .holds .ordered .asc));
       fines = subst (λ x. T (all (fine scottish) x)) (sym e) fines-after;
-      pass = subst (λ x. T (passes (heldTests scottish) x)) (sym e) (and-in (few (after (keyed scottish) (says h f a (s .count)) (change p (recordOf h f v)))) _ few-after (and-in (met (keyed scottish) (refsOf scottish) (after (keyed scottish) (says h f a (s .count)) (change p (recordOf h f v)))) true met-after tt));
-      counted = n ∙ ap length (sym e);
-      sized = q .sized z ∙ ap (λ x. length (written x)) (sym e);
-      fits = omega (arith, q .sized z, fits-after);
-      space = omega (arith, l, y .space);
-      roomShort = y .roomShort;
-      heldShort = y .heldShort;
-      fileShort = y .fileShort;
+      tagged = i;
     }
 
-    stepped : (b o t : List ℕ) (m u : ℕ) → says h f b m ≡ after (keyed scottish) (says h f a (s .count)) (change p (recordOf h f v)) → m ≡ length (after (keyed scottish) (says h f a (s .count)) (change p (recordOf h f v))) → length b ≡ length a
-        → Tagged h f b o m → take m t ≡ byKey (tally (says h f b m)) (says h f b m) → 8192 ≤ length t → recordOf h f u ≡ Option·getD (get (keyed scottish) (keyOf scottish (recordOf h f v)) (says h f a (s .count))) (recordOf h f v)
-        → Steps h f a b o t room (change p (recordOf h f v)) s (record { code = 0; state = record { count = m; size = j .size }; before = u })
-    stepped b o t m u e n l i c d w = record { coded = sym z ∙ q .coded; left = λ x. record { said = e; ready = ready-next b m e n l; tagged = i; tallied = record { space = d; told = c }; stood = w } }
+    stepped : (b c d : List ℕ) (m u : ℕ) → says h f b m ≡ after (keyed scottish) (says h f a (s .count)) (change p (recordOf h f v)) → Ordered h f b c m → take m d ≡ byKey (tally (says h f b m)) (says h f b m)
+        → length b ≡ length a → length c ≡ length o → length d ≡ length t → recordOf h f u ≡ Option·getD (get (keyed scottish) (keyOf scottish (recordOf h f v)) (says h f a (s .count))) (recordOf h f v)
+        → Steps h f a b c d room (change p (recordOf h f v)) s (record { code = 0; state = record { count = m; size = j .size }; before = u })
+    stepped b c d m u e i k l n w r = record {
+      coded = sym z ∙ q .coded;
+      left = λ x. record {
+        said = e;
+        ready = record {
+          holds = record {
+            ordered = i;
+            pass = subst (λ x. T (passes (heldTests scottish) x)) (sym e) (and-in (few (after (keyed scottish) (says h f a (s .count)) (change p (recordOf h f v)))) _ few-after (and-in (met (keyed scottish) (refsOf scottish) (after (keyed scottish) (says h f a (s .count)) (change p (recordOf h f v)))) true met-after tt));
+            sized = q .sized z ∙ ap (λ x. length (written x)) (sym e);
+            fits = omega (arith, q .sized z, fits-after);
+            roomShort = y .holds .roomShort;
+            heldShort = y .holds .heldShort;
+            fileShort = y .holds .fileShort;
+          };
+          counted = k;
+          space = omega (arith, l, y .space);
+          tagSpace = omega (arith, n, y .tagSpace);
+          countSpace = omega (arith, w, y .countSpace);
+        };
+        stood = r;
+      };
+    }
 
     meets-after : T (all (meets numbered refNumbers (after (keyed scottish) (says h f a (s .count)) (change p (recordOf h f v)))) (after (keyed scottish) (says h f a (s .count)) (change p (recordOf h f v))))
     meets-after = met-told (after (keyed scottish) (says h f a (s .count)) (change p (recordOf h f v))) fines-after met-after
 
     put-both : (o : Option Rec) → put numbered (keyNumbers (recordOf h f v)) o (says h f a (s .count)) ≡ put (keyed scottish) (keyOf scottish (recordOf h f v)) o (says h f a (s .count))
-    put-both o = put-alike (says h f a (s .count)) (y .fines) (keyNumbers (recordOf h f v)) (keyOf scottish (recordOf h f v)) (own-agrees (recordOf h f v) g) o
+    put-both o = put-alike (says h f a (s .count)) (y .holds .ordered .fines) (keyNumbers (recordOf h f v)) (keyOf scottish (recordOf h f v)) (own-agrees (recordOf h f v) g) o
 
     stood-at : T (some? (get (keyed scottish) (keyOf scottish (recordOf h f v)) (says h f a (s .count)))) → T (some? (get numbered (keyNumbers (recordOf h f v)) (says h f a (s .count))))
-    stood-at t = subst (λ o. T (some? o)) (sym (get-both (says h f a (s .count)) (recordOf h f v) (y .fines) g)) t
+    stood-at t = subst (λ o. T (some? o)) (sym (get-both (says h f a (s .count)) (recordOf h f v) (y .holds .ordered .fines) g)) t
 
     found : T (some? (get (keyed scottish) (keyOf scottish (recordOf h f v)) (says h f a (s .count)))) → get numbered (keyNumbers (recordOf h f v)) (says h f a (s .count)) ≡ some (recordOf h f (getD a (j .place) 0))
-    found t = found-at h f a (keyNumbers (recordOf h f v)) (s .count) (j .place) (ready-in h f a room s y) (q .placed) (stood-at t)
+    found t = found-at h f a (keyNumbers (recordOf h f v)) (s .count) (j .place) (y .holds .ordered .within) (q .placed) (stood-at t)
 
     found-key : T (some? (get (keyed scottish) (keyOf scottish (recordOf h f v)) (says h f a (s .count)))) → get (keyed scottish) (keyOf scottish (recordOf h f v)) (says h f a (s .count)) ≡ some (recordOf h f (getD a (j .place) 0))
-    found-key t = sym (get-both (says h f a (s .count)) (recordOf h f v) (y .fines) g) ∙ found t
+    found-key t = sym (get-both (says h f a (s .count)) (recordOf h f v) (y .holds .ordered .fines) g) ∙ found t
 
     found-in : T (some? (get (keyed scottish) (keyOf scottish (recordOf h f v)) (says h f a (s .count)))) → j .place < s .count
-    found-in t = stands-in h f a (s .count) (j .place) (keyNumbers (recordOf h f v)) (ready-in h f a room s y) (q .placed) (some? (get numbered (keyNumbers (recordOf h f v)) (says h f a (s .count)))) refl (T-true _ (stood-at t))
+    found-in t = stands-in h f a (s .count) (j .place) (keyNumbers (recordOf h f v)) (y .holds .ordered .within) (q .placed) (some? (get numbered (keyNumbers (recordOf h f v)) (says h f a (s .count)))) refl (T-true _ (stood-at t))
 
   -- ---- counts
 
@@ -191,13 +212,10 @@ module _ (h f a : List ℕ) (room v : ℕ) (s : State) (y : Ready h f a room s) 
   x = recordOf h f v
 
   asc-now : Asc numbered st
-  asc-now = asc-told st (y .asc) (y .fines)
+  asc-now = ordered-asc h f a o (s .count) (y .holds .ordered)
 
   met-now : T (all (meets numbered refNumbers st) st)
-  met-now = met-told st (y .fines) (and-l (met (keyed scottish) (refsOf scottish) st) _ (and-r (few st) _ (y .pass)))
-
-  new-asc : (b : List ℕ) (m : ℕ) → says h f b m ≡ put numbered (keyNumbers x) (some x) st → Asc numbered (says h f b m)
-  new-asc b m e = subst (Asc numbered) (sym e) (asc-put numbered (keyNumbers x) (some x) st refl asc-now)
+  met-now = met-told st (y .holds .ordered .fines) (and-l (met (keyed scottish) (refsOf scottish) st) _ (and-r (few st) _ (y .holds .pass)))
 
   -- what is told of the records after a step is told of what the array says
   said-told : (b t : List ℕ) (m : ℕ) (l : List Rec) → says h f b m ≡ l → take m t ≡ byKey (tally l) l → take m t ≡ byKey (tally (says h f b m)) (says h f b m)
@@ -211,12 +229,7 @@ module _ (h f a : List ℕ) (room v : ℕ) (s : State) (y : Ready h f a room s) 
 
     ins-count : length (after (keyed scottish) (says h f a (s .count)) (change ins (recordOf h f v))) ≡ s .count + 1
     unfolding after
-    ins-count = omega (arith, rw ins-none at (length-put (keyed scottish) (keyOf scottish (recordOf h f v)) (some (recordOf h f v)) (says h f a (s .count))), y .counted)
-
-    -- there is room for one entry more
-    pub ins-in : s .count < length a
-    unfolding few
-    ins-in = omega (arith, ins-count, y .space, leb→le (length (after (keyed scottish) (says h f a (s .count)) (change ins (recordOf h f v)))) mostRecords (few-after ins q z))
+    ins-count = omega (arith, rw ins-none at (length-put (keyed scottish) (keyOf scottish (recordOf h f v)) (some (recordOf h f v)) (says h f a (s .count))), counted-now)
 
     -- its place is among the entries, or after them
     pub ins-place : j .place ≤ s .count
@@ -224,135 +237,132 @@ module _ (h f a : List ℕ) (room v : ℕ) (s : State) (y : Ready h f a room s) 
 
     -- one record more can be counted
     pub ins-fits : Fits w64 (s .count + 1)
-    ins-fits = record { fits = omega (arith, ready-few h f a room s y) }
+    ins-fits = record { fits = omega (arith, few-now) }
+
+    ins-few : s .count < most
+    unfolding few
+    ins-few = omega (arith, ins-count, leb→le (length (after (keyed scottish) st (change ins x))) most (few-after ins q z))
+
+    -- there is room for one entry more
+    pub ins-in : s .count < length a
+    ins-in = omega (arith, ins-few, y .space)
+
+    -- for one tag
+    pub ins-tags : s .count < length o
+    ins-tags = omega (arith, ins-few, y .tagSpace)
+
+    -- and for one count
+    pub ins-counts : s .count < length t
+    ins-counts = omega (arith, ins-few, y .countSpace)
+
+    ins-get : get numbered (keyNumbers x) st ≡ none
+    ins-get = get-both st x (y .holds .ordered .fines) g ∙ ins-none
 
     ins-says : says h f (opened a (s .count) (j .place) v) (s .count + 1) ≡ after (keyed scottish) (says h f a (s .count)) (change ins (recordOf h f v))
     unfolding after
     ins-says =
-        put-says h f a (keyNumbers (recordOf h f v)) (s .count) (j .place) (q .placed) v ins-in (q .within) (get-both (says h f a (s .count)) (recordOf h f v) (y .fines) g ∙ ins-none)
+        put-says h f a (keyNumbers (recordOf h f v)) (s .count) (j .place) (q .placed) v ins-in (q .within) ins-get
         ∙ put-both ins q z (some (recordOf h f v))
 
-    ins-space : (o : List ℕ) → 8192 ≤ length o → s .count < length o
-    unfolding few
-    ins-space o l = omega (arith, ins-count, leb→le (length (after (keyed scottish) st (change ins x))) mostRecords (few-after ins q z))
+    module _ (b : List ℕ) (e : b ≡ opened a (s .count) (j .place) v) (i : ℕ) (m : i ≡ tagOf (keyNumbers x)) (c : List ℕ) (n : c ≡ opened o (s .count) (j .place) i) (u : List ℕ) (w : u ≡ opened t (s .count) (j .place) 0) where
+      ins-put : says h f b (s .count + 1) ≡ put numbered (keyNumbers x) (some x) st
+      ins-put = ap (λ l. says h f l (s .count + 1)) e ∙ put-says h f a (keyNumbers x) (s .count) (j .place) (q .placed) v ins-in (q .within) ins-get
 
-    -- there is room for one tag more
-    pub ins-tags : (o : List ℕ) → Tagged h f a o (s .count) → s .count < length o
-    ins-tags o l = ins-space o (l .space)
+      ins-long : length b ≡ length a
+      ins-long = ap length e ∙ length-opened a (s .count) (j .place) v (q .within) ins-in
 
-    -- and for one count
-    pub ins-counts : (t : List ℕ) → Counted h f a t (s .count) → s .count < length t
-    ins-counts t k = ins-space t (k .space)
+      ins-said : says h f b (s .count + 1) ≡ after (keyed scottish) st (change ins x)
+      ins-said = ap (λ l. says h f l (s .count + 1)) e ∙ ins-says
 
-    module _ (t : List ℕ) (k : Counted h f a t (s .count)) (o : List ℕ) (l : Tagged h f a o (s .count)) where
-      ins-get : get numbered (keyNumbers x) st ≡ none
-      ins-get = get-both st x (y .fines) g ∙ ins-none
+      ins-ordered : Ordered h f b c (s .count + 1)
+      ins-ordered =
+          ordered-next ins q z b c (s .count + 1) ins-said (sym ins-count) ins-long
+          (ap (take (s .count + 1)) n ∙ count-open tagOf o (keyNumbers x) st (s .count) (j .place) (y .holds .ordered .tagged) (q .placed) x i ins-tags (q .within) ins-get (sym m) ∙ ap (byKey tagOf) (sym ins-put))
 
-      module _ (b : List ℕ) (e : b ≡ opened a (s .count) (j .place) v) (i : ℕ) (m : i ≡ tagOf (keyNumbers x)) (c : List ℕ) (n : c ≡ opened o (s .count) (j .place) i) (u : List ℕ) (w : u ≡ opened t (s .count) (j .place) 0) where
-        ins-put : says h f b (s .count + 1) ≡ put numbered (keyNumbers x) (some x) st
-        ins-put = ap (λ l. says h f l (s .count + 1)) e ∙ put-says h f a (keyNumbers x) (s .count) (j .place) (q .placed) v ins-in (q .within) ins-get
+      -- its references can be counted in
+      pub ins-asked : Ordered h f b c (s .count + 1) × (s .count + 1 ≤ length u) × Open true (says h f b (s .count + 1)) u (refNumbers x)
+      ins-asked = (
+        ins-ordered,
+        omega (arith, ap length w, length-opened t (s .count) (j .place) 0 (q .within) ins-counts, ins-counts),
+        rw (ins-put, w) (insert-open st (s .count) t counted-now asc-now met-now few-now (y .counted) x (j .place) (q .placed) ins-get ins-counts (q .within)),
+      )
 
-        ins-tagged : Tagged h f b c (s .count + 1)
-        ins-tagged = record {
-          space = omega (arith, ap length n, length-opened o (s .count) (j .place) i (q .within) (ins-tags o l), l .space);
-          told = ap (take (s .count + 1)) n ∙ count-open tagOf o (keyNumbers x) st (s .count) (j .place) (l .told) (q .placed) x i (ins-tags o l) (q .within) ins-get (sym m) ∙ ap (byKey tagOf) (sym ins-put);
-        }
+      ins-meets : T (meets numbered refNumbers (put numbered (keyNumbers x) (some x) st) x)
+      unfolding after
+      ins-meets = rw (put-both ins q z (some x)) (put-all? (keyed scottish) (meets numbered refNumbers (put (keyed scottish) (keyOf scottish x) (some x) st)) (keyOf scottish x) (some x) st (meets-after ins q z))
 
-        -- its references can be counted in
-        pub ins-asked : (s .count + 1 ≤ length b) × (s .count + 1 ≤ length u) × Asc numbered (says h f b (s .count + 1)) × Open true (says h f b (s .count + 1)) u (refNumbers x) × Tagged h f b c (s .count + 1)
-        ins-asked = (
-          omega (arith, ap length e, length-opened a (s .count) (j .place) v (q .within) ins-in, ins-in),
-          omega (arith, ap length w, length-opened t (s .count) (j .place) 0 (q .within) (ins-counts t k), ins-counts t k),
-          new-asc b (s .count + 1) ins-put,
-          rw (ins-put, w) (insert-open st (s .count) t (y .counted) asc-now met-now (ready-few h f a room s y) (k .told) x (j .place) (q .placed) ins-get (ins-counts t k) (q .within)),
-          ins-tagged,
-        )
-
-        ins-meets : T (meets numbered refNumbers (put numbered (keyNumbers x) (some x) st) x)
-        unfolding after
-        ins-meets = rw (put-both ins q z (some x)) (put-all? (keyed scottish) (meets numbered refNumbers (put (keyed scottish) (keyOf scottish x) (some x) st)) (keyOf scottish x) (some x) st (meets-after ins q z))
-
-        -- an entry more at its place, and its references counted in
-        pub ins-step : (d : List ℕ) (o : Bool) → Notes true (says h f b (s .count + 1)) x u d o → Steps h f a b c d room (change ins x) s (record { code = 0; state = record { count = s .count + 1; size = j .size }; before = v })
-        ins-step d o r =
-            let p : d ≡ notedAll true (put numbered (keyNumbers x) (some x) st) (opened t (s .count) (j .place) 0) (refNumbers x) = r .noted (r .met ∙ T-true _ (subst (λ l. T (meets numbered refNumbers l x)) (sym ins-put) ins-meets)) ∙ rw (ins-put, w) in
-            stepped ins q z b c d (s .count + 1) v (ap (λ l. says h f l (s .count + 1)) e ∙ ins-says) (sym ins-count) (ap length e ∙ length-opened a (s .count) (j .place) v (q .within) ins-in)
-            ins-tagged
-            (said-told b d (s .count + 1) (put numbered (keyNumbers x) (some x) st) ins-put (ap (take (s .count + 1)) p ∙ insert-told st (s .count) t (y .counted) asc-now met-now (ready-few h f a room s y) (k .told) x (j .place) (q .placed) ins-get (ins-counts t k) (q .within) ins-meets))
-            (omega (arith, ap length p, length-noted true (put numbered (keyNumbers x) (some x) st) (refNumbers x) (opened t (s .count) (j .place) 0), length-opened t (s .count) (j .place) 0 (q .within) (ins-counts t k), k .space))
-            (rw ins-none)
+      -- an entry more at its place, and its references counted in
+      pub ins-step : (d : List ℕ) (k : Bool) → Notes true (says h f b (s .count + 1)) x u d k → Steps h f a b c d room (change ins x) s (record { code = 0; state = record { count = s .count + 1; size = j .size }; before = v })
+      ins-step d k r =
+          let p : d ≡ notedAll true (put numbered (keyNumbers x) (some x) st) (opened t (s .count) (j .place) 0) (refNumbers x) = r .noted (r .met ∙ T-true _ (subst (λ l. T (meets numbered refNumbers l x)) (sym ins-put) ins-meets)) ∙ rw (ins-put, w) in
+          stepped ins q z b c d (s .count + 1) v ins-said ins-ordered
+          (said-told b d (s .count + 1) (put numbered (keyNumbers x) (some x) st) ins-put (ap (take (s .count + 1)) p ∙ insert-told st (s .count) t counted-now asc-now met-now few-now (y .counted) x (j .place) (q .placed) ins-get ins-counts (q .within) ins-meets))
+          ins-long (ap length n ∙ length-opened o (s .count) (j .place) i (q .within) ins-tags)
+          (ap length p ∙ length-noted true (put numbered (keyNumbers x) (some x) st) (refNumbers x) (opened t (s .count) (j .place) 0) ∙ length-opened t (s .count) (j .place) 0 (q .within) ins-counts)
+          (rw ins-none)
 
   -- ---- update
 
   module _ (q : Judges h f a room (change upd (recordOf h f v)) s j) (z : j .code ≡ 0) where
     upd-count : length (after (keyed scottish) (says h f a (s .count)) (change upd (recordOf h f v))) ≡ s .count
     unfolding after
-    upd-count = omega (arith, rw (found-key upd q z (passed upd q z .0)) at (length-put (keyed scottish) (keyOf scottish (recordOf h f v)) (some (recordOf h f v)) (says h f a (s .count))), y .counted)
+    upd-count = omega (arith, rw (found-key upd q z (passed upd q z .0)) at (length-put (keyed scottish) (keyOf scottish (recordOf h f v)) (some (recordOf h f v)) (says h f a (s .count))), counted-now)
 
     -- the entry is in the array
     pub upd-in : j .place < length a
-    upd-in = omega (arith, found-in upd q z (passed upd q z .0), ready-in h f a room s y)
+    upd-in = omega (arith, found-in upd q z (passed upd q z .0), y .holds .ordered .within)
 
     upd-says : says h f (set a (j .place) v) (s .count) ≡ after (keyed scottish) (says h f a (s .count)) (change upd (recordOf h f v))
     unfolding after
     upd-says =
-        set-says h f a (keyNumbers (recordOf h f v)) (s .count) (j .place) (q .placed) (recordOf h f (getD a (j .place) 0)) (ready-in h f a room s y) (found-in upd q z (passed upd q z .0)) (found upd q z (passed upd q z .0)) v
+        set-says h f a (keyNumbers (recordOf h f v)) (s .count) (j .place) (q .placed) (recordOf h f (getD a (j .place) 0)) (y .holds .ordered .within) (found-in upd q z (passed upd q z .0)) (found upd q z (passed upd q z .0)) v
         ∙ put-both upd q z (some (recordOf h f v))
 
-    module _ (t : List ℕ) (k : Counted h f a t (s .count)) (o : List ℕ) (l : Tagged h f a o (s .count)) where
-      abbrev old : Rec
-      old = recordOf h f (getD a (j .place) 0)
+    abbrev old : Rec
+    old = recordOf h f (getD a (j .place) 0)
 
-      upd-get : get numbered (keyNumbers x) st ≡ some old
-      upd-get = found upd q z (passed upd q z .0)
+    upd-get : get numbered (keyNumbers x) st ≡ some old
+    upd-get = found upd q z (passed upd q z .0)
 
-      -- the references of the record that stood there can be counted out
-      pub upd-asked : (s .count ≤ length a) × (s .count ≤ length t) × Asc numbered st × Open false st t (refNumbers old) × Tagged h f a o (s .count)
-      upd-asked = (
-        ready-in h f a room s y,
-        omega (arith, ready-few h f a room s y, k .space),
-        asc-now,
-        old-open st (s .count) t (y .counted) asc-now met-now (ready-few h f a room s y) (k .told) x (j .place) (q .placed) old upd-get,
-        l,
+    -- the references of the record that stood there can be counted out
+    pub upd-asked : Ordered h f a o (s .count) × (s .count ≤ length t) × Open false st t (refNumbers old)
+    upd-asked = (y .holds .ordered, omega (arith, few-now, y .countSpace), old-open st (s .count) t counted-now asc-now met-now few-now (y .counted) x (j .place) (q .placed) old upd-get)
+
+    module _ (u : List ℕ) (i : Bool) (r : Notes false st old t u i) where
+      upd-out : u ≡ notedAll false st t (refNumbers old)
+      upd-out = r .noted (r .met ∙ T-true _ (old-met st (s .count) t counted-now asc-now met-now few-now (y .counted) x (j .place) (q .placed) old upd-get))
+
+      upd-long : length u ≡ length t
+      upd-long = ap length upd-out ∙ length-noted false st (refNumbers old) t
+
+      upd-put : says h f (set a (j .place) v) (s .count) ≡ put numbered (keyNumbers x) (some x) st
+      upd-put = set-says h f a (keyNumbers x) (s .count) (j .place) (q .placed) old (y .holds .ordered .within) (found-in upd q z (passed upd q z .0)) upd-get v
+
+      upd-ordered : Ordered h f (set a (j .place) v) o (s .count)
+      upd-ordered = ordered-next upd q z (set a (j .place) v) o (s .count) upd-says (sym upd-count) (length-set a (j .place) v) (y .holds .ordered .tagged ∙ sym (ap (byKey tagOf) upd-put ∙ count-same tagOf x old st upd-get))
+
+      -- then those of the new one in
+      pub upd-asked-new : Ordered h f (set a (j .place) v) o (s .count) × (s .count ≤ length u) × Open true (says h f (set a (j .place) v) (s .count)) u (refNumbers x)
+      upd-asked-new = (
+        upd-ordered,
+        omega (arith, upd-long, few-now, y .countSpace),
+        rw (upd-put, upd-out) (update-open st (s .count) t counted-now asc-now met-now few-now (y .counted) x (j .place) (q .placed) old upd-get),
       )
 
-      module _ (u : List ℕ) (i : Bool) (r : Notes false st old t u i) where
-        upd-out : u ≡ notedAll false st t (refNumbers old)
-        upd-out = r .noted (r .met ∙ T-true _ (old-met st (s .count) t (y .counted) asc-now met-now (ready-few h f a room s y) (k .told) x (j .place) (q .placed) old upd-get))
+      upd-meets : T (meets numbered refNumbers (put numbered (keyNumbers x) (some x) st) x)
+      unfolding after
+      upd-meets = rw (put-both upd q z (some x)) (put-all? (keyed scottish) (meets numbered refNumbers (put (keyed scottish) (keyOf scottish x) (some x) st)) (keyOf scottish x) (some x) st (meets-after upd q z))
 
-        upd-long : length u ≡ length t
-        upd-long = ap length upd-out ∙ length-noted false st (refNumbers old) t
-
-        upd-put : says h f (set a (j .place) v) (s .count) ≡ put numbered (keyNumbers x) (some x) st
-        upd-put = set-says h f a (keyNumbers x) (s .count) (j .place) (q .placed) old (ready-in h f a room s y) (found-in upd q z (passed upd q z .0)) upd-get v
-
-        upd-tagged : Tagged h f (set a (j .place) v) o (s .count)
-        upd-tagged = record { space = l .space; told = l .told ∙ sym (ap (byKey tagOf) upd-put ∙ count-same tagOf x old st upd-get) }
-
-        -- then those of the new one in
-        pub upd-asked-new : (s .count ≤ length (set a (j .place) v)) × (s .count ≤ length u) × Asc numbered (says h f (set a (j .place) v) (s .count)) × Open true (says h f (set a (j .place) v) (s .count)) u (refNumbers x) × Tagged h f (set a (j .place) v) o (s .count)
-        upd-asked-new = (
-          omega (arith, length-set a (j .place) v, ready-in h f a room s y),
-          omega (arith, upd-long, ready-few h f a room s y, k .space),
-          new-asc (set a (j .place) v) (s .count) upd-put,
-          rw (upd-put, upd-out) (update-open st (s .count) t (y .counted) asc-now met-now (ready-few h f a room s y) (k .told) x (j .place) (q .placed) old upd-get),
-          upd-tagged,
-        )
-
-        upd-meets : T (meets numbered refNumbers (put numbered (keyNumbers x) (some x) st) x)
-        unfolding after
-        upd-meets = rw (put-both upd q z (some x)) (put-all? (keyed scottish) (meets numbered refNumbers (put (keyed scottish) (keyOf scottish x) (some x) st)) (keyOf scottish x) (some x) st (meets-after upd q z))
-
-        -- another entry at its place, the old references counted out and the new ones in
-        pub upd-step : (d : List ℕ) (p : Bool) → Notes true (says h f (set a (j .place) v) (s .count)) x u d p
-            → Steps h f a (set a (j .place) v) o d room (change upd x) s (record { code = 0; state = record { count = s .count; size = j .size }; before = getD a (j .place) 0 })
-        upd-step d p w =
-            let c : d ≡ notedAll true (put numbered (keyNumbers x) (some x) st) (notedAll false st t (refNumbers old)) (refNumbers x) = w .noted (w .met ∙ T-true _ (subst (λ l. T (meets numbered refNumbers l x)) (sym upd-put) upd-meets)) ∙ rw (upd-put, upd-out) in
-            stepped upd q z (set a (j .place) v) o d (s .count) (getD a (j .place) 0) upd-says (sym upd-count) (length-set a (j .place) v)
-            upd-tagged
-            (said-told (set a (j .place) v) d (s .count) (put numbered (keyNumbers x) (some x) st) upd-put (ap (take (s .count)) c ∙ update-told st (s .count) t (y .counted) asc-now met-now (ready-few h f a room s y) (k .told) x (j .place) (q .placed) old upd-get upd-meets))
-            (omega (arith, ap length c, length-noted true (put numbered (keyNumbers x) (some x) st) (refNumbers x) (notedAll false st t (refNumbers old)), length-noted false st (refNumbers old) t, k .space))
-            (rw (found-key upd q z (passed upd q z .0)))
+      -- another entry at its place, the old references counted out and the new ones in
+      pub upd-step : (d : List ℕ) (p : Bool) → Notes true (says h f (set a (j .place) v) (s .count)) x u d p
+          → Steps h f a (set a (j .place) v) o d room (change upd x) s (record { code = 0; state = record { count = s .count; size = j .size }; before = getD a (j .place) 0 })
+      upd-step d p w =
+          let c : d ≡ notedAll true (put numbered (keyNumbers x) (some x) st) (notedAll false st t (refNumbers old)) (refNumbers x) = w .noted (w .met ∙ T-true _ (subst (λ l. T (meets numbered refNumbers l x)) (sym upd-put) upd-meets)) ∙ rw (upd-put, upd-out) in
+          stepped upd q z (set a (j .place) v) o d (s .count) (getD a (j .place) 0) upd-says upd-ordered
+          (said-told (set a (j .place) v) d (s .count) (put numbered (keyNumbers x) (some x) st) upd-put (ap (take (s .count)) c ∙ update-told st (s .count) t counted-now asc-now met-now few-now (y .counted) x (j .place) (q .placed) old upd-get upd-meets))
+          (length-set a (j .place) v) refl
+          (ap length c ∙ length-noted true (put numbered (keyNumbers x) (some x) st) (refNumbers x) (notedAll false st t (refNumbers old)) ∙ length-noted false st (refNumbers old) t)
+          (rw (found-key upd q z (passed upd q z .0)))
 
   -- ---- delete
 
@@ -363,11 +373,11 @@ module _ (h f a : List ℕ) (room v : ℕ) (s : State) (y : Ready h f a room s) 
 
     -- it is in the array
     pub del-in : j .place < length a
-    del-in = omega (arith, del-place, ready-in h f a room s y)
+    del-in = omega (arith, del-place, y .holds .ordered .within)
 
     -- and so are all
     pub del-all : s .count ≤ length a
-    del-all = ready-in h f a room s y
+    del-all = y .holds .ordered .within
 
     -- there is a record less
     pub del-one : 1 ≤ s .count
@@ -375,65 +385,59 @@ module _ (h f a : List ℕ) (room v : ℕ) (s : State) (y : Ready h f a room s) 
 
     del-count : length (after (keyed scottish) (says h f a (s .count)) (change del (recordOf h f v))) + 1 ≡ s .count
     unfolding after
-    del-count = omega (arith, rw (found-key del q z (passed del q z .0)) at (length-put (keyed scottish) (keyOf scottish (recordOf h f v)) none (says h f a (s .count))), y .counted)
+    del-count = omega (arith, rw (found-key del q z (passed del q z .0)) at (length-put (keyed scottish) (keyOf scottish (recordOf h f v)) none (says h f a (s .count))), counted-now)
 
     del-says : says h f (closed a (s .count) (j .place)) (s .count - 1) ≡ after (keyed scottish) (says h f a (s .count)) (change del (recordOf h f v))
     unfolding after
     del-says =
-        close-says h f a (keyNumbers (recordOf h f v)) (s .count) (j .place) (q .placed) (recordOf h f (getD a (j .place) 0)) (ready-in h f a room s y) del-place (found del q z (passed del q z .0))
+        close-says h f a (keyNumbers (recordOf h f v)) (s .count) (j .place) (q .placed) (recordOf h f (getD a (j .place) 0)) (y .holds .ordered .within) del-place (found del q z (passed del q z .0))
         ∙ put-both del q z none
 
-    module _ (t : List ℕ) (k : Counted h f a t (s .count)) (o : List ℕ) (l : Tagged h f a o (s .count)) where
-      abbrev gone : Rec
-      gone = recordOf h f (getD a (j .place) 0)
+    abbrev gone : Rec
+    gone = recordOf h f (getD a (j .place) 0)
 
-      del-get : get numbered (keyNumbers x) st ≡ some gone
-      del-get = found del q z (passed del q z .0)
+    del-get : get numbered (keyNumbers x) st ≡ some gone
+    del-get = found del q z (passed del q z .0)
 
-      -- the references of the record that goes can be counted out
-      pub del-asked : (s .count ≤ length a) × (s .count ≤ length t) × Asc numbered st × Open false st t (refNumbers gone) × Tagged h f a o (s .count)
-      del-asked = (
-        ready-in h f a room s y,
-        omega (arith, ready-few h f a room s y, k .space),
-        asc-now,
-        old-open st (s .count) t (y .counted) asc-now met-now (ready-few h f a room s y) (k .told) x (j .place) (q .placed) gone del-get,
-        l,
-      )
+    -- the references of the record that goes can be counted out
+    pub del-asked : Ordered h f a o (s .count) × (s .count ≤ length t) × Open false st t (refNumbers gone)
+    del-asked = (y .holds .ordered, omega (arith, few-now, y .countSpace), old-open st (s .count) t counted-now asc-now met-now few-now (y .counted) x (j .place) (q .placed) gone del-get)
 
-      -- the tags are as many as before
-      pub del-tags : s .count ≤ length o
-      del-tags = omega (arith, ready-few h f a room s y, l .space)
+    -- the tags are as many as before
+    pub del-tags : s .count ≤ length o
+    del-tags = omega (arith, few-now, y .tagSpace)
 
-      module _ (u : List ℕ) (i : Bool) (r : Notes false st gone t u i) where
-        del-out : u ≡ notedAll false st t (refNumbers gone)
-        del-out = r .noted (r .met ∙ T-true _ (old-met st (s .count) t (y .counted) asc-now met-now (ready-few h f a room s y) (k .told) x (j .place) (q .placed) gone del-get))
+    module _ (u : List ℕ) (i : Bool) (r : Notes false st gone t u i) where
+      del-out : u ≡ notedAll false st t (refNumbers gone)
+      del-out = r .noted (r .met ∙ T-true _ (old-met st (s .count) t counted-now asc-now met-now few-now (y .counted) x (j .place) (q .placed) gone del-get))
 
-        -- the counts are as many as before
-        pub del-counts : s .count ≤ length u
-        del-counts = omega (arith, ap length del-out, length-noted false st (refNumbers gone) t, ready-few h f a room s y, k .space)
+      -- the counts are as many as before
+      pub del-counts : s .count ≤ length u
+      del-counts = omega (arith, ap length del-out, length-noted false st (refNumbers gone) t, few-now, y .countSpace)
 
-        del-put : says h f (closed a (s .count) (j .place)) (s .count - 1) ≡ put numbered (keyNumbers x) none st
-        del-put = close-says h f a (keyNumbers x) (s .count) (j .place) (q .placed) gone (ready-in h f a room s y) del-place del-get
+      del-put : says h f (closed a (s .count) (j .place)) (s .count - 1) ≡ put numbered (keyNumbers x) none st
+      del-put = close-says h f a (keyNumbers x) (s .count) (j .place) (q .placed) gone (y .holds .ordered .within) del-place del-get
 
-        -- closed up over its place, its tag and its count
-        pub del-step : (b m d : List ℕ) → b ≡ closed a (s .count) (j .place) → m ≡ closed o (s .count) (j .place) → d ≡ closed u (s .count) (j .place)
-            → Steps h f a b m d room (change del x) s (record { code = 0; state = record { count = s .count - 1; size = j .size }; before = getD a (j .place) 0 })
-        del-step b m d e i w =
-            let c : d ≡ closed (notedAll false st t (refNumbers gone)) (s .count) (j .place) = w ∙ ap (λ l. closed l (s .count) (j .place)) del-out in
-            let p : says h f b (s .count - 1) ≡ put numbered (keyNumbers x) none st = ap (λ l. says h f l (s .count - 1)) e ∙ del-put in
-            let n : s .count ≤ length (notedAll false st t (refNumbers gone)) = omega (arith, del-counts, ap length del-out) in
-            stepped del q z b m d (s .count - 1) (getD a (j .place) 0) (ap (λ l. says h f l (s .count - 1)) e ∙ del-says) (omega (arith, del-count)) (ap length e ∙ length-closed a (s .count) (j .place) del-place (ready-in h f a room s y))
-            (record {
-              space = omega (arith, ap length i, length-closed o (s .count) (j .place) del-place del-tags, l .space);
-              told = ap (take (s .count - 1)) i ∙ count-close tagOf o (keyNumbers x) st (s .count) (j .place) (l .told) (q .placed) gone del-tags del-place del-get ∙ ap (byKey tagOf) (sym p);
-            })
-            (said-told b d (s .count - 1) (put numbered (keyNumbers x) none st) p (ap (take (s .count - 1)) c ∙ delete-told st (s .count) t (y .counted) asc-now met-now (ready-few h f a room s y) (k .told) x (j .place) (q .placed) gone del-get n del-place))
-            (omega (arith, ap length w, length-closed u (s .count) (j .place) del-place del-counts, ap length del-out, length-noted false st (refNumbers gone) t, k .space))
-            (rw (found-key del q z (passed del q z .0)))
+      -- closed up over its place, its tag and its count
+      pub del-step : (b m d : List ℕ) → b ≡ closed a (s .count) (j .place) → m ≡ closed o (s .count) (j .place) → d ≡ closed u (s .count) (j .place)
+          → Steps h f a b m d room (change del x) s (record { code = 0; state = record { count = s .count - 1; size = j .size }; before = getD a (j .place) 0 })
+      del-step b m d e i w =
+          let c : d ≡ closed (notedAll false st t (refNumbers gone)) (s .count) (j .place) = w ∙ ap (λ l. closed l (s .count) (j .place)) del-out in
+          let p : says h f b (s .count - 1) ≡ put numbered (keyNumbers x) none st = ap (λ l. says h f l (s .count - 1)) e ∙ del-put in
+          let n : s .count ≤ length (notedAll false st t (refNumbers gone)) = omega (arith, del-counts, ap length del-out) in
+          let long : length b ≡ length a = ap length e ∙ length-closed a (s .count) (j .place) del-place del-all in
+          let said : says h f b (s .count - 1) ≡ after (keyed scottish) st (change del x) = ap (λ l. says h f l (s .count - 1)) e ∙ del-says in
+          stepped del q z b m d (s .count - 1) (getD a (j .place) 0) said
+          (ordered-next del q z b m (s .count - 1) said (omega (arith, del-count)) long
+          (ap (take (s .count - 1)) i ∙ count-close tagOf o (keyNumbers x) st (s .count) (j .place) (y .holds .ordered .tagged) (q .placed) gone del-tags del-place del-get ∙ ap (byKey tagOf) (sym p)))
+          (said-told b d (s .count - 1) (put numbered (keyNumbers x) none st) p (ap (take (s .count - 1)) c ∙ delete-told st (s .count) t counted-now asc-now met-now few-now (y .counted) x (j .place) (q .placed) gone del-get n del-place))
+          long (ap length i ∙ length-closed o (s .count) (j .place) del-place del-tags)
+          (ap length w ∙ length-closed u (s .count) (j .place) del-place del-counts ∙ ap length del-out ∙ length-noted false st (refNumbers gone) t)
+          (rw (found-key del q z (passed del q z .0)))
 
-pub ruleset inserted = (needs, step-refused, ins-in, ins-place, ins-fits, ins-tags, ins-counts, ins-step)
+pub ruleset inserted = (needs, ready-holds, step-refused, ins-in, ins-place, ins-fits, ins-tags, ins-counts, ins-step)
 
-pub ruleset updated = (needs, step-refused, upd-in, upd-step)
+pub ruleset updated = (needs, ready-holds, step-refused, upd-in, upd-step)
 
 pub ruleset deleted = (needs, step-refused, del-place, del-in, del-all, del-one, del-tags, del-counts, del-step)
 
@@ -475,12 +479,12 @@ module _ (h f : List ℕ) (at : ℕ) (l : Line) (q : Carries f at l) where
   line-fine = subst (λ x. T (fine scottish x)) (sym filed) (q .sound)
 
   -- it can be written down
-  pub twice-fits : (a : List ℕ) (room : ℕ) (s : State) → Ready h f a room s → Fits w64 (2 * at)
-  twice-fits a room s y = record { fits = omega (arith, q .inside, y .fileShort) }
+  pub twice-fits : (a o t : List ℕ) (room : ℕ) (s : State) → Ready h f a o t room s → Fits w64 (2 * at)
+  twice-fits a o t room s y = record { fits = omega (arith, q .inside, y .holds .fileShort) }
 
   -- with the mark of the file
-  pub odd-fits : (a : List ℕ) (room : ℕ) (s : State) → Ready h f a room s → Fits w64 (2 * at + 1)
-  odd-fits a room s y = record { fits = omega (arith, q .inside, y .fileShort) }
+  pub odd-fits : (a o t : List ℕ) (room : ℕ) (s : State) → Ready h f a o t room s → Fits w64 (2 * at + 1)
+  odd-fits a o t room s y = record { fits = omega (arith, q .inside, y .holds .fileShort) }
 
   module _ (a b o t : List ℕ) (room : ℕ) (s : State) (r : Stepped) where
     -- a kind that is not held carries no sound record

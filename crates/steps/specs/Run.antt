@@ -52,7 +52,7 @@ pub record Kept (h f a steps before : List ℕ) (s : State) (r : Ran) : Type 0 w
   pub rest : linesOf (drop (r .end) f) ≡ drop (r .steps + 1) (linesOf f)
 
 -- the run ends as the run of the file's changes from line 2 on does, and where nothing is refused it leaves a state that is ready for more, and what its undo needs
-pub record Runs (h f a b steps before : List ℕ) (room : ℕ) (s : State) (r : Ran) : Type 0 where
+pub record Runs (h f a b g t steps before : List ℕ) (room : ℕ) (s : State) (r : Ran) : Type 0 where
   pub ended : ranAs h f b r ≡ Theory.run (keyed scottish) (stepRules scottish room) 2 (says h f a (s .count)) (changesOf (readFile scottish f))
-  pub ready : r .code ≡ 0 → Ready h f b room (r .state)
+  pub ready : r .code ≡ 0 → Ready h f b g t room (r .state)
   pub kept : r .code ≡ 0 → Kept h f a steps before s r

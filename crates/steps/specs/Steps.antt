@@ -16,19 +16,15 @@ use Rattle.volume.specs.Meant.{changeMeant}
 use Rattle.volume.specs.declared.lines.Line.{Line}
 use Rattle.entries.specs.Entries.{recordOf}
 use Rattle.places.specs.Places.{says}
-use Rattle.places.specs.Counts.{Counted}
-use Rattle.places.specs.Tags.{Tagged}
 use Rattle.places.specs.Changes.{changeAt}
 use Rattle.judge.specs.declared.State.{State}
 use Rattle.judge.specs.Ready.{codeNumber, Ready}
 use Rattle.steps.specs.declared.step.Stepped.{Stepped}
 
--- the array says the state after the change, ready for the next, tagged and counted, and the entry before is of the record that stood at the key, or of the change's own
+-- the array says the state after the change, ready for the next, and the entry before is of the record that stood at the key, or of the change's own
 pub record Leaves (h f a b g t : List ℕ) (room : ℕ) (c : Change Rec) (s : State) (r : Stepped) : Type 0 where
   pub said : says h f b (r .state .count) ≡ after (keyed scottish) (says h f a (s .count)) c
-  pub ready : Ready h f b room (r .state)
-  pub tagged : Tagged h f b g (r .state .count)
-  pub tallied : Counted h f b t (r .state .count)
+  pub ready : Ready h f b g t room (r .state)
   pub stood : recordOf h f (r .before) ≡ Option·getD (get (keyed scottish) (keyOf scottish (c .rec)) (says h f a (s .count))) (c .rec)
 
 -- a step: its code, and where that is 0 what it leaves

@@ -4,12 +4,10 @@ ghost use Prim.Native.Nat.{_≤_};
 ghost use lib.Dec.{T};
 ghost use lib.ListN.{length};
 ghost use Rattle.meaning.specs.Table.{scottish};
-ghost use Rattle.meaning.specs.File.{readFile};
+ghost use Rattle.meaning.specs.File.{readFile, mostBody};
 ghost use Rattle.text.specs.Places.{lineEnd};
 ghost use Rattle.layout.specs.Meant.{kindMeant};
 ghost use Rattle.volume.specs.Meant.{changeMeant};
-ghost use Rattle.places.specs.Counts.{Counted};
-ghost use Rattle.places.specs.Tags.{Tagged};
 ghost use Rattle.places.specs.Changes.{changeAt};
 ghost use Rattle.judge.specs.Ready.{Ready};
 ghost use Rattle.steps.specs.Run.{isFile, Runs};
@@ -65,8 +63,8 @@ pub fn run(
     start: State,
     room: usize,
 ) -> Ran
-    requires { ⌜ Ready (now holding) (now file) (now places) room start × Counted (now holding) (now file) (now places) (now counts) (start .count) × T (isFile (readFile scottish (now file))) × (4096 ≤ length (now steps)) × (4096 ≤ length (now before)) × Tagged (now holding) (now file) (now places) (now tags) (start .count) ⌝ }
-    ensures { λ r. ⌜ Runs (now (holding .entry)) (now (file .entry)) (now (places .entry)) (now (places .exit)) (now (steps .exit)) (now (before .exit)) room start r ⌝ }
+    requires { ⌜ Ready (now holding) (now file) (now places) (now tags) (now counts) room start × T (isFile (readFile scottish (now file))) × (mostBody ≤ length (now steps)) × (mostBody ≤ length (now before)) ⌝ }
+    ensures { λ r. ⌜ Runs (now (holding .entry)) (now (file .entry)) (now (places .entry)) (now (places .exit)) (now (tags .exit)) (now (counts .exit)) (now (steps .exit)) (now (before .exit)) room start r ⌝ }
 {
     let mut at = line_end(file, 0) + 2;
     let mut made = 0;

@@ -5,8 +5,6 @@ ghost use Rattle.theory.specs.Step.{ins, upd, del};
 ghost use Rattle.meaning.specs.Table.{scottish};
 ghost use Rattle.laws.specs.Body.{fine};
 ghost use Rattle.entries.specs.Entries.{recordOf};
-ghost use Rattle.places.specs.Counts.{Counted};
-ghost use Rattle.places.specs.Tags.{Tagged};
 ghost use Rattle.places.specs.Changes.{change, changeAt};
 ghost use Rattle.judge.specs.Ready.{Ready};
 ghost use Rattle.steps.specs.Steps.{Carries, Steps};
@@ -52,7 +50,7 @@ fn insert(
     state: State,
     room: usize,
 ) -> Stepped
-    requires { ⌜ Ready (now holding) (now file) (now places) room state × Counted (now holding) (now file) (now places) (now counts) (state .count) × T (fine scottish (recordOf (now holding) (now file) entry)) × Tagged (now holding) (now file) (now places) (now tags) (state .count) ⌝ }
+    requires { ⌜ Ready (now holding) (now file) (now places) (now tags) (now counts) room state × T (fine scottish (recordOf (now holding) (now file) entry)) ⌝ }
     ensures { λ r. ⌜ Steps (now (holding .entry)) (now (file .entry)) (now (places .entry)) (now (places .exit)) (now (tags .exit)) (now (counts .exit)) room (change ins (recordOf (now (holding .entry)) (now (file .entry)) entry)) state r ⌝ }
 {
     let judged = judge_insert(holding, file, places, tags, entry, state, room);
@@ -86,7 +84,7 @@ fn update(
     state: State,
     room: usize,
 ) -> Stepped
-    requires { ⌜ Ready (now holding) (now file) (now places) room state × Counted (now holding) (now file) (now places) (now counts) (state .count) × T (fine scottish (recordOf (now holding) (now file) entry)) × Tagged (now holding) (now file) (now places) (now tags) (state .count) ⌝ }
+    requires { ⌜ Ready (now holding) (now file) (now places) (now tags) (now counts) room state × T (fine scottish (recordOf (now holding) (now file) entry)) ⌝ }
     ensures { λ r. ⌜ Steps (now (holding .entry)) (now (file .entry)) (now (places .entry)) (now (places .exit)) (now (tags .entry)) (now (counts .exit)) room (change upd (recordOf (now (holding .entry)) (now (file .entry)) entry)) state r ⌝ }
 {
     let judged = judge_update(holding, file, places, tags, entry, state, room);
@@ -128,7 +126,7 @@ fn delete(
     state: State,
     room: usize,
 ) -> Stepped
-    requires { ⌜ Ready (now holding) (now file) (now places) room state × Counted (now holding) (now file) (now places) (now counts) (state .count) × T (fine scottish (recordOf (now holding) (now file) entry)) × Tagged (now holding) (now file) (now places) (now tags) (state .count) ⌝ }
+    requires { ⌜ Ready (now holding) (now file) (now places) (now tags) (now counts) room state × T (fine scottish (recordOf (now holding) (now file) entry)) ⌝ }
     ensures { λ r. ⌜ Steps (now (holding .entry)) (now (file .entry)) (now (places .entry)) (now (places .exit)) (now (tags .exit)) (now (counts .exit)) room (change del (recordOf (now (holding .entry)) (now (file .entry)) entry)) state r ⌝ }
 {
     let judged = judge_delete(holding, file, places, tags, counts, entry, state, room);
@@ -176,7 +174,7 @@ pub fn step(
     state: State,
     room: usize,
 ) -> Stepped
-    requires { ⌜ Ready (now holding) (now file) (now places) room state × Counted (now holding) (now file) (now places) (now counts) (state .count) × Carries (now file) at line × Tagged (now holding) (now file) (now places) (now tags) (state .count) ⌝ }
+    requires { ⌜ Ready (now holding) (now file) (now places) (now tags) (now counts) room state × Carries (now file) at line ⌝ }
     ensures { λ r. ⌜ Steps (now (holding .entry)) (now (file .entry)) (now (places .entry)) (now (places .exit)) (now (tags .exit)) (now (counts .exit)) room (changeAt (now (file .entry)) at) state r ⌝ }
 {
     let kind = line.kind;

@@ -10,7 +10,9 @@ use Rattle.meaning.specs.Kinds.{Kind, role}
 use Rattle.meaning.specs.Format.{kindOf, placeFrom, endDate}
 use Rattle.meaning.specs.Table.{fields, scottish}
 use Rattle.meaning.specs.File.{Place, next, hasRoom, countFault, Judged, bad, good, verdict}
-use Rattle.meaning.specs.Answers.{Fault}
+use Rattle.meaning.specs.Answers.{Fault, ofLine, ofField}
+use Rattle.meaning.specs.Codes.{endingWrong, identifierUnknown, outOfPlace, fieldCountWrong, endBeforeStart, tooManyBodyLines}
+use Rattle.answers.specs.Meant.{faultMeant}
 use Rattle.layout.specs.Meant.{kindMeant}
 use Rattle.layout.specs.Check.{kindDates}
 use Rattle.volume.specs.declared.lines.Opened.{Opened}
@@ -19,23 +21,23 @@ use Rattle.volume.specs.Meant.{placeMeant}
 
 -- then 3, then 9, then 4
 unfoldable pub opensAt : ℕ → List ℕ → Kind → Option Place → Judged
-opensAt n t k none = bad (3, 0)
-opensAt n t k (some q) = verdict (ask (hasRoom (role k) n) (9, 0) (ask (hasFields (length (fields k)) t) (4, 0) none)) k q
+opensAt n t k none = bad (ofLine outOfPlace)
+opensAt n t k (some q) = verdict (ask (hasRoom (role k) n) (ofLine tooManyBodyLines) (ask (hasFields (length (fields k)) t) (ofLine fieldCountWrong) none)) k q
 
 -- then 2
 unfoldable pub opensAs : Place → ℕ → List ℕ → Option Kind → Judged
-opensAs p n t none = bad (2, 1)
+opensAs p n t none = bad (ofField identifierUnknown 1)
 opensAs p n t (some k) = opensAt n t k (next p (role k))
 
 -- a line before its fields are judged: 1 where it does not end well
 unfoldable pub opens : Place → ℕ → Bool → List ℕ → Judged
-opens p n ended t = pick ended (opensAs p n t (kindOf scottish (identifier t))) (bad (1, 0))
+opens p n ended t = pick ended (opensAs p n t (kindOf scottish (identifier t))) (bad (ofLine endingWrong))
 
 -- a line after its fields: 6, then 7 or 8
 unfoldable pub closes : ℕ → Kind → List ℕ → Option Fault
-closes n k t = ask (kindDates k (fieldsOf t)) (6, placeFrom 1 endDate (fields k)) (countFault scottish (role k) n k t)
+closes n k t = ask (kindDates k (fieldsOf t)) (ofField endBeforeStart (placeFrom 1 endDate (fields k))) (countFault scottish (role k) n k t)
 
 -- a line that was opened, as the meaning judges it: a fault, or its kind and the place after it
 abbrev pub judgedAs : Opened → Judged
 judgedAs (Good k q) = good (kindMeant k) (placeMeant q)
-judgedAs (Bad c f) = bad (c, f)
+judgedAs (Bad f) = bad (faultMeant f)

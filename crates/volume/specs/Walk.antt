@@ -7,8 +7,7 @@ use Rattle.meaning.specs.Lines as meant
 use Rattle.meaning.specs.Kinds.{Role, headerLine, bodyLine, metadataLine, trailerLine}
 use Rattle.meaning.specs.Table.{scottish}
 use Rattle.meaning.specs.File.{Sheet, bodyAfter, readFrom}
-use Rattle.meaning.specs.Load.{six}
-use Rattle.meaning.specs.Answers.{Read, Numbers}
+use Rattle.meaning.specs.Answers.{Read, Numbers, takenWith, refusedWith}
 use Rattle.volume.specs.declared.places.Place.{Place}
 use Rattle.volume.specs.declared.places.Place.the-variants.{AtStart}
 use Rattle.volume.specs.declared.walk.Walk.{Walk}
@@ -49,8 +48,8 @@ walkedOn w r c p = record {
 
 -- the numbers of the check, where I, U and D lines are counted already
 unfoldable pub checkedFrom : Walk → Read Sheet → Numbers
-checkedFrom w (fault r) = six (r .code) (r .line) (r .field) 0 0 0
-checkedFrom w (file s) = six 0 0 0 (w .inserts + count ins (s .1)) (w .updates + count upd (s .1)) (w .deletes + count del (s .1))
+checkedFrom w (fault r) = refusedWith r
+checkedFrom w (file s) = takenWith (record { inserts = w .inserts + count ins (s .1); updates = w .updates + count upd (s .1); deletes = w .deletes + count del (s .1) })
 
 -- what the walk answers of the lines that are left
 unfoldable pub leftOf : Walk → List meant.Line → Numbers

@@ -11,17 +11,26 @@ ghost use Rattle.meaning.specs.Kinds.{role};
 ghost use Rattle.meaning.specs.Table.{fields};
 ghost use Rattle.meaning.specs.Records.{opOf};
 ghost use Rattle.meaning.specs.File.{hasRoom};
+ghost use Rattle.meaning.specs.Answers.{ofField};
 ghost use Rattle.layout.specs.Meant.{kindMeant};
 ghost use Rattle.layout.specs.Rows.{bare};
 ghost use Rattle.text.specs.Places.{fieldCount};
 ghost use Rattle.layout.specs.Check.{lowestBad, Parted, told};
 ghost use Rattle.volume.specs.Meant.{placeMeant, changeMeant};
 ghost use Rattle.volume.specs.Judged.{opens, closes, judgedAs};
+use answers::codes::END_BEFORE_START;
+use answers::codes::ENDING_WRONG;
+use answers::codes::FIELD_COUNT_WRONG;
+use answers::codes::IDENTIFIER_UNKNOWN;
+use answers::codes::NOT_RUNNING_NUMBER;
+use answers::codes::OUT_OF_PLACE;
+use answers::codes::RECORD_COUNT_WRONG;
+use answers::codes::TOO_MANY_BODY_LINES;
+use answers::refusal::Fault;
 use crate::places::Place;
 use crate::places::PlaceFound;
 use crate::places::next_place;
 use crate::walk::Walk;
-use answers::refusal::Fault;
 use layout::check::dates_agree;
 use layout::check::kind_at;
 use layout::kinds::HeldKind;
@@ -48,10 +57,10 @@ pub struct Line {
     pub change: Change,
 }
 
-// A line before its fields are judged: its kind and the place after it, or the code and the field of its first fault.
+// A line before its fields are judged: its kind and the place after it, or its first fault.
 pub enum Opened {
     Good(Kind, Place),
-    Bad(u64, usize),
+    Bad(Fault),
 }
 
 // Whether there is room for a line after so many body lines: only a body line takes room.
@@ -73,20 +82,20 @@ pub fn open_line(walk: Walk, text: &[u8], fields: usize, ended: bool) -> Opened
 {
     let place = walk.place;
     if !ended {
-        return Opened::Bad(1, 0);
+        return Opened::Bad(Fault::of_line(ENDING_WRONG));
     }
     let KindFound::Known(kind) = kind_at(text) else {
-        return Opened::Bad(2, 1);
+        return Opened::Bad(Fault::of_field(IDENTIFIER_UNKNOWN, 1));
     };
     let PlaceFound::At(after) = next_place(place, kind) else {
-        return Opened::Bad(3, 0);
+        return Opened::Bad(Fault::of_line(OUT_OF_PLACE));
     };
     if !has_room(kind, walk.body) {
-        return Opened::Bad(9, 0);
+        return Opened::Bad(Fault::of_line(TOO_MANY_BODY_LINES));
     }
     let count = layout(kind).count;
     if fields != count {
-        return Opened::Bad(4, 0);
+        return Opened::Bad(Fault::of_line(FIELD_COUNT_WRONG));
     }
     Opened::Good(kind, after)
 }
@@ -101,15 +110,12 @@ fn number_of(text: &[u8]) -> u64
 
 // A fault of the number, where it is not right.
 fn number_fault(right: bool, code: u64) -> Fault
-    ensures { λ r. ⌜ r ≡ told (ask right (code, 3) none) ⌝ }
+    ensures { λ r. ⌜ r ≡ told (ask right (ofField code 3) none) ⌝ }
 {
     if right {
-        return Fault { code: 0, field: 0 };
+        return Fault::none();
     }
-    Fault {
-        code,
-        field: NUMBER,
-    }
+    Fault::of_field(code, NUMBER as u64)
 }
 
 // A line after its fields, which are sound: 6, then 7 or 8.
@@ -119,18 +125,15 @@ pub fn close_line(kind: Kind, body: usize, text: &[u8], ends: &[usize]) -> Fault
 {
     let end = layout(kind).end;
     if !dates_agree(kind, text, ends) {
-        return Fault {
-            code: 6,
-            field: end,
-        };
+        return Fault::of_field(END_BEFORE_START, end as u64);
     }
     let lines = body as u64;
     let next = lines + 1;
     match kind {
-        Kind::Header => Fault { code: 0, field: 0 },
-        Kind::Held(_) => number_fault(number_of(text) == next, 7),
-        Kind::Metadata => Fault { code: 0, field: 0 },
-        Kind::Trailer => number_fault(number_of(text) == lines, 8),
+        Kind::Header => Fault::none(),
+        Kind::Held(_) => number_fault(number_of(text) == next, NOT_RUNNING_NUMBER),
+        Kind::Metadata => Fault::none(),
+        Kind::Trailer => number_fault(number_of(text) == lines, RECORD_COUNT_WRONG),
     }
 }
 

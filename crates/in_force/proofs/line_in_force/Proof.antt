@@ -27,5 +27,5 @@ line-in-force-spec =
     (λ c. search force)  -- returns-3
     (λ c. search force)  -- slice-aggregate-last-line
     (λ c. search force)  -- slice-aggregate-last-line-2
-    (λ c κs. (enquired _ _ _ _ _ _ _ (c .before .before .before .before .before .before .before .before .before .before .before .before .before .before .before .is-enquired .ensures) (not-false _ (c .before .before .before .before .before .before .before .before .before .before .before .before .before .before .if1 .left)) (c .before .before .before .before .before .before .before .before .before .before .read-holding .ensures) (c .before .before .before .before .before .if2 .left) (search needs) (search needs), faultless _ _ (c .before .before .before .before .check-file .ensures) (c .before .before .if3 .left)))  -- last-line-requires
+    (λ c κs. (enquired _ _ _ _ _ _ _ (c .before .before .before .before .before .before .before .before .before .before .before .before .before .before .before .is-enquired .ensures) (not-false _ (c .before .before .before .before .before .before .before .before .before .before .before .before .before .before .if1 .left)) (c .before .before .before .before .before .before .before .before .before .before .read-holding .ensures) (c .before .before .before .before .before .if2 .left) (search needs), faultless _ _ (c .before .before .before .before .check-file .ensures) (c .before .before .if3 .left)))  -- last-line-requires
     (λ c. force-last _ _ _ _ _ _ (c .before .before .before .before .before .before .before .before .before .before .before .before .before .before .before .before .is-enquired .ensures) (not-false _ (c .before .before .before .before .before .before .before .before .before .before .before .before .before .before .before .if1 .left)) _ _ _ _ (c .before .before .before .before .before .before .before .before .before .before .before .read-holding .ensures) (c .before .before .before .before .before .before .if2 .left) (c .last-line .ensures)))  -- returns-4

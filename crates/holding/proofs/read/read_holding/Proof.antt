@@ -1,5 +1,5 @@
 -- `holding::read::read_holding` meets its contract.
-use Rattle.holding.proofs.ReadLaws.{readings, read-room, read-few, read-asc, read-fines, read-tagged}
+use Rattle.holding.proofs.ReadLaws.{readings, read-few, read-ordered}
 use borrow.Author.Needs.{needs}
 use native.Mathlib.Omega.{arith}
 use Rattle.holding.proofs.read.read_holding.Statement.{statement}
@@ -13,7 +13,7 @@ read-holding-spec =
     (λ c. search readings)  -- same-length
     (λ c. search readings)  -- same-length-2
     (λ c. search readings)  -- returns
-    (λ c κs. let s = c .before .before .before .before .before .before .before .before .before .scan .ensures in let z = c .before .before .before .if1 .left in (read-room _ _ _ _ s z (search needs), omega (arith, read-few _ _ _ _ s z, c .before .before .before .before .before .before .before .before .before .before .before .before .before .before .before .before .pre .2), read-few _ _ _ _ s z, read-asc _ _ _ _ s z, read-fines _ _ _ _ s z, read-tagged _ _ _ _ s z (search needs)))  -- unmet-requires
+    (λ c κs. let t = c .before .before .before in let s = t .before .before .before .before .before .before in let p = s .before .before .before .before .before .before .before .pre in let few = read-few _ _ _ _ (s .scan .ensures) (t .if1 .left) in (read-ordered _ _ _ _ (s .scan .ensures) (t .if1 .left) (search needs), omega (arith, p .2), few))  -- unmet-requires
     (λ c. search readings)  -- same-length-3
     (λ c. search readings)  -- same-length-4
     (λ c. search readings)  -- same-length-5

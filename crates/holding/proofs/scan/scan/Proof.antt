@@ -6,12 +6,13 @@ use mathlib.Core.Path.{_≡_}
 use lib.ListN.{length}
 use Rattle.holding.proofs.scan.scan.Statement.{statement}
 use Rattle.holding.proofs.scan.scan.Tie as tie
+use Rattle.meaning.specs.Holding.{mostRecords}
 
 pub scan-spec : {M : Type 1} → statement M
 scan-spec =
     tie.close
     (tie.spec
-    (λ holding starts₀ tags₀ before₀ count₀ at₀ starts tags before count at. Scanning holding starts tags count at (keyList before) × (8192 ≤ length starts) × (length starts ≡ length starts₀) × (8192 ≤ length tags) × (length tags ≡ length tags₀))
+    (λ holding starts₀ tags₀ before₀ count₀ at₀ starts tags before count at. Scanning holding starts tags count at (keyList before) × (mostRecords ≤ length starts) × (length starts ≡ length starts₀) × (mostRecords ≤ length tags) × (length tags ≡ length tags₀))
     (λ holding starts₀ tags₀ before₀ count₀ at₀ starts tags before count at. length holding - at)
     (λ c. search scanning)  -- loop-holds
     (λ c κs. search scanning)  -- plain-end-requires

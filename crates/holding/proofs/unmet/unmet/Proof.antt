@@ -24,6 +24,6 @@ unmet-spec =
     (λ c. search unmets)  -- returns
     (λ c. search unmets)  -- add-i
     (λ c. search unmets)  -- loop-less
-    (λ c. let p = c .before .before .before .before .before .before .before .before .before .before .before .before .before .before .before .before .pre in (unmet-turn _ _ _ _ _ (c .before .before .before .before .before .before .before .loop .inv .0) (p .0) (p .2) (c .before .before .before .before .before .before .loop-test .taken) (p .3) (p .4) _ _ (c .before .before .before .note .ensures) (not-false _ (c .if1 .left)), search needs))  -- loop-again
+    (λ c. let n = c .before .before .before in let t = n .before .before .before in let l = t .before in let p = l .before .before .before .before .before .before .before .before .before .pre in (unmet-turn _ _ _ _ _ _ (l .loop .inv .0) (p .0) (p .2) (t .loop-test .taken) _ _ (n .note .ensures) (not-false _ (c .if1 .left)), search needs))  -- loop-again
     (λ c. search unmets)  -- same-length-2
     (λ c. search unmets))  -- returns-2

@@ -12,6 +12,6 @@ note-spec =
     (λ c κs. search noting)  -- note-one-requires
     (λ c. search noting)  -- same-length
     (λ c. search noting)  -- returns
-    (λ c κs. (search noting, search noting, search noting, second-open _ _ _ _ (c .before .before .before .before .before .before .before .references .ensures) _ _ _ (c .before .before .before .before .note-one .ensures) (not-false _ (c .before .if1 .left)) (c .before .before .before .before .before .before .before .before .before .before .before .before .before .pre .3), search noting))  -- note-one-requires-2
+    (λ c κs. let n = c .before .before .before .before in let r = n .before .before .before in let p = r .before .before .before .before .before .before .pre in (p .0, search noting, second-open _ _ _ _ (r .references .ensures) _ _ _ (n .note-one .ensures) (not-false _ (c .before .if1 .left)) (p .2)))  -- note-one-requires-2
     (λ c. search noting)  -- same-length-2
     (λ c. search noting))  -- returns-2

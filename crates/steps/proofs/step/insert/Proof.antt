@@ -15,10 +15,10 @@ insert-spec =
     (λ c. search inserted)  -- add-next
     (λ c κs. search inserted)  -- open-requires
     (λ c κs. search inserted)  -- entry-tag-requires
-    (λ c κs. (ins-place _ _ _ _ _ _ (c .before .before .before .before .before .before .before .before .before .before .before .before .before .before .before .pre .0) (c .before .before .before .before .before .before .before .before .before .before .before .before .before .before .before .pre .2) _ (c .before .before .before .before .before .before .before .judge-insert .ensures) (c .before .before .before .before .before .before .if1 .left), ins-tags _ _ _ _ _ _ (c .before .before .before .before .before .before .before .before .before .before .before .before .before .before .before .pre .0) (c .before .before .before .before .before .before .before .before .before .before .before .before .before .before .before .pre .2) _ (c .before .before .before .before .before .before .before .judge-insert .ensures) (c .before .before .before .before .before .before .if1 .left) _ (c .before .before .before .before .before .before .before .before .before .before .before .before .before .before .before .pre .3)))  -- open-requires-2
-    (λ c κs. (ins-place _ _ _ _ _ _ (c .before .before .before .before .before .before .before .before .before .before .before .before .before .before .before .before .before .before .before .pre .0) (c .before .before .before .before .before .before .before .before .before .before .before .before .before .before .before .before .before .before .before .pre .2) _ (c .before .before .before .before .before .before .before .before .before .before .before .judge-insert .ensures) (c .before .before .before .before .before .before .before .before .before .before .if1 .left), ins-counts _ _ _ _ _ _ (c .before .before .before .before .before .before .before .before .before .before .before .before .before .before .before .before .before .before .before .pre .0) (c .before .before .before .before .before .before .before .before .before .before .before .before .before .before .before .before .before .before .before .pre .2) _ (c .before .before .before .before .before .before .before .before .before .before .before .judge-insert .ensures) (c .before .before .before .before .before .before .before .before .before .before .if1 .left) _ (c .before .before .before .before .before .before .before .before .before .before .before .before .before .before .before .before .before .before .before .pre .1)))  -- open-requires-3
-    (λ c κs. ins-asked _ _ _ _ _ _ (c .before .before .before .before .before .before .before .before .before .before .before .before .before .before .before .before .before .before .before .before .before .before .before .before .before .pre .0) (c .before .before .before .before .before .before .before .before .before .before .before .before .before .before .before .before .before .before .before .before .before .before .before .before .before .pre .2) _ (c .before .before .before .before .before .before .before .before .before .before .before .before .before .before .before .before .before .judge-insert .ensures) (c .before .before .before .before .before .before .before .before .before .before .before .before .before .before .before .before .if1 .left) _ (c .before .before .before .before .before .before .before .before .before .before .before .before .before .before .before .before .before .before .before .before .before .before .before .before .before .pre .1) _ (c .before .before .before .before .before .before .before .before .before .before .before .before .before .before .before .before .before .before .before .before .before .before .before .before .before .pre .3) _ (c .before .before .before .before .before .before .before .before .before .before .before .before .before .before .«open» .ensures) _ (c .before .before .before .before .before .before .before .before .before .before .entry-tag .ensures) _ (c .before .before .before .before .before .before .before .before .before .open2 .ensures) _ (c .before .before .before .before .before .open3 .ensures))  -- note-requires
+    (λ c κs. let t = c .before .before .before .before .before .before in let j = t .before in let p = j .before .before .before .before .before .before .before .before in (ins-place _ _ _ _ _ _ _ _ (p .pre .0) (p .pre .1) _ (j .judge-insert .ensures) (t .if1 .left), ins-tags _ _ _ _ _ _ _ _ (p .pre .0) (p .pre .1) _ (j .judge-insert .ensures) (t .if1 .left)))  -- open-requires-2
+    (λ c κs. let t = c .before .before .before .before .before .before .before .before .before .before in let j = t .before in let p = j .before .before .before .before .before .before .before .before in (ins-place _ _ _ _ _ _ _ _ (p .pre .0) (p .pre .1) _ (j .judge-insert .ensures) (t .if1 .left), ins-counts _ _ _ _ _ _ _ _ (p .pre .0) (p .pre .1) _ (j .judge-insert .ensures) (t .if1 .left)))  -- open-requires-3
+    (λ c κs. let o = c .before .before .before .before .before in let op = o .before .before .before .before in let e = op .before in let ope = e .before .before .before .before in let t = ope .before .before in let j = t .before in let p = j .before .before .before .before .before .before .before .before in ins-asked _ _ _ _ _ _ _ _ (p .pre .0) (p .pre .1) _ (j .judge-insert .ensures) (t .if1 .left) _ (ope .«open» .ensures) _ (e .entry-tag .ensures) _ (op .open2 .ensures) _ (o .open3 .ensures))  -- note-requires
     (λ c. search inserted)  -- same-length-3
     (λ c. search inserted)  -- same-length-4
     (λ c. search inserted)  -- same-length-5
-    (λ c. ins-step _ _ _ _ _ _ (c .before .before .before .before .before .before .before .before .before .before .before .before .before .before .before .before .before .before .before .before .before .before .before .before .before .before .before .before .pre .0) (c .before .before .before .before .before .before .before .before .before .before .before .before .before .before .before .before .before .before .before .before .before .before .before .before .before .before .before .before .pre .2) _ (c .before .before .before .before .before .before .before .before .before .before .before .before .before .before .before .before .before .before .before .before .judge-insert .ensures) (c .before .before .before .before .before .before .before .before .before .before .before .before .before .before .before .before .before .before .before .if1 .left) _ (c .before .before .before .before .before .before .before .before .before .before .before .before .before .before .before .before .before .before .before .before .before .before .before .before .before .before .before .before .pre .1) _ (c .before .before .before .before .before .before .before .before .before .before .before .before .before .before .before .before .before .before .before .before .before .before .before .before .before .before .before .before .pre .3) _ (c .before .before .before .before .before .before .before .before .before .before .before .before .before .before .before .before .before .«open» .ensures) _ (c .before .before .before .before .before .before .before .before .before .before .before .before .before .entry-tag .ensures) _ (c .before .before .before .before .before .before .before .before .before .before .before .before .open2 .ensures) _ (c .before .before .before .before .before .before .before .before .open3 .ensures) _ _ (c .before .before .note .ensures)))  -- returns-2
+    (λ c. let o = c .before .before .before .before .before .before .before .before in let op = o .before .before .before .before in let e = op .before in let ope = e .before .before .before .before in let t = ope .before .before in let j = t .before in let p = j .before .before .before .before .before .before .before .before in ins-step _ _ _ _ _ _ _ _ (p .pre .0) (p .pre .1) _ (j .judge-insert .ensures) (t .if1 .left) _ (ope .«open» .ensures) _ (e .entry-tag .ensures) _ (op .open2 .ensures) _ (o .open3 .ensures) _ _ (c .before .before .note .ensures)))  -- returns-2
