@@ -19,8 +19,8 @@ use Rattle.meaning.specs.Format.{kindOf, named, placeFrom, endDate, proOrder, r
 use Rattle.meaning.specs.Table.{fields, scottish}
 use Rattle.meaning.specs.Records.{opOf, changeOf}
 use Rattle.meaning.specs.File.{Place, atStart, next, hasRoom, countFault, Judged, bad, good, lineFault, verdict, judgeKind, judgeText, judgeLine, Sheet, addLine, adds, bodyAfter, onLine, readFrom, readFile}
-use Rattle.meaning.specs.Load.{six, checked, checkFile}
-use Rattle.meaning.specs.Answers.{Read, Fault}
+use Rattle.meaning.specs.Load.{checked, checkFile}
+use Rattle.meaning.specs.Answers.{Read, Fault, ofLine, ofField, atLine, refusedWith}
 use Rattle.text.specs.Places.{endsHere, lineLen, plainEnd}
 use Rattle.text.proofs.LineLaws.{lines-at, lines-end, ends-well-at, ends-there}
 use Rattle.layout.specs.declared.kinds.Kind.{Kind as Named}
@@ -32,11 +32,13 @@ use Rattle.volume.specs.declared.places.Place.{Place as PlaceNamed}
 use Rattle.volume.specs.declared.lines.Opened.{Opened}
 use Rattle.volume.specs.declared.lines.Opened.the-variants.{Good, Bad}
 use Rattle.volume.specs.declared.walk.Walk.{Walk}
+use Rattle.answers.specs.declared.refusal.Refusal.{Refusal}
 use Rattle.answers.specs.declared.numbers.Answer.{Answer}
 use Rattle.volume.specs.Meant.{placeMeant}
 use Rattle.volume.specs.Judged.{opensAt, opensAs, opens, closes, judgedAs}
 use Rattle.volume.specs.Walk.{unwalked, tally, walkedOn, checkedFrom, leftOf, Within}
-use Rattle.answers.specs.Meant.{answerOf}
+use Rattle.answers.specs.Meant.{faultMeant, refusalOf, refusalMeant, answerOf}
+use Rattle.meaning.specs.Codes.{endingWrong, identifierUnknown, outOfPlace, fieldCountWrong, fieldMalformed, endBeforeStart, tooManyBodyLines}
 use Rattle.layout.proofs.PassLaws.{lowest}
 use Rattle.volume.proofs.WalkLaws.{within-on}
 
@@ -45,23 +47,23 @@ use Rattle.volume.proofs.WalkLaws.{within-on}
 -- 5, then 6, 7 and 8, of a line that was opened
 abbrev fully : ℕ → List ℕ → Judged → Judged
 fully n t (bad f) = bad f
-fully n t (good k q) = verdict (pick (eqb (lowest k t) 0) (closes n k t) (some (5, lowest k t))) k q
+fully n t (good k q) = verdict (pick (eqb (lowest k t) 0) (closes n k t) (some (ofField fieldMalformed (lowest k t)))) k q
 
 -- that is the meaning's judgement
-judge-is : (p : Place) (n : ℕ) (b : Bool) (t : List ℕ) → pick b (judgeText scottish p n t (kindOf scottish (identifier t))) (bad (1, 0)) ≡ fully n t (opens p n b t)
+judge-is : (p : Place) (n : ℕ) (b : Bool) (t : List ℕ) → pick b (judgeText scottish p n t (kindOf scottish (identifier t))) (bad (ofLine endingWrong)) ≡ fully n t (opens p n b t)
 unfolding opens opensAs opensAt judgeText judgeKind verdict lineFault closes ask
 judge-is p n false t = refl
 judge-is p n true t = kinded (kindOf scottish (identifier t))
   where
     asked : (k : Kind) (q : Place) (r f : Bool) (rest : Option Fault)
-        → verdict (ask r (9, 0) (ask f (4, 0) rest)) k q ≡ pick r (pick f (verdict rest k q) (bad (4, 0))) (bad (9, 0))
+        → verdict (ask r (ofLine tooManyBodyLines) (ask f (ofLine fieldCountWrong) rest)) k q ≡ pick r (pick f (verdict rest k q) (bad (ofLine fieldCountWrong))) (bad (ofLine tooManyBodyLines))
     asked k q true true rest = refl
     asked k q true false rest = refl
     asked k q false f rest = refl
 
     opened : (k : Kind) (q : Place) (r f : Bool)
-        → pick r (pick f (verdict (pick (eqb (lowest k t) 0) (closes n k t) (some (5, lowest k t))) k q) (bad (4, 0))) (bad (9, 0))
-        ≡ fully n t (verdict (ask r (9, 0) (ask f (4, 0) none)) k q)
+        → pick r (pick f (verdict (pick (eqb (lowest k t) 0) (closes n k t) (some (ofField fieldMalformed (lowest k t)))) k q) (bad (ofLine fieldCountWrong))) (bad (ofLine tooManyBodyLines))
+        ≡ fully n t (verdict (ask r (ofLine tooManyBodyLines) (ask f (ofLine fieldCountWrong) none)) k q)
     opened k q true true = refl
     opened k q true false = refl
     opened k q false f = refl
@@ -70,7 +72,7 @@ judge-is p n true t = kinded (kindOf scottish (identifier t))
     placed k none = refl
     placed k (some q) =
         rw (fault-is k t (countFault scottish (role k) n k t))
-        (asked k q (hasRoom (role k) n) (hasFields (length (fields k)) t) (pick (eqb (lowest k t) 0) (closes n k t) (some (5, lowest k t)))
+        (asked k q (hasRoom (role k) n) (hasFields (length (fields k)) t) (pick (eqb (lowest k t) 0) (closes n k t) (some (ofField fieldMalformed (lowest k t))))
         ∙ opened k q (hasRoom (role k) n) (hasFields (length (fields k)) t))
 
     kinded : (o : Option Kind) → judgeText scottish p n t o ≡ fully n t (opensAs p n t o)
@@ -80,21 +82,51 @@ judge-is p n true t = kinded (kindOf scottish (identifier t))
 -- a line that was opened has as many fields as its kind
 opened-fields : (p : Place) (n : ℕ) (b : Bool) (t : List ℕ) (k : Kind) (q : Place) → good k q ≡ opens p n b t → hasFields (length (fields k)) t ≡ true
 unfolding opens opensAs opensAt verdict ask
-opened-fields p n false t k q e = let z : good k q ≡ bad (1, 0) = e in cc
+opened-fields p n false t k q e = let z : good k q ≡ bad (ofLine endingWrong) = e in cc
 opened-fields p n true t k q e = kinded (kindOf scottish (identifier t)) e
   where
-    asked : (k′ : Kind) (q′ : Place) (r f : Bool) → good k q ≡ verdict (ask {A = Fault} r (9, 0) (ask {A = Fault} f (4, 0) none)) k′ q′ → f ≡ hasFields (length (fields k′)) t → hasFields (length (fields k)) t ≡ true
+    asked : (k′ : Kind) (q′ : Place) (r f : Bool) → good k q ≡ verdict (ask {A = Fault} r (ofLine tooManyBodyLines) (ask {A = Fault} f (ofLine fieldCountWrong) none)) k′ q′ → f ≡ hasFields (length (fields k′)) t → hasFields (length (fields k)) t ≡ true
     asked k′ q′ true true e h = let z : good k q ≡ good k′ q′ = e in cc
-    asked k′ q′ true false e h = let z : good k q ≡ bad (4, 0) = e in cc
-    asked k′ q′ false f e h = let z : good k q ≡ bad (9, 0) = e in cc
+    asked k′ q′ true false e h = let z : good k q ≡ bad (ofLine fieldCountWrong) = e in cc
+    asked k′ q′ false f e h = let z : good k q ≡ bad (ofLine tooManyBodyLines) = e in cc
 
     placed : (k′ : Kind) (o : Option Place) → good k q ≡ opensAt n t k′ o → hasFields (length (fields k)) t ≡ true
-    placed k′ none e = let z : good k q ≡ bad (3, 0) = e in cc
+    placed k′ none e = let z : good k q ≡ bad (ofLine outOfPlace) = e in cc
     placed k′ (some q′) e = asked k′ q′ (hasRoom (role k′) n) (hasFields (length (fields k′)) t) e refl
 
     kinded : (o : Option Kind) → good k q ≡ opensAs p n t o → hasFields (length (fields k)) t ≡ true
-    kinded none e = let z : good k q ≡ bad (2, 1) = e in cc
+    kinded none e = let z : good k q ≡ bad (ofField identifierUnknown 1) = e in cc
     kinded (some k′) e = placed k′ (next p (role k′)) e
+
+-- a fault found before a line's fields has a code
+opens-coded : (p : Place) (n : ℕ) (b : Bool) (t : List ℕ) (f : Fault) → bad f ≡ opens p n b t → f .code ≡ 0 → ⊥
+unfolding opens opensAs opensAt verdict ask
+opens-coded p n b t f e z = go b e
+  where
+    -- the code of a judgement, and 1 of a good one
+    coded : Judged → ℕ
+    coded (bad g) = g .code
+    coded (good k q) = 1
+
+    none-of : (c : ℕ) → 1 ≤ c → f .code ≡ c → ⊥
+    none-of c l h = omega (arith, z)
+
+    asked : (k : Kind) (q : Place) (r s : Bool) → bad f ≡ verdict (ask {A = Fault} r (ofLine tooManyBodyLines) (ask {A = Fault} s (ofLine fieldCountWrong) none)) k q → ⊥
+    asked k q true true e = none-of 1 (omega arith) (ap coded e)
+    asked k q true false e = none-of fieldCountWrong (omega arith) (ap coded e)
+    asked k q false s e = none-of tooManyBodyLines (omega arith) (ap coded e)
+
+    placed : (k : Kind) (o : Option Place) → bad f ≡ opensAt n t k o → ⊥
+    placed k none e = none-of outOfPlace (omega arith) (ap coded e)
+    placed k (some q) e = asked k q (hasRoom (role k) n) (hasFields (length (fields k)) t) e
+
+    kinded : (o : Option Kind) → bad f ≡ opensAs p n t o → ⊥
+    kinded none e = none-of identifierUnknown (omega arith) (ap coded e)
+    kinded (some k) e = placed k (next p (role k)) e
+
+    go : (b : Bool) → bad f ≡ opens p n b t → ⊥
+    go false e = none-of endingWrong (omega arith) (ap coded e)
+    go true e = kinded (kindOf scottish (identifier t)) e
 
 -- a line is no longer than its file
 pub line-short : (s : List ℕ) (at e : ℕ) → length (take (e - at) (drop at s)) ≤ length s
@@ -107,11 +139,11 @@ closes-told : (n : ℕ) (k : Kind) (t : List ℕ) → told (closes n k t) .code 
 unfolding closes countFault ask
 closes-told n k t z = dated (kindDates k (fieldsOf t)) (role k) z
   where
-    asked : (b : Bool) (c f : ℕ) → told (ask {A = Fault} b (suc c, f) none) .code ≡ 0 → ask {A = Fault} b (suc c, f) none ≡ none
+    asked : (b : Bool) (c f : ℕ) → told (ask {A = Fault} b (ofField (suc c) f) none) .code ≡ 0 → ask {A = Fault} b (ofField (suc c) f) none ≡ none
     asked true c f z = refl
     asked false c f z = absurd (omega (arith, z))
 
-    dated : (b : Bool) (r : Role) → told (ask {A = Fault} b (6, placeFrom 1 endDate (fields k)) (countFault scottish r n k t)) .code ≡ 0 → ask {A = Fault} b (6, placeFrom 1 endDate (fields k)) (countFault scottish r n k t) ≡ none
+    dated : (b : Bool) (r : Role) → told (ask {A = Fault} b (ofField endBeforeStart (placeFrom 1 endDate (fields k))) (countFault scottish r n k t)) .code ≡ 0 → ask {A = Fault} b (ofField endBeforeStart (placeFrom 1 endDate (fields k))) (countFault scottish r n k t) ≡ none
     dated false r z = absurd (omega (arith, z))
     dated true headerLine z = refl
     dated true bodyLine z = asked (eqb (value (named proOrder (fields k) (fieldsOf t))) (suc n)) 6 (placeFrom 1 proOrder (fields k)) z
@@ -123,7 +155,7 @@ told-none : (n : ℕ) (k : Kind) (t : List ℕ) (f : FaultTold) → f ≡ told (
 told-none n k t f g z = closes-told n k t (ap (λ x. x .code) (sym g) ∙ z)
 
 -- a code, and the fault is told
-told-some : (o : Option Fault) (f : FaultTold) → f ≡ told o → (f .code ≡ 0 → ⊥) → o ≡ some (f .code, f .field)
+told-some : (o : Option Fault) (f : FaultTold) → f ≡ told o → (f .code ≡ 0 → ⊥) → o ≡ some (faultMeant f)
 told-some none f g z = absurd (z (ap (λ x. x .code) g))
 told-some (some w) f g z = rw g
 
@@ -166,6 +198,15 @@ read-start s w e = rw e (record {
   stands = omega arith;
 })
 
+-- a refusal that was made of the file's fault
+pub read-refused : (s : List ℕ) (l : ℕ) (f : FaultTold) (x : Refusal) (r : Answer) → checkFile scottish s ≡ refusedWith (atLine l (faultMeant f)) → x ≡ refusalOf (atLine l (faultMeant f)) → r ≡ answerOf (refusedWith (refusalMeant x))
+    → r ≡ answerOf (checkFile scottish s)
+read-refused s l f x r c e q = q ∙ ap (λ y. answerOf (refusedWith (refusalMeant y))) e ∙ ap answerOf (sym c)
+
+-- a fault that was kept is the file's
+pub read-kept : (s : List ℕ) (l : ℕ) (f g : FaultTold) → f ≡ g → checkFile scottish s ≡ refusedWith (atLine l (faultMeant g)) → checkFile scottish s ≡ refusedWith (atLine l (faultMeant f))
+read-kept s l f g e c = c ∙ ap (λ x. refusedWith (atLine l (faultMeant x))) (sym e)
+
 -- it ends where no line is left
 pub read-done : (s : List ℕ) (w : Walk) (at : ℕ) (r : Answer) → Reading s w at → length s ≤ at → r ≡ answerOf (leftOf w []) → r ≡ answerOf (checkFile scottish s)
 read-done s w at r v h e = e ∙ ap answerOf (rw (lines-end s at h) at (v .left))
@@ -191,8 +232,8 @@ module _ (s : List ℕ) (w : Walk) (at e : ℕ) (h : at < length s) (q : e ≡ p
       after t = judgeText scottish (placeMeant (w .place)) (w .body) t (kindOf scottish (identifier t))
 
       go : (b : Bool) → endsHere (drop e s) ≡ b
-          → checkedFrom w (onLine (w .line) (take n (drop at s)) (pick b (after (take n (drop at s))) (bad (1, 0))) (λ k p. readFrom scottish (suc (w .line)) p (bodyAfter (role k) (w .body)) (linesOf (drop (at + (n + 2)) s))))
-          ≡ checkedFrom w (onLine (w .line) (take (e - at) (drop at s)) (pick b (after (take (e - at) (drop at s))) (bad (1, 0))) rest)
+          → checkedFrom w (onLine (w .line) (take n (drop at s)) (pick b (after (take n (drop at s))) (bad (ofLine endingWrong))) (λ k p. readFrom scottish (suc (w .line)) p (bodyAfter (role k) (w .body)) (linesOf (drop (at + (n + 2)) s))))
+          ≡ checkedFrom w (onLine (w .line) (take (e - at) (drop at s)) (pick b (after (take (e - at) (drop at s))) (bad (ofLine endingWrong))) rest)
       go false f = refl
       go true f =
           let size : n ≡ e - at = ends-there s at e q f in
@@ -206,9 +247,13 @@ module _ (s : List ℕ) (w : Walk) (at e : ℕ) (h : at < length s) (q : e ≡ p
     line-opened = sym (v .left) ∙ line-left ∙ rw (j, i)
 
     -- 1, 2, 3, 9 or 4 is the file's fault
-    pub read-opened : (c f : ℕ) → o ≡ Bad c f → (r : Answer) → r ≡ answerOf (six c (w .line) f 0 0 0) → r ≡ answerOf (checkFile scottish s)
+    pub read-opened : (f : FaultTold) → o ≡ Bad f → checkFile scottish s ≡ refusedWith (atLine (w .line) (faultMeant f))
     unfolding onLine checkedFrom
-    read-opened c f d r g = g ∙ ap answerOf (sym (line-opened ∙ rw d))
+    read-opened f d = line-opened ∙ rw d
+
+    -- which has a code
+    pub opened-coded : (f : FaultTold) → o ≡ Bad f → f .code ≡ 0 → ⊥
+    opened-coded f d z = opens-coded (placeMeant (w .place)) (w .body) b (take (e - at) (drop at s)) (faultMeant f) (rw d at j) z
 
     module _ (kind : Named) (place : PlaceNamed) (z : o ≡ Good kind place) where
       -- a line without a fault so far
@@ -222,16 +267,16 @@ module _ (s : List ℕ) (w : Walk) (at e : ℕ) (h : at < length s) (q : e ≡ p
           sym (opened-fields (placeMeant (w .place)) (w .body) b (take (e - at) (drop at s)) (kindMeant kind) (placeMeant place) (rw z at j))
 
       -- 5 is the file's fault
-      pub read-malformed : (r : Answer) (k n : ℕ) → k + 1 ≡ lowest (kindMeant kind) (take (e - at) (drop at s)) → n ≡ k + 1 → r ≡ answerOf (six 5 (w .line) n 0 0 0) → r ≡ answerOf (checkFile scottish s)
+      pub read-malformed : (k : ℕ) → k + 1 ≡ lowest (kindMeant kind) (take (e - at) (drop at s)) → checkFile scottish s ≡ refusedWith (atLine (w .line) (ofField fieldMalformed (k + 1)))
       unfolding onLine checkedFrom verdict
-      read-malformed r k n m d g = g ∙ ap answerOf (rw d (sym (line-good ∙ rw (← m, ne-eqb (k + 1) 0 (λ u. omega (arith, u))))))
+      read-malformed k m = line-good ∙ rw (← m, ne-eqb (k + 1) 0 (λ u. omega (arith, u)))
 
       module _ (y : 0 ≡ lowest (kindMeant kind) (take (e - at) (drop at s))) (f : FaultTold) (g : f ≡ told (closes (w .body) (kindMeant kind) (take (e - at) (drop at s)))) where
         -- 6, 7 or 8 is the file's fault
-        pub read-closed : (r : Answer) → (f .code ≡ 0 → ⊥) → r ≡ answerOf (six (f .code) (w .line) (f .field) 0 0 0) → r ≡ answerOf (checkFile scottish s)
+        pub read-closed : (f .code ≡ 0 → ⊥) → checkFile scottish s ≡ refusedWith (atLine (w .line) (faultMeant f))
         unfolding onLine checkedFrom verdict
-        read-closed r m u =
-            u ∙ ap answerOf (sym (line-good ∙ rw (eq-eqb (lowest (kindMeant kind) (take (e - at) (drop at s))) 0 (sym y), told-some (closes (w .body) (kindMeant kind) (take (e - at) (drop at s))) f g m)))
+        read-closed m =
+            line-good ∙ rw (eq-eqb (lowest (kindMeant kind) (take (e - at) (drop at s))) 0 (sym y), told-some (closes (w .body) (kindMeant kind) (take (e - at) (drop at s))) f g m)
 
         -- a good line is passed
         passed : f .code ≡ 0

@@ -1,5 +1,5 @@
 -- The laws of one line in its place: before its fields, and after them.
-use mathlib.Core.Path.{_≡_, refl, sym, _∙_}
+use mathlib.Core.Path.{_≡_, refl, sym, ap, _∙_}
 use mathlib.Core.Bool.{Bool, true, false, _&&_}
 use mathlib.Core.Option.{Option, none}
 use mathlib.Core.List.{List, [], _∷_, map}
@@ -32,6 +32,9 @@ use Rattle.layout.specs.declared.kinds.KindFound.{KindFound}
 use Rattle.layout.specs.declared.kinds.KindFound.the-variants.{Known, Unknown}
 use Rattle.layout.specs.declared.records.Layout.{Layout}
 use Rattle.answers.specs.declared.refusal.Fault.{Fault as FaultTold}
+use Rattle.meaning.specs.Codes.{endingWrong, identifierUnknown, outOfPlace, fieldCountWrong, endBeforeStart, notRunningNumber, recordCountWrong, tooManyBodyLines}
+use Rattle.meaning.specs.Answers.{ofLine, ofField}
+use Rattle.answers.specs.Meant.{faultOf, faultMeant, noFaultAt}
 use Rattle.layout.specs.Meant.{kindMeant, kindFound}
 use Rattle.layout.specs.Rows.{Row, bare, noRow, rowOf, laidOut}
 use Rattle.layout.specs.Check.{lowestBad, kindDates, told}
@@ -177,15 +180,15 @@ count-is k l e = rw e
 
 module _ (p : Place) (n : ℕ) (t : List ℕ) (b : Bool) where
   -- 1
-  pub open-unended : b ≡ false → bad (1, 0) ≡ opens p n b t
+  pub open-unended : b ≡ false → (x : FaultTold) → x ≡ faultOf (ofLine endingWrong) → bad (faultMeant x) ≡ opens p n b t
   unfolding opens
-  open-unended e = rw e
+  open-unended e x m = ap (λ y. bad (faultMeant y)) m ∙ rw e
 
   module _ (e : b ≡ true) (kf : KindFound) (g : kindFound kf ≡ kindOf scottish (identifier t)) where
     -- 2
-    pub open-unknown : kf ≡ Unknown → bad (2, 1) ≡ opens p n b t
+    pub open-unknown : kf ≡ Unknown → (x : FaultTold) → x ≡ faultOf (ofField identifierUnknown 1) → bad (faultMeant x) ≡ opens p n b t
     unfolding opens opensAs
-    open-unknown u = rw (e, ← g, u)
+    open-unknown u x m = ap (λ y. bad (faultMeant y)) m ∙ rw (e, ← g, u)
 
     module _ (kind : Named) (h : kf ≡ Known kind) (pf : PlaceFound) (y : placeFound pf ≡ next p (role (kindMeant kind))) where
       -- a known kind is judged in its place
@@ -194,21 +197,21 @@ module _ (p : Place) (n : ℕ) (t : List ℕ) (b : Bool) where
       known = rw (e, ← g, h, y)
 
       -- 3
-      pub open-nowhere : pf ≡ Nowhere → bad (3, 0) ≡ opens p n b t
+      pub open-nowhere : pf ≡ Nowhere → (x : FaultTold) → x ≡ faultOf (ofLine outOfPlace) → bad (faultMeant x) ≡ opens p n b t
       unfolding opensAt
-      open-nowhere u = rw (known, u)
+      open-nowhere u x m = ap (λ y. bad (faultMeant y)) m ∙ rw (known, u)
 
       module _ (q : PlaceNamed) (z : pf ≡ At q) (r : Bool) (m : r ≡ hasRoom (role (kindMeant kind)) n) where
         -- 9
-        pub open-full : r ≡ false → bad (9, 0) ≡ opens p n b t
+        pub open-full : r ≡ false → (x : FaultTold) → x ≡ faultOf (ofLine tooManyBodyLines) → bad (faultMeant x) ≡ opens p n b t
         unfolding opensAt ask verdict
-        open-full u = rw (known, z, sym m ∙ u)
+        open-full u x o = ap (λ y. bad (faultMeant y)) o ∙ rw (known, z, sym m ∙ u)
 
         module _ (w : r ≡ true) (l : Layout) (d : l ≡ laidOut (kindMeant kind)) (a : ℕ) (i : a ≡ fieldCount t) where
           -- 4
-          pub open-count : (a ≡ l .count → ⊥) → bad (4, 0) ≡ opens p n b t
+          pub open-count : (a ≡ l .count → ⊥) → (x : FaultTold) → x ≡ faultOf (ofLine fieldCountWrong) → bad (faultMeant x) ≡ opens p n b t
           unfolding opensAt ask verdict
-          open-count u = rw (known, z, sym m ∙ w, ← count-is (kindMeant kind) l d, ← fields-wrong t (l .count) a i u)
+          open-count u x o = ap (λ y. bad (faultMeant y)) o ∙ rw (known, z, sym m ∙ w, ← count-is (kindMeant kind) l d, ← fields-wrong t (l .count) a i u)
 
           -- else its fields are to be judged
           pub open-good : a ≡ l .count → good (kindMeant kind) (placeMeant q) ≡ opens p n b t
@@ -230,31 +233,31 @@ module _ (kind : Named) (n : ℕ) (t : List ℕ) where
 
   module _ (b : Bool) (r : b ≡ kindDates (kindMeant kind) (fieldsOf t)) where
     -- 6
-    pub close-dates : (l : Layout) → l ≡ laidOut (kindMeant kind) → b ≡ false → record { code = 6; field = l .end } ≡ told (closes n (kindMeant kind) t)
+    pub close-dates : (l : Layout) → l ≡ laidOut (kindMeant kind) → b ≡ false → (x : FaultTold) → x ≡ faultOf (ofField endBeforeStart (l .end)) → x ≡ told (closes n (kindMeant kind) t)
     unfolding closes ask laidOut
-    close-dates l e f = rw (sym r ∙ f, e)
+    close-dates l e f x m = m ∙ rw (sym r ∙ f, e)
 
     module _ (d : b ≡ true) where
       -- a header has no number
-      pub close-header : kind ≡ Header → record { code = 0; field = 0 } ≡ told (closes n (kindMeant kind) t)
+      pub close-header : kind ≡ Header → (x : FaultTold) → x ≡ noFaultAt → x ≡ told (closes n (kindMeant kind) t)
       unfolding closes ask countFault
-      close-header c = rw (sym r ∙ d, role-of kind Header c)
+      close-header c x m = m ∙ rw (sym r ∙ d, role-of kind Header c)
 
       -- nor has metadata
-      pub close-metadata : kind ≡ Metadata → record { code = 0; field = 0 } ≡ told (closes n (kindMeant kind) t)
+      pub close-metadata : kind ≡ Metadata → (x : FaultTold) → x ≡ noFaultAt → x ≡ told (closes n (kindMeant kind) t)
       unfolding closes ask countFault
-      close-metadata c = rw (sym r ∙ d, role-of kind Metadata c)
+      close-metadata c x m = m ∙ rw (sym r ∙ d, role-of kind Metadata c)
 
       module _ (v : ℕ) (q : v ≡ value (getD (fieldsOf t) 2 [])) (f : FaultTold) where
         -- 7
-        pub close-body : (h : HeldKind) → kind ≡ Held h → f ≡ told (ask (eqb v (n + 1)) (7, 3) none) → f ≡ told (closes n (kindMeant kind) t)
+        pub close-body : (h : HeldKind) → kind ≡ Held h → f ≡ told (ask (eqb v (n + 1)) (ofField notRunningNumber 3) none) → f ≡ told (closes n (kindMeant kind) t)
         unfolding closes ask countFault
         close-body h c g =
             let w = third-is proOrder (kindMeant kind) t (rw (role-of kind (Held h) c) at (third (kindMeant kind))) in
             g ∙ rw (sym r ∙ d, role-of kind (Held h) c, w .0, w .1, q, add-one n)
 
         -- 8
-        pub close-trailer : kind ≡ Trailer → f ≡ told (ask (eqb v n) (8, 3) none) → f ≡ told (closes n (kindMeant kind) t)
+        pub close-trailer : kind ≡ Trailer → f ≡ told (ask (eqb v n) (ofField recordCountWrong 3) none) → f ≡ told (closes n (kindMeant kind) t)
         unfolding closes ask countFault
         close-trailer c g =
             let w = third-is recordCount (kindMeant kind) t (rw (role-of kind Trailer c) at (third (kindMeant kind))) in

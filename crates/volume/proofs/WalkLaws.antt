@@ -10,7 +10,8 @@ use Rattle.theory.specs.Step.{Op, ins, upd, del}
 use Rattle.theory.specs.Answer.{count}
 use Rattle.meaning.specs.Kinds.{Role, headerLine, bodyLine, metadataLine, trailerLine, role}
 use Rattle.meaning.specs.File.{bodyAfter, atEnd, readFrom}
-use Rattle.meaning.specs.Load.{six}
+use Rattle.meaning.specs.Codes.{outOfPlace}
+use Rattle.meaning.specs.Answers.{ofLine, atLine, refusedWith, takenWith}
 use Rattle.layout.specs.declared.kinds.HeldKind.{HeldKind}
 use Rattle.layout.specs.declared.kinds.Kind.{Kind as Named}
 use Rattle.layout.specs.declared.kinds.Kind.the-variants.{Header, Held, Metadata, Trailer}
@@ -24,7 +25,7 @@ use Rattle.volume.specs.declared.walk.Walk.{Walk}
 use Rattle.volume.specs.Meant.{changeMeant}
 use Rattle.volume.specs.Walk.{tally, countedIn, walkedOn, checkedFrom, leftOf, Within}
 use Rattle.answers.specs.declared.numbers.Answer.{Answer}
-use Rattle.answers.specs.Meant.{answerOf}
+use Rattle.answers.specs.Meant.{countsOf, answerOf}
 
 -- ---- one body line more
 
@@ -134,23 +135,23 @@ pub ruleset after = (needs, after-header, after-metadata, after-trailer, after-b
 
 module _ (w : Walk) (r : Answer) where
   -- before the header
-  pub end-start : w .place ≡ AtStart → r ≡ answerOf (six 3 (w .line) 0 0 0 0) → r ≡ answerOf (leftOf w [])
+  pub end-start : w .place ≡ AtStart → r ≡ answerOf (refusedWith (atLine (w .line) (ofLine outOfPlace))) → r ≡ answerOf (leftOf w [])
   unfolding leftOf readFrom atEnd checkedFrom
   end-start e q = q ∙ rw e
 
   -- in the body
-  pub end-body : w .place ≡ InBody → r ≡ answerOf (six 3 (w .line) 0 0 0 0) → r ≡ answerOf (leftOf w [])
+  pub end-body : w .place ≡ InBody → r ≡ answerOf (refusedWith (atLine (w .line) (ofLine outOfPlace))) → r ≡ answerOf (leftOf w [])
   unfolding leftOf readFrom atEnd checkedFrom
   end-body e q = q ∙ rw e
 
   -- before the trailer
-  pub end-metadata : w .place ≡ AfterMetadata → r ≡ answerOf (six 3 (w .line) 0 0 0 0) → r ≡ answerOf (leftOf w [])
+  pub end-metadata : w .place ≡ AfterMetadata → r ≡ answerOf (refusedWith (atLine (w .line) (ofLine outOfPlace))) → r ≡ answerOf (leftOf w [])
   unfolding leftOf readFrom atEnd checkedFrom
   end-metadata e q = q ∙ rw e
 
 -- after it
-pub end-trailer : (w : Walk) → w .place ≡ AfterTrailer → record { code = 0; line = 0; field = 0; inserts = w .inserts; updates = w .updates; deletes = w .deletes } ≡ answerOf (leftOf w [])
+pub end-trailer : (w : Walk) (r : Answer) → w .place ≡ AfterTrailer → r ≡ answerOf (takenWith (countsOf (w .inserts) (w .updates) (w .deletes))) → r ≡ answerOf (leftOf w [])
 unfolding leftOf readFrom atEnd checkedFrom count
-end-trailer w e = rw (e, add-zero (w .inserts), add-zero (w .updates), add-zero (w .deletes))
+end-trailer w r e q = q ∙ rw (e, add-zero (w .inserts), add-zero (w .updates), add-zero (w .deletes))
 
 pub ruleset ends = (needs, end-start, end-body, end-metadata, end-trailer)

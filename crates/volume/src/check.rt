@@ -2,9 +2,18 @@
 ghost use mathlib.Core.Path.{_≡_};
 ghost use mathlib.Core.List.{[]};
 ghost use Rattle.meaning.specs.Table.{scottish};
-ghost use Rattle.meaning.specs.Load.{checkFile, six};
-ghost use Rattle.volume.specs.Walk.{leftOf};
+ghost use Rattle.meaning.specs.Codes.{outOfPlace};
+ghost use Rattle.meaning.specs.Answers.{ofLine, atLine, refusedWith};
+ghost use Rattle.meaning.specs.Load.{checkFile};
 ghost use Rattle.answers.specs.Meant.{answerOf};
+ghost use Rattle.volume.specs.Walk.{leftOf};
+use answers::codes::FIELD_MALFORMED;
+use answers::codes::OUT_OF_PLACE;
+use answers::numbers::Answer;
+use answers::numbers::refused;
+use answers::numbers::taken;
+use answers::refusal::Fault;
+use answers::refusal::Refusal;
 use crate::lines::Opened;
 use crate::lines::close_line;
 use crate::lines::open_line;
@@ -17,28 +26,11 @@ use text::fields::split;
 use text::lines::ends_at;
 use text::lines::plain_end;
 
-// Code, line, field, and the body lines with I, U and D.
-pub struct Answer {
-    pub code: u64,
-    pub line: usize,
-    pub field: usize,
-    pub inserts: usize,
-    pub updates: usize,
-    pub deletes: usize,
-}
-
-// A refusal counts nothing.
-pub fn refused(code: u64, line: usize, field: usize) -> Answer
-    ensures { λ r. ⌜ r ≡ answerOf (six code line field 0 0 0) ⌝ }
+// A file that ends before its trailer: 3 at the line after its last.
+fn unended(line: usize) -> Answer
+    ensures { λ r. ⌜ r ≡ answerOf (refusedWith (atLine line (ofLine outOfPlace))) ⌝ }
 {
-    Answer {
-        code,
-        line,
-        field,
-        inserts: 0,
-        updates: 0,
-        deletes: 0,
-    }
+    refused(Refusal::of_line(line as u64, OUT_OF_PLACE))
 }
 
 // What is answered where no line is left: 3 at the line after the last, unless that was the trailer.
@@ -47,17 +39,14 @@ fn ended(walk: Walk) -> Answer
 {
     let place = walk.place;
     match place {
-        Place::AtStart => refused(3, walk.line, 0),
-        Place::InBody => refused(3, walk.line, 0),
-        Place::AfterMetadata => refused(3, walk.line, 0),
-        Place::AfterTrailer => Answer {
-            code: 0,
-            line: 0,
-            field: 0,
-            inserts: walk.inserts,
-            updates: walk.updates,
-            deletes: walk.deletes,
-        },
+        Place::AtStart => unended(walk.line),
+        Place::InBody => unended(walk.line),
+        Place::AfterMetadata => unended(walk.line),
+        Place::AfterTrailer => taken(
+            walk.inserts as u64,
+            walk.updates as u64,
+            walk.deletes as u64,
+        ),
     }
 }
 
@@ -68,13 +57,16 @@ pub fn check_file(file: &[u8]) -> Answer
     let mut ends = [0usize; 32];
     let mut walk = Walk::at_start();
     let mut at = 0;
-    let mut bad = 0;
+    let mut bad = Fault::none();
     'lines: while at < file.len() {
         let end = plain_end(file, at);
         let text = &file[at..end];
         let fields = split(text, &mut ends);
         match open_line(walk, text, fields, ends_at(file, end)) {
-            Opened::Bad(code, field) => return refused(code, walk.line, field),
+            Opened::Bad(fault) => {
+                bad = fault;
+                break 'lines;
+            }
             Opened::Good(kind, after) => {
                 let count = layout(kind).count;
                 let mut k = 0;
@@ -82,7 +74,7 @@ pub fn check_file(file: &[u8]) -> Answer
                 while k < count {
                     let stop = ends[k];
                     if !sound_at(kind, k, &text[start..stop]) {
-                        bad = k + 1;
+                        bad = Fault::of_field(FIELD_MALFORMED, (k + 1) as u64);
                         break 'lines;
                     }
                     start = stop + 1;
@@ -90,15 +82,16 @@ pub fn check_file(file: &[u8]) -> Answer
                 }
                 let closed = close_line(kind, walk.body, text, &ends);
                 if closed.code != 0 {
-                    return refused(closed.code, walk.line, closed.field);
+                    bad = closed;
+                    break 'lines;
                 }
                 walk = after_line(walk, kind, text, after);
                 at = end + 2;
             }
         }
     }
-    if bad != 0 {
-        return refused(5, walk.line, bad);
+    if bad.code != 0 {
+        return refused(Refusal::at(walk.line as u64, bad));
     }
     ended(walk)
 }

@@ -1,15 +1,16 @@
 -- `volume::check::check_file` meets its contract.
 use borrow.Author.Needs.{needs}
-use mathlib.Core.Path.{_≡_, _∙_}
+use mathlib.Core.Path.{_≡_, sym, ap, _∙_}
 use mathlib.Core.Logic.{⊎-elim}
-use Prim.Native.Nat.{_-_}
+use Prim.Native.Nat.{_-_, _^_, _<_}
 use native.Mathlib.Omega.{arith}
 use borrow.Author.Tests.{not-true, not-false}
 use lib.ListN.{length}
+use Rattle.answers.specs.Meant.{noFaultAt}
 use Rattle.layout.specs.Meant.{kindMeant}
 use Rattle.layout.proofs.PassLaws.{Passing, pass-start, pass-row, pass-few, pass-forward, pass-within, pass-stop, pass-turn, pass-done}
 use Rattle.volume.proofs.WalkLaws.{within-more}
-use Rattle.volume.proofs.FileLaws.{Reading, line-short, read-start, read-opened, read-fields, read-malformed, read-closed, read-turn, read-done}
+use Rattle.volume.proofs.FileLaws.{Reading, line-short, read-start, read-opened, opened-coded, read-fields, read-malformed, read-closed, read-turn, read-kept, read-refused, read-done}
 use Rattle.volume.proofs.check.check_file.Statement.{statement}
 use Rattle.volume.proofs.check.check_file.Tie as tie
 
@@ -17,12 +18,13 @@ pub check-file-spec : {M : Type 1} → statement M
 check-file-spec =
     tie.close
     (tie.spec
-    (λ file ends walk at bad₀ end text fields kind after count k₀ start₀ bad k start. (Passing (kindMeant kind) text ends count k start) × (bad ≡ 0))
+    (λ file ends walk at bad₀ end text fields kind after count k₀ start₀ bad k start. (Passing (kindMeant kind) text ends count k start) × (bad ≡ noFaultAt))
     (λ file ends walk at bad₀ end text fields kind after count k₀ start₀ bad k start. count - k)
-    (λ file ends₀ walk₀ at₀ bad₀ ends walk at bad. (Reading file walk at) × (bad ≡ 0) × (length ends ≡ 32))
+    (λ file ends₀ walk₀ at₀ bad₀ ends walk at bad. (Reading file walk at) × (bad ≡ noFaultAt) × (length ends ≡ 32) × (length file < 2 ^ 63))
     (λ file ends₀ walk₀ at₀ bad₀ ends walk at bad. length file - at)
     (λ c κs. search needs)  -- at-start-requires
-    (λ c. (read-start _ _ (c .at-start .ensures), search needs, search needs))  -- lines-holds
+    (λ c κs. search needs)  -- none-requires
+    (λ c. (read-start _ _ (c .before .at-start .ensures), c .none .ensures, search needs, search needs))  -- lines-holds
     (λ c κs. search needs)  -- plain-end-requires
     (λ c. search needs)  -- sub-text
     (λ c. search needs)  -- part-text-start
@@ -31,9 +33,7 @@ check-file-spec =
     (λ c κs. search needs)  -- split-requires
     (λ c κs. search needs)  -- ends-at-requires
     (λ c κs. c .before .before .split .ensures .0)  -- open-line-requires
-    (λ c. search needs)  -- enum-known-code
-    (λ c κs. search needs)  -- refused-requires
-    (λ c. let o = c .before .before .before .before in let e = o .before .before .before .before .before .before in let l = e .before .before in read-opened _ _ _ _ (e .before .lines-test .taken) (e .plain-end .ensures .0) (l .lines .inv .0) _ (o .before .ends-at .ensures) (o .open-line .result) (o .open-line .ensures) _ _ (c .before .before .code .given .1) _ (c .refused .ensures))  -- returns
+    (λ c. search needs)  -- enum-known-fault
     (λ c. search needs)  -- enum-known-kind
     (λ c κs. search needs)  -- layout-requires
     (λ c. let o = c .before .before .before .before in let e = o .before .before .before .before .before .before in let l = e .before .before in let s = o .before .before .before in (pass-start _ _ _ _ (c .layout .ensures) (record { many = read-fields _ _ _ _ (e .before .lines-test .taken) (e .plain-end .ensures .0) (l .lines .inv .0) _ (o .before .ends-at .ensures) (o .open-line .result) (o .open-line .ensures) _ _ (c .before .before .kind .given .1); noted = s .split .ensures .1; room = omega (arith, s .split .ensures .2) }), l .lines .inv .1))  -- loop-holds
@@ -43,20 +43,20 @@ check-file-spec =
     (λ c. let f = pass-forward _ _ _ _ _ _ (c .before .loop .inv .0) (c .loop-test .taken) in let w = pass-within _ _ _ _ _ _ (c .before .loop .inv .0) (c .loop-test .taken) in search needs)  -- part-sound-at-start
     (λ c. let w = pass-within _ _ _ _ _ _ (c .before .loop .inv .0) (c .loop-test .taken) in search needs)  -- part-sound-at-end
     (λ c κs. let t = c .before in pass-row _ _ _ _ _ _ (t .before .loop .inv .0) (t .loop-test .taken))  -- sound-at-requires
-    (λ c. let t = c .before .before .before in let w = pass-few _ _ _ _ _ _ (t .before .loop .inv .0) (t .loop-test .taken) in search needs)  -- add-bad
-    (λ c. let t = c .before .before .before in let o = t .before .before .before .before .before .before in let e = o .before .before .before .before .before .before in omega (arith, pass-within _ _ _ _ _ _ (t .before .loop .inv .0) (t .loop-test .taken), line-short (e .before .before .before .before .before .args .file .now) (e .before .before .lines .at) (e .plain-end .result)))  -- add-start
+    (λ c. let t = c .before .before .before in let w = pass-few _ _ _ _ _ _ (t .before .loop .inv .0) (t .loop-test .taken) in search needs)  -- add-of-field
+    (λ c κs. search needs)  -- of-field-requires
+    (λ c. let t = c .before .before .before in let o = t .before .before .before .before .before .before in let e = o .before .before .before .before .before .before in let h = e .before .before .lines .inv .3 in omega (arith, pass-within _ _ _ _ _ _ (t .before .loop .inv .0) (t .loop-test .taken), line-short (e .before .before .before .before .before .before .args .file .now) (e .before .before .lines .at) (e .plain-end .result)))  -- add-start
     (λ c. let t = c .before .before .before in let w = pass-few _ _ _ _ _ _ (t .before .loop .inv .0) (t .loop-test .taken) in search needs)  -- add-k
     (λ c. search needs)  -- loop-less
     (λ c. let t = c .before .before .before in (pass-turn _ _ _ _ _ _ (t .before .loop .inv .0) (t .loop-test .taken) _ (c .before .sound-at .ensures) (not-false _ (c .if1 .left)), t .before .loop .inv .1))  -- loop-again
     (λ c. search needs)  -- slice-aggregate-close-line
-    (λ c κs. let t = c .before in let o = t .before .before .before .before .before .before in let e = o .before .before .before .before .before .before in let l = e .before .before in (t .before .loop .inv .0 .parted, pass-done _ _ _ _ _ _ (t .before .loop .inv .0) (t .loop-test .left), (let w = l .lines .inv .0 .within .bodies in omega arith)))  -- close-line-requires
-    (λ c κs. search needs)  -- refused-requires-2
-    (λ c. let t = c .before .before .before .before .before in let o = t .before .before .before .before .before .before in let e = o .before .before .before .before .before .before in let l = e .before .before in read-closed _ _ _ _ (e .before .lines-test .taken) (e .plain-end .ensures .0) (l .lines .inv .0) _ (o .before .ends-at .ensures) (o .open-line .result) (o .open-line .ensures) _ _ (t .before .before .before .before .kind .given .1) (pass-done _ _ _ _ _ _ (t .before .loop .inv .0) (t .loop-test .left)) (c .before .before .before .close-line .result) (c .before .before .before .close-line .ensures) _ (c .before .if2 .taken) (c .refused2 .ensures))  -- returns-2
-    (λ c κs. let t = c .before .before .before .before in let o = t .before .before .before .before .before .before in let e = o .before .before .before .before .before .before in let l = e .before .before in within-more _ _ _ (l .lines .inv .0 .within) (omega (arith, e .before .lines-test .taken)))  -- after-line-requires
-    (λ c. let t = c .before .before .before .before .before in let o = t .before .before .before .before .before .before in let e = o .before .before .before .before .before .before in let l = e .before .before in omega (arith, e .plain-end .ensures .2, e .before .lines-test .taken))  -- add-at
-    (λ c. let t = c .before .before .before .before .before in let o = t .before .before .before .before .before .before in let e = o .before .before .before .before .before .before in let l = e .before .before in omega (arith, e .plain-end .ensures .1, e .plain-end .ensures .2, e .before .lines-test .taken))  -- lines-less
-    (λ c. let t = c .before .before .before .before .before in let o = t .before .before .before .before .before .before in let e = o .before .before .before .before .before .before in let l = e .before .before in (read-turn _ _ _ _ (e .before .lines-test .taken) (e .plain-end .ensures .0) (l .lines .inv .0) _ (o .before .ends-at .ensures) (o .open-line .result) (o .open-line .ensures) _ _ (t .before .before .before .before .kind .given .1) (pass-done _ _ _ _ _ _ (t .before .loop .inv .0) (t .loop-test .left)) (c .before .before .before .close-line .result) (c .before .before .before .close-line .ensures) (c .before .if2 .left) _ (c .after-line .ensures) (e .plain-end .ensures .1) (e .plain-end .ensures .2), t .before .loop .inv .1, o .before .before .before .split .ensures .2 ∙ l .lines .inv .2))  -- lines-again
-    (λ c κs. search needs)  -- refused-requires-3
-    (λ c. ⊎-elim (λ w. absurd (c .before .if3 .taken (w .1 ∙ c .before .before .before .lines .inv .1))) (λ w. read-malformed _ _ _ _ (w .0 .taken) (w .1 .ensures .0) (c .before .before .before .lines .inv .0) _ (w .6 .ensures) (w .7 .result) (w .7 .ensures) _ _ (w .9 .given .1) _ _ _ (pass-stop _ _ _ _ _ _ (w .12 .inv .0) (w .13 .taken) _ (w .15 .ensures) (not-true _ (w .16 .taken))) (w .17) (c .refused3 .ensures)) (c .before .before .lines-test .came))  -- returns-3
+    (λ c κs. let t = c .before in let o = t .before .before .before .before .before .before in let e = o .before .before .before .before .before .before in let l = e .before .before in let h = l .lines .inv .3 in (t .before .loop .inv .0 .parted, pass-done _ _ _ _ _ _ (t .before .loop .inv .0) (t .loop-test .left), (let w = l .lines .inv .0 .within .bodies in omega arith)))  -- close-line-requires
+    (λ c κs. let t = c .before .before .before .before in let o = t .before .before .before .before .before .before in let e = o .before .before .before .before .before .before in let l = e .before .before in let h = l .lines .inv .3 in within-more _ _ _ (l .lines .inv .0 .within) (omega (arith, e .before .lines-test .taken)))  -- after-line-requires
+    (λ c. let t = c .before .before .before .before .before in let o = t .before .before .before .before .before .before in let e = o .before .before .before .before .before .before in let l = e .before .before in let h = l .lines .inv .3 in omega (arith, e .plain-end .ensures .2, e .before .lines-test .taken))  -- add-at
+    (λ c. let t = c .before .before .before .before .before in let o = t .before .before .before .before .before .before in let e = o .before .before .before .before .before .before in let l = e .before .before in let h = l .lines .inv .3 in omega (arith, e .plain-end .ensures .1, e .plain-end .ensures .2, e .before .lines-test .taken))  -- lines-less
+    (λ c. let t = c .before .before .before .before .before in let o = t .before .before .before .before .before .before in let e = o .before .before .before .before .before .before in let l = e .before .before in (read-turn _ _ _ _ (e .before .lines-test .taken) (e .plain-end .ensures .0) (l .lines .inv .0) _ (o .before .ends-at .ensures) (o .open-line .result) (o .open-line .ensures) _ _ (t .before .before .before .before .kind .given .1) (pass-done _ _ _ _ _ _ (t .before .loop .inv .0) (t .loop-test .left)) (c .before .before .before .close-line .result) (c .before .before .before .close-line .ensures) (c .before .if2 .left) _ (c .after-line .ensures) (e .plain-end .ensures .1) (e .plain-end .ensures .2), t .before .loop .inv .1, o .before .before .before .split .ensures .2 ∙ l .lines .inv .2, l .lines .inv .3))  -- lines-again
+    (λ c κs. search needs)  -- at-requires
+    (λ c κs. search needs)  -- refused-requires
+    (λ c. let b = c .before .before in let k = b .before .before in let l = k .before in read-refused _ _ _ _ _ (⊎-elim (λ w. absurd (b .if3 .taken (ap (λ f. f .code) (w .1 ∙ l .lines .inv .1)))) (⊎-elim (λ w. read-kept _ _ _ _ (w .11) (read-opened _ _ _ _ (w .0 .taken) (w .1 .ensures .0) (l .lines .inv .0) _ (w .6 .ensures) (w .7 .result) (w .7 .ensures) _ (w .9 .given .1))) (⊎-elim (λ w. read-kept _ _ _ _ (w .18 ∙ w .17 .ensures) (read-malformed _ _ _ _ (w .0 .taken) (w .1 .ensures .0) (l .lines .inv .0) _ (w .6 .ensures) (w .7 .result) (w .7 .ensures) _ _ (w .9 .given .1) _ (pass-stop _ _ _ _ _ _ (w .12 .inv .0) (w .13 .taken) _ (w .15 .ensures) (not-true _ (w .16 .taken))))) (λ w. read-kept _ _ _ _ (w .18) (read-closed _ _ _ _ (w .0 .taken) (w .1 .ensures .0) (l .lines .inv .0) _ (w .6 .ensures) (w .7 .result) (w .7 .ensures) _ _ (w .9 .given .1) (pass-done _ _ _ _ _ _ (w .12 .inv .0) (w .13 .left)) (w .15 .result) (w .15 .ensures) (w .17 .taken))))) (k .lines-test .came)) (c .before .at .ensures) (c .refused .ensures))  -- returns
     (λ c κs. search needs)  -- ended-requires
-    (λ c. ⊎-elim (λ w. read-done _ _ _ _ (c .before .before .before .lines .inv .0) (w .0 .left) (c .ended .ensures)) (λ w. absurd (omega (arith, w .17, c .before .if3 .left))) (c .before .before .lines-test .came)))  -- returns-4
+    (λ c. let b = c .before in let k = b .before .before in let l = k .before in ⊎-elim (λ w. read-done _ _ _ _ (l .lines .inv .0) (w .0 .left) (c .ended .ensures)) (⊎-elim (λ w. absurd (opened-coded _ _ _ _ (w .0 .taken) (w .1 .ensures .0) (l .lines .inv .0) _ (w .6 .ensures) (w .7 .result) (w .7 .ensures) _ (w .9 .given .1) (ap (λ f. f .code) (sym (w .11)) ∙ b .if3 .left))) (⊎-elim (λ w. absurd (omega (arith, ap (λ f. f .code) (w .18 ∙ w .17 .ensures), b .if3 .left))) (λ w. absurd (w .17 .taken (ap (λ f. f .code) (sym (w .18)) ∙ b .if3 .left))))) (k .lines-test .came)))  -- returns-2

@@ -8,12 +8,13 @@ ended-spec =
     tie.close
     (tie.spec
     (λ c. search ends)  -- enum-told
-    (λ c κs. search ends)  -- refused-requires
+    (λ c κs. search ends)  -- unended-requires
     (λ c. search ends)  -- enum-told-2
-    (λ c κs. search ends)  -- refused-requires-2
+    (λ c κs. search ends)  -- unended-requires-2
     (λ c. search ends)  -- enum-told-3
-    (λ c κs. search ends)  -- refused-requires-3
+    (λ c κs. search ends)  -- unended-requires-3
     (λ c. search ends)  -- enum-told-4
+    (λ c κs. search ends)  -- taken-requires
     (λ c. search ends)  -- returns
     (λ c. search ends)  -- returns-2
     (λ c. search ends)  -- returns-3

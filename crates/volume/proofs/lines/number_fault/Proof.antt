@@ -1,4 +1,6 @@
 -- `volume::lines::number_fault` meets its contract.
+use borrow.Author.Needs.{needs}
+use mathlib.Core.Path.{_∙_}
 use Rattle.base.specs.Lists.{ask}
 use Rattle.volume.proofs.lines.number_fault.Statement.{statement}
 use Rattle.volume.proofs.lines.number_fault.Tie as tie
@@ -8,5 +10,7 @@ unfolding ask
 number-fault-spec =
     tie.close
     (tie.spec
-    (λ c. cc)  -- returns
-    (λ c. cc))  -- returns-2
+    (λ c κs. search needs)  -- none-requires
+    (λ c. c .none .ensures ∙ rw (c .before .if1 .taken))  -- returns
+    (λ c κs. search needs)  -- of-field-requires
+    (λ c. c .of-field .ensures ∙ rw (c .before .if1 .left)))  -- returns-2
