@@ -7,15 +7,15 @@ use Rattle.theory.specs.Answer.{took, refused}
 use Rattle.meaning.specs.Table.{scottish}
 use Rattle.meaning.specs.Holding.{written}
 use Rattle.meaning.specs.Load.{load, thenZeros, applied, apply}
-use Rattle.meaning.specs.Answers.{Answer}
+use Rattle.meaning.specs.Answers.{Answer, numbersOf}
 use Rattle.places.specs.Places.{says}
 use Rattle.answers.specs.declared.numbers.Answer.{Answer as Answer′}
 use Rattle.answers.specs.Meant.{answerOf}
 use Rattle.loader.specs.declared.load.Loaded.{Loaded}
-use Rattle.loader.specs.Loaded.{numbers, Loads}
+use Rattle.loader.specs.Loaded.{Loads}
 use Rattle.apply.specs.Outcome.{Outcome}
 
-numbers-applied : (room : ℕ) (x : Answer) → numbers x ≡ applied room x .answer
+numbers-applied : (room : ℕ) (x : Answer) → numbersOf x ≡ applied room x .answer
 unfolding applied
 numbers-applied room (took new n) = refl
 numbers-applied room (refused r) = refl
@@ -30,7 +30,7 @@ module _ (h f b t u : List ℕ) (room : ℕ) (r : Loaded) (w : Loads h f b t u r
   unfolding apply
   apply-refused a out n p e = (p ∙ answers, e ∙ go (load scottish room h f) (w .answered))
     where
-      go : (x : Answer) → r .answer ≡ answerOf (numbers x) → zeros room ≡ applied room x .output
+      go : (x : Answer) → r .answer ≡ answerOf (numbersOf x) → zeros room ≡ applied room x .output
       go (took new m) q = absurd (n (ap (λ y. y .code) q))
       go (refused r) q = unfold applied in refl
 

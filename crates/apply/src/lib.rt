@@ -24,7 +24,7 @@ pub fn fill(out: &mut [u8], holding: &[u8], file: &[u8], places: &[u64], count: 
     text::put::zeros(&mut out[end..]);
 }
 
-// Takes a file into a holding: the six numbers, and the new holding or zeros in the output.
+// Takes a file into a holding: the numbers, and the new holding or zeros in the output.
 pub fn apply(holding: &[u8], file: &[u8], out: &mut [u8]) -> Answer
     ensures { λ r. ⌜ Outcome (now (holding .entry)) (now (file .entry)) (length (now (out .entry))) r (now (out .exit)) ⌝ }
 {

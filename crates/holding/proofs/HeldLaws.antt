@@ -18,7 +18,9 @@ use Rattle.meaning.specs.Lines.{Line, endsWell, fieldsOf, identifier, hasFields
 use Rattle.meaning.specs.Kinds.{Kind, role}
 use Rattle.meaning.specs.Format.{kindOf, named, placeFrom, startDate, endDate}
 use Rattle.meaning.specs.Table.{fields, scottish}
-use Rattle.meaning.specs.Sound as meant
+use Rattle.meaning.specs.Codes.{fieldCountWrong, fieldMalformed, endBeforeStart}
+use Rattle.meaning.specs.Answers as meant
+use Rattle.meaning.specs.Answers.{ofLine, ofField}
 use Rattle.meaning.specs.Sound.{datesAgree, fieldFault, formFault}
 use Rattle.meaning.specs.Records.{contentOf, letter}
 use Rattle.meaning.specs.Holding.{isHeld, isSound, heldTest, heldKind, heldLine}
@@ -59,7 +61,7 @@ no-code k t f e z =
     (go (hasFields (length (fields k)) t) (eqb n 0) (datesAgree (named startDate (fields k) (fieldsOf t)) (named endDate (fields k) (fieldsOf t))) (placeFrom 1 endDate (fields k)) n
     (rw (forms-is 0 (fields k) (fieldsOf t) _) at u))
   where
-    go : (a b c : Bool) (x y : ℕ) → told (ask {A = meant.Fault} a (4, 0) (pick b (ask c (6, x) none) (some (5, y)))) .code ≡ 0 → isSound (ask a (4, 0) (pick b (ask c (6, x) none) (some (5, y)))) ≡ true
+    go : (a b c : Bool) (x y : ℕ) → told (ask {A = meant.Fault} a (ofLine fieldCountWrong) (pick b (ask c (ofField endBeforeStart x) none) (some (ofField fieldMalformed y)))) .code ≡ 0 → isSound (ask a (ofLine fieldCountWrong) (pick b (ask c (ofField endBeforeStart x) none) (some (ofField fieldMalformed y)))) ≡ true
     go true true true x y z = unfold ask isSound in refl
     go true true false x y z = unfold ask isSound in absurd (omega (arith, z))
     go true false c x y z = unfold ask isSound in absurd (omega (arith, z))

@@ -39,6 +39,10 @@ use Rattle.places.proofs.CountLaws.{refs-few, tally-few, tally-more, by-cong, b
 use Rattle.holding.specs.declared.read.Held.{Held}
 use Rattle.holding.specs.Read.{faultOf, recordsOf, Listed, ReadAs, CountsAs, HeldIs}
 use Rattle.answers.specs.Meant.{verdictOf}
+use Rattle.meaning.specs.Codes.{holdingUnsound}
+use Rattle.meaning.specs.Answers.{ofLine, atLine, noFault, threeOf}
+use Rattle.answers.specs.declared.numbers.Verdict.{Verdict}
+use Rattle.answers.proofs.RefusalLaws.{faulted-made}
 
 -- ---- references, i records on
 
@@ -256,17 +260,17 @@ module _ (h a g t : List ℕ) (r : Held) (s : HeldIs h r a g t) (z : r .line ≡
 
 module _ (h a g t : List ℕ) (r : Held) (s : HeldIs h r a g t) where
   -- a sound holding
-  pub check-sound : r .line ≡ 0 → record { code = 0; line = 0; field = 0 } ≡ verdictOf (checkHolding scottish h)
+  pub check-sound : r .line ≡ 0 → (v : Verdict) → v ≡ verdictOf noFault → v ≡ verdictOf (checkHolding scottish h)
   unfolding checkHolding heldNumbers
-  check-sound z = rw (held-sound h (sym (s .line) ∙ z))
+  check-sound z v e = e ∙ rw (held-sound h (sym (s .line) ∙ z))
 
   -- an unsound one
-  pub check-unsound : (r .line ≡ 0 → ⊥) → record { code = 14; line = r .line; field = 0 } ≡ verdictOf (checkHolding scottish h)
+  pub check-unsound : (r .line ≡ 0 → ⊥) → (v : Verdict) → v ≡ verdictOf (threeOf (atLine (r .line) (ofLine holdingUnsound))) → v ≡ verdictOf (checkHolding scottish h)
   unfolding checkHolding
-  check-unsound m = go (readHolding scottish h) (s .line)
+  check-unsound m v e = e ∙ go (readHolding scottish h) (s .line)
     where
-      go : (w : meaning.Held) → r .line ≡ faultOf w → record { code = 14; line = r .line; field = 0 } ≡ verdictOf (heldNumbers w)
+      go : (w : meaning.Held) → r .line ≡ faultOf w → verdictOf (threeOf (atLine (r .line) (ofLine holdingUnsound))) ≡ verdictOf (heldNumbers w)
       go (sound st) e = absurd (m (unfold faultOf in e))
       go (unsound n) e = unfold faultOf heldNumbers in (rw e)
 
-pub ruleset checks = (needs, check-sound, check-unsound)
+pub ruleset checks = (needs, faulted-made, check-sound, check-unsound)

@@ -258,13 +258,13 @@ module _ (h : List ℕ) (at e : ℕ) (g : at < length h) (q : e ≡ plainEnd h a
         record { line = rw w (add-one n); listed = λ z. absurd (omega (arith, z)); tagged = λ z. absurd (omega (arith, z)) }
 
     -- there is room for the start of one that is taken, and for its tag
-    pub scan-room : (j : Key) (o : List ℕ) → x ≡ Taken j → most ≤ length o → n < length o
+    pub scan-room : (j : Key) (o : List ℕ) → x ≡ Taken j → mostRecords ≤ length o → n < length o
     scan-room j o y l =
         let t : Took (suc n) (s .lo) (recordUpTo h at e (suc n)) (λ r. scan scottish (suc (suc n)) (some (keyOf scottish r)) rest) (keyList j) = rw y at found in
         omega (arith, t .few)
 
     -- and it leaves those after it
-    pub scan-turn : (j : Key) (i : ℕ) → x ≡ Taken j → most ≤ length a → most ≤ length c → i ≡ tagOf (keyList j) → Scanning h (set a n (2 * at)) (set c n i) (n + 1) (e + 2) (keyList j)
+    pub scan-turn : (j : Key) (i : ℕ) → x ≡ Taken j → mostRecords ≤ length a → mostRecords ≤ length c → i ≡ tagOf (keyList j) → Scanning h (set a n (2 * at)) (set c n i) (n + 1) (e + 2) (keyList j)
     scan-turn j i y l o p =
         let t : Took (suc n) (s .lo) (recordUpTo h at e (suc n)) (λ r. scan scottish (suc (suc n)) (some (keyOf scottish r)) rest) (keyList j) = rw y at found in
         let r : Rec = t .taken in
@@ -284,7 +284,7 @@ module _ (h : List ℕ) (at e : ℕ) (g : at < length h) (q : e ≡ plainEnd h a
         beside-key r f z g = unfold above in (ap isLt (key-agrees r z f g))
 
 -- at the end all lines are sound and in order
-pub scan-done : (h a c k : List ℕ) (n at : ℕ) → Scanning h a c n at k → length h ≤ at → most ≤ length a → ReadAs h (scan scottish 1 none (linesOf h)) (record { line = 0; count = n }) a c
+pub scan-done : (h a c k : List ℕ) (n at : ℕ) → Scanning h a c n at k → length h ≤ at → mostRecords ≤ length a → ReadAs h (scan scottish 1 none (linesOf h)) (record { line = 0; count = n }) a c
 unfolding scan faultOf recordsOf
 scan-done h a c k n at s g l =
     let w : meaning.scan scottish 1 none (linesOf h) ≡ sound (says h h a n) = s .left ∙ rw (lines-end h at g, append-nil) in
@@ -304,7 +304,7 @@ pub starts-same : (o a : List ℕ) (i v : ℕ) → length a ≡ length o → len
 starts-same o a i v e = rw length-set e
 
 -- so there is still room
-pub starts-room : (a : List ℕ) (i v : ℕ) → most ≤ length a → most ≤ length (set a i v)
+pub starts-room : (a : List ℕ) (i v : ℕ) → mostRecords ≤ length a → mostRecords ≤ length (set a i v)
 starts-room a i v l = rw length-set l
 
 pub ruleset scanning = (needs, scan-start, scan-stop, scan-room, scan-turn, scan-done, starts-same, starts-room)

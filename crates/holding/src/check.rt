@@ -3,15 +3,13 @@ ghost use mathlib.Core.Path.{_≡_};
 ghost use Rattle.meaning.specs.Table.{scottish};
 ghost use Rattle.meaning.specs.Load.{checkHolding};
 ghost use Rattle.answers.specs.Meant.{verdictOf};
+use answers::codes::HOLDING_UNSOUND;
+use answers::numbers::Verdict;
+use answers::numbers::faulted;
+use answers::numbers::passed;
+use answers::refusal::Refusal;
 use crate::read::read_holding;
 use layout::limits::Holding;
-
-// Code, line, field.
-pub struct Verdict {
-    pub code: u64,
-    pub line: usize,
-    pub field: usize,
-}
 
 // The check of a holding.
 pub fn check_holding(holding: &[u8]) -> Verdict
@@ -22,15 +20,7 @@ pub fn check_holding(holding: &[u8]) -> Verdict
     let mut counts = [0u16; Holding::MOST_LINES];
     let held = read_holding(holding, &mut starts, &mut tags, &mut counts);
     if held.line == 0 {
-        return Verdict {
-            code: 0,
-            line: 0,
-            field: 0,
-        };
+        return passed();
     }
-    Verdict {
-        code: 14,
-        line: held.line,
-        field: 0,
-    }
+    faulted(Refusal::of_line(held.line as u64, HOLDING_UNSOUND))
 }

@@ -11,7 +11,7 @@ use mir.Syntax.{w64}
 use mir.Val.{Fits}
 use lib.Dec.{T, leb, leb→le, eqb, eqb→eq}
 use lib.ListN.{length, getD, length-append}
-use Rattle.base.specs.Lists.{all, some?, bytes, ask}
+use Rattle.base.specs.Lists.{all, some?, bytes, ask, atMost}
 use Rattle.base.specs.Tests.{and-l, and-r, T-true}
 use Rattle.theory.specs.Store.{get, put}
 use Rattle.theory.specs.Refs.{has, meets, clear}
@@ -24,10 +24,11 @@ use Rattle.meaning.specs.Kinds.{Kind, kinds, ident}
 use Rattle.meaning.specs.Table.{scottish}
 use Rattle.meaning.specs.Records.{Rec, keyed, keyOf, refsOf, letter}
 use Rattle.meaning.specs.Holding.{written, mostRecords}
-use Rattle.meaning.specs.Steps.{few, stepRules}
+use Rattle.meaning.specs.Steps.{few, stepCode}
 use Rattle.laws.specs.Kinds.{every}
 use Rattle.laws.specs.Body.{fine}
 use Rattle.laws.specs.FastStep.{printed, written-render, written-length, fast-step}
+use Rattle.meaning.specs.Codes.{keyHeld, keyAbsent, referenceUnmet, holdingTooLong, tooManyRecords}
 use Rattle.keys.specs.Numbers.{keyNumbers, refNumbers, numbered}
 use Rattle.keys.specs.KeyLaws.{clear-agree}
 use Rattle.entries.specs.Entries.{recordOf}
@@ -82,9 +83,9 @@ module _ (h f a tags : List ℕ) (room : ℕ) (s : State) (y : Holds h f a tags 
   holds-counted = sym (length-says h f a (s .count) (y .ordered .within))
 
   -- there are not too many
-  pub holds-few : s .count ≤ most
-  unfolding few
-  holds-few = omega (arith, holds-counted, leb→le (length (says h f a (s .count))) most (and-l (few (says h f a (s .count))) _ (y .pass)))
+  pub holds-few : s .count ≤ mostRecords
+  unfolding atMost
+  holds-few = omega (arith, holds-counted, leb→le (length (says h f a (s .count))) mostRecords (and-l (few (says h f a (s .count))) _ (y .pass)))
 
   -- the bytes fit the room
   pub holds-fits : s .size ≤ room
@@ -124,43 +125,43 @@ module _ (h f a tags : List ℕ) (room : ℕ) (s : State) (y : Holds h f a tags 
     pub place-in : p .stands ≡ true → p .place < length a
     place-in t = omega (arith, (y .ordered .within), stands-in h f a (s .count) (p .place) (keyNumbers (recordOf h f v)) (y .ordered .within) (q .placed) (some? (get numbered (keyNumbers (recordOf h f v)) (says h f a (s .count)))) refl (T-true _ (stood t)))
 
-    refused : (o : Op) (w z : ℕ) → w ≡ codeNumber (judge (keyed scottish) (stepRules scottish room) (says h f a (s .count)) (change o (recordOf h f v))) → (w ≡ 0 → ⊥)
+    refused : (o : Op) (w z : ℕ) → w ≡ codeNumber (stepCode scottish room (says h f a (s .count)) (change o (recordOf h f v))) → (w ≡ 0 → ⊥)
         → Judges h f a room (change o (recordOf h f v)) s (record { code = w; place = p .place; size = z })
     refused o w z e n = record { coded = e; placed = q .placed; within = q .within; sized = λ u. absurd (n u) }
 
-    taken : (o : Op) (z : ℕ) → judge (keyed scottish) (stepRules scottish room) (says h f a (s .count)) (change o (recordOf h f v)) ≡ none → z ≡ length (written (after (keyed scottish) (says h f a (s .count)) (change o (recordOf h f v))))
+    taken : (o : Op) (z : ℕ) → stepCode scottish room (says h f a (s .count)) (change o (recordOf h f v)) ≡ none → z ≡ length (written (after (keyed scottish) (says h f a (s .count)) (change o (recordOf h f v))))
         → Judges h f a room (change o (recordOf h f v)) s (record { code = 0; place = p .place; size = z })
     taken o z e n = record { coded = rw e; placed = q .placed; within = q .within; sized = λ u. n }
 
     -- ---- insert
 
-    told-ins : judge (keyed scottish) (stepRules scottish room) (says h f a (s .count)) (change ins (recordOf h f v))
-        ≡ ask (not (some? (get (keyed scottish) (keyOf scottish (recordOf h f v)) (says h f a (s .count))))) 10
-        (ask (leb (suc (length (says h f a (s .count)))) mostRecords) 16
-        (ask (meets (keyed scottish) (refsOf scottish) (says h f a (s .count)) (recordOf h f v)) 12
-        (ask (leb (length (render printed (says h f a (s .count))) + bare printed (recordOf h f v) + width (suc (length (says h f a (s .count))))) room) 13 none)))
+    told-ins : stepCode scottish room (says h f a (s .count)) (change ins (recordOf h f v))
+        ≡ ask (not (some? (get (keyed scottish) (keyOf scottish (recordOf h f v)) (says h f a (s .count))))) keyHeld
+        (ask (leb (suc (length (says h f a (s .count)))) mostRecords) tooManyRecords
+        (ask (meets (keyed scottish) (refsOf scottish) (says h f a (s .count)) (recordOf h f v)) referenceUnmet
+        (ask (leb (length (render printed (says h f a (s .count))) + bare printed (recordOf h f v) + width (suc (length (says h f a (s .count))))) room) holdingTooLong none)))
     unfolding fast fewAfter metAfter sizeAfter
     told-ins = fast-step scottish room (says h f a (s .count)) (change ins (recordOf h f v)) (y .ordered .asc) (y .pass)
 
     -- a key that stands is not inserted
-    pub ins-held : p .stands ≡ true → Judges h f a room (change ins (recordOf h f v)) s (record { code = 10; place = p .place; size = s .size })
+    pub ins-held : p .stands ≡ true → Judges h f a room (change ins (recordOf h f v)) s (record { code = keyHeld; place = p .place; size = s .size })
     unfolding ask
-    ins-held t = refused ins 10 (s .size) (rw (told-ins, ← q .there, t)) (λ e. omega arith)
+    ins-held t = refused ins keyHeld (s .size) (rw (told-ins, ← q .there, t)) (λ e. omega arith)
 
     module _ (t : p .stands ≡ false) (limit : ℕ) (limited : limit ≡ mostRecords) where
       -- 8,192 records are enough
-      pub ins-many : limit ≤ s .count → Judges h f a room (change ins (recordOf h f v)) s (record { code = 16; place = p .place; size = s .size })
+      pub ins-many : limit ≤ s .count → Judges h f a room (change ins (recordOf h f v)) s (record { code = tooManyRecords; place = p .place; size = s .size })
       unfolding ask
-      ins-many m = refused ins 16 (s .size) (rw (told-ins, ← q .there, t, lt-leb (suc (length (says h f a (s .count)))) most (omega (arith, holds-counted)))) (λ e. omega arith)
+      ins-many m = refused ins tooManyRecords (s .size) (rw (told-ins, ← q .there, t, lt-leb (suc (length (says h f a (s .count)))) mostRecords (omega (arith, holds-counted)))) (λ e. omega arith)
 
       module _ (m : s .count < limit) (b : Bool) (r : b ≡ meets (keyed scottish) (refsOf scottish) (says h f a (s .count)) (recordOf h f v)) where
-        few-ok : leb (suc (length (says h f a (s .count)))) most ≡ true
-        few-ok = le-leb (suc (length (says h f a (s .count)))) most (omega (arith, holds-counted))
+        few-ok : leb (suc (length (says h f a (s .count)))) mostRecords ≡ true
+        few-ok = le-leb (suc (length (says h f a (s .count)))) mostRecords (omega (arith, holds-counted))
 
         -- its references must be met
-        pub ins-unmet : b ≡ false → Judges h f a room (change ins (recordOf h f v)) s (record { code = 12; place = p .place; size = s .size })
+        pub ins-unmet : b ≡ false → Judges h f a room (change ins (recordOf h f v)) s (record { code = referenceUnmet; place = p .place; size = s .size })
         unfolding ask
-        ins-unmet u = refused ins 12 (s .size) (rw (told-ins, ← q .there, t, few-ok, ← r, u)) (λ e. omega arith)
+        ins-unmet u = refused ins referenceUnmet (s .size) (rw (told-ins, ← q .there, t, few-ok, ← r, u)) (λ e. omega arith)
 
         module _ (u : b ≡ true) (l w : ℕ) (d : l ≡ length (recordOf h f v .content)) (e : w ≡ width (s .count + 1)) where
           wider : width (suc (length (says h f a (s .count)))) ≡ w
@@ -172,9 +173,9 @@ module _ (h f a tags : List ℕ) (room : ℕ) (s : State) (y : Holds h f a tags 
           grown = omega (arith, rendered, bare-is (recordOf h f v), wider)
 
           -- it must fit
-          pub ins-long : room - s .size < l + 10 + w → Judges h f a room (change ins (recordOf h f v)) s (record { code = 13; place = p .place; size = s .size })
+          pub ins-long : room - s .size < l + 10 + w → Judges h f a room (change ins (recordOf h f v)) s (record { code = holdingTooLong; place = p .place; size = s .size })
           unfolding ask
-          ins-long x = refused ins 13 (s .size) (rw (told-ins, ← q .there, t, few-ok, ← r, u, grown, lt-leb (s .size + (l + 10 + w)) room (omega (arith, y .fits)))) (λ e. omega arith)
+          ins-long x = refused ins holdingTooLong (s .size) (rw (told-ins, ← q .there, t, few-ok, ← r, u, grown, lt-leb (s .size + (l + 10 + w)) room (omega (arith, y .fits)))) (λ e. omega arith)
 
           ins-sized : s .size + (l + 10 + w) ≡ length (written (after (keyed scottish) (says h f a (s .count)) (change ins (recordOf h f v))))
           unfolding after
@@ -188,22 +189,22 @@ module _ (h f a tags : List ℕ) (room : ℕ) (s : State) (y : Holds h f a tags 
     -- ---- update
 
     -- a key that stands nowhere is not updated
-    pub upd-absent : p .stands ≡ false → Judges h f a room (change upd (recordOf h f v)) s (record { code = 11; place = p .place; size = s .size })
+    pub upd-absent : p .stands ≡ false → Judges h f a room (change upd (recordOf h f v)) s (record { code = keyAbsent; place = p .place; size = s .size })
     unfolding ask fast
-    upd-absent t = refused upd 11 (s .size) (rw (fast-step scottish room (says h f a (s .count)) (change upd (recordOf h f v)) (y .ordered .asc) (y .pass), at-none t)) (λ e. omega arith)
+    upd-absent t = refused upd keyAbsent (s .size) (rw (fast-step scottish room (says h f a (s .count)) (change upd (recordOf h f v)) (y .ordered .asc) (y .pass), at-none t)) (λ e. omega arith)
 
     module _ (t : p .stands ≡ true) where
-      told-upd : judge (keyed scottish) (stepRules scottish room) (says h f a (s .count)) (change upd (recordOf h f v))
-          ≡ ask (meets (keyed scottish) (refsOf scottish) (says h f a (s .count)) (recordOf h f v)) 12
-          (ask (leb (length (render printed (says h f a (s .count))) + bare printed (recordOf h f v) - bare printed (recordOf h f (getD a (p .place) 0))) room) 13 none)
+      told-upd : stepCode scottish room (says h f a (s .count)) (change upd (recordOf h f v))
+          ≡ ask (meets (keyed scottish) (refsOf scottish) (says h f a (s .count)) (recordOf h f v)) referenceUnmet
+          (ask (leb (length (render printed (says h f a (s .count))) + bare printed (recordOf h f v) - bare printed (recordOf h f (getD a (p .place) 0))) room) holdingTooLong none)
       unfolding fast fewAfter metAfter sizeAfter ask
       told-upd = fast-step scottish room (says h f a (s .count)) (change upd (recordOf h f v)) (y .ordered .asc) (y .pass) ∙ rw (at-some t)
 
       module _ (b : Bool) (r : b ≡ meets (keyed scottish) (refsOf scottish) (says h f a (s .count)) (recordOf h f v)) where
         -- its references must be met
-        pub upd-unmet : b ≡ false → Judges h f a room (change upd (recordOf h f v)) s (record { code = 12; place = p .place; size = s .size })
+        pub upd-unmet : b ≡ false → Judges h f a room (change upd (recordOf h f v)) s (record { code = referenceUnmet; place = p .place; size = s .size })
         unfolding ask
-        upd-unmet u = refused upd 12 (s .size) (rw (told-upd, ← r, u)) (λ e. omega arith)
+        upd-unmet u = refused upd referenceUnmet (s .size) (rw (told-upd, ← r, u)) (λ e. omega arith)
 
         module _ (l n : ℕ) (d : l ≡ length (recordOf h f (getD a (p .place) 0) .content)) (e : n ≡ length (recordOf h f v .content)) where
           upd-sized : length (written (after (keyed scottish) (says h f a (s .count)) (change upd (recordOf h f v)))) + l ≡ s .size + n
@@ -224,9 +225,9 @@ module _ (h f a tags : List ℕ) (room : ℕ) (s : State) (y : Holds h f a tags 
             upd-shorter x = taken upd (s .size - (l - n)) (rw (told-upd, ← r, u, upd-changed, le-leb (s .size + n - l) room (omega (arith, y .fits)))) (omega (arith, upd-sized))
 
             -- a longer one must fit
-            pub upd-long : l < n → room - s .size < n - l → Judges h f a room (change upd (recordOf h f v)) s (record { code = 13; place = p .place; size = s .size })
+            pub upd-long : l < n → room - s .size < n - l → Judges h f a room (change upd (recordOf h f v)) s (record { code = holdingTooLong; place = p .place; size = s .size })
             unfolding ask
-            upd-long x z = refused upd 13 (s .size) (rw (told-upd, ← r, u, upd-changed, lt-leb (s .size + n - l) room (omega (arith, y .fits)))) (λ e. omega arith)
+            upd-long x z = refused upd holdingTooLong (s .size) (rw (told-upd, ← r, u, upd-changed, lt-leb (s .size + n - l) room (omega (arith, y .fits)))) (λ e. omega arith)
 
             -- else it is taken
             pub upd-longer : l < n → n - l ≤ room - s .size → Judges h f a room (change upd (recordOf h f v)) s (record { code = 0; place = p .place; size = s .size + (n - l) })
@@ -236,14 +237,14 @@ module _ (h f a tags : List ℕ) (room : ℕ) (s : State) (y : Holds h f a tags 
     -- ---- delete
 
     -- a key that stands nowhere is not deleted
-    pub del-absent : p .stands ≡ false → Judges h f a room (change del (recordOf h f v)) s (record { code = 11; place = p .place; size = s .size })
+    pub del-absent : p .stands ≡ false → Judges h f a room (change del (recordOf h f v)) s (record { code = keyAbsent; place = p .place; size = s .size })
     unfolding ask fast
-    del-absent t = refused del 11 (s .size) (rw (fast-step scottish room (says h f a (s .count)) (change del (recordOf h f v)) (y .ordered .asc) (y .pass), at-none t)) (λ e. omega arith)
+    del-absent t = refused del keyAbsent (s .size) (rw (fast-step scottish room (says h f a (s .count)) (change del (recordOf h f v)) (y .ordered .asc) (y .pass), at-none t)) (λ e. omega arith)
 
     module _ (t : p .stands ≡ true) where
-      told-del : judge (keyed scottish) (stepRules scottish room) (says h f a (s .count)) (change del (recordOf h f v))
-          ≡ ask (all (clear (keyed scottish) (refsOf scottish) (keyOf scottish (recordOf h f v))) (says h f a (s .count))) 12
-          (ask (leb (length (render printed (says h f a (s .count))) - bare printed (recordOf h f (getD a (p .place) 0)) - width (length (says h f a (s .count)))) room) 13 none)
+      told-del : stepCode scottish room (says h f a (s .count)) (change del (recordOf h f v))
+          ≡ ask (all (clear (keyed scottish) (refsOf scottish) (keyOf scottish (recordOf h f v))) (says h f a (s .count))) referenceUnmet
+          (ask (leb (length (render printed (says h f a (s .count))) - bare printed (recordOf h f (getD a (p .place) 0)) - width (length (says h f a (s .count)))) room) holdingTooLong none)
       unfolding fast fewAfter metAfter sizeAfter ask
       told-del = fast-step scottish room (says h f a (s .count)) (change del (recordOf h f v)) (y .ordered .asc) (y .pass) ∙ rw (at-some t)
 
@@ -262,9 +263,9 @@ module _ (h f a tags : List ℕ) (room : ℕ) (s : State) (y : Holds h f a tags 
         seen = sym (clear-all (recordOf h f v) (says h f a (s .count)) g (y .ordered .fines)) ∙ clear-tally (keyNumbers (recordOf h f v)) (says h f a (s .count)) ∙ ap (λ n. eqb n 0) (sym counts)
 
         -- no record may refer to the one that goes
-        pub del-met : (getD c (p .place) 0 ≡ 0 → ⊥) → Judges h f a room (change del (recordOf h f v)) s (record { code = 12; place = p .place; size = s .size })
+        pub del-met : (getD c (p .place) 0 ≡ 0 → ⊥) → Judges h f a room (change del (recordOf h f v)) s (record { code = referenceUnmet; place = p .place; size = s .size })
         unfolding ask
-        del-met u = refused del 12 (s .size) (rw (told-del, seen, ne-eqb (getD c (p .place) 0) 0 u)) (λ e. omega arith)
+        del-met u = refused del referenceUnmet (s .size) (rw (told-del, seen, ne-eqb (getD c (p .place) 0) 0 u)) (λ e. omega arith)
 
       module _ (l w : ℕ) (d : l ≡ length (recordOf h f (getD a (p .place) 0) .content)) (e : w ≡ width (s .count)) where
         narrower : width (length (says h f a (s .count))) ≡ w

@@ -12,7 +12,7 @@ use Rattle.theory.specs.Step.{Change, passes, judge, after}
 use Rattle.meaning.specs.Table.{scottish}
 use Rattle.meaning.specs.Records.{Rec, keyed, keyOf}
 use Rattle.meaning.specs.Holding.{written, mostRecords}
-use Rattle.meaning.specs.Steps.{stepRules, heldTests}
+use Rattle.meaning.specs.Steps.{heldTests, stepCode}
 use Rattle.keys.specs.Numbers.{keyNumbers, numbered}
 use Rattle.entries.specs.Entries.{recordOf}
 use Rattle.places.specs.Places.{says}
@@ -57,7 +57,7 @@ pub record Finds (h f a : List ℕ) (n v : ℕ) (r : Found) : Type 0 where
 
 -- the code of a change over the state, the place of its key, and the bytes after it where it is not refused
 pub record Judges (h f a : List ℕ) (room : ℕ) (c : Change Rec) (s : State) (r : Judged) : Type 0 where
-  pub coded : r .code ≡ codeNumber (judge (keyed scottish) (stepRules scottish room) (says h f a (s .count)) c)
+  pub coded : r .code ≡ codeNumber (stepCode scottish room (says h f a (s .count)) c)
   pub placed : r .place ≡ rank numbered (keyNumbers (c .rec)) (says h f a (s .count))
   pub within : r .place ≤ s .count
   pub sized : r .code ≡ 0 → r .size ≡ length (written (after (keyed scottish) (says h f a (s .count)) c))

@@ -8,6 +8,12 @@ ghost use Rattle.entries.specs.Entries.{recordOf};
 ghost use Rattle.places.specs.Ordered.{Ordered};
 ghost use Rattle.places.specs.Changes.{change};
 ghost use Rattle.judge.specs.Ready.{Holds, Ready, Finds, Judges};
+use answers::codes::ALL_DONE;
+use answers::codes::HOLDING_TOO_LONG;
+use answers::codes::KEY_ABSENT;
+use answers::codes::KEY_HELD;
+use answers::codes::REFERENCE_UNMET;
+use answers::codes::TOO_MANY_RECORDS;
 use entries::key::entry_key;
 use entries::lengths::entry_length;
 use layout::limits::Holding;
@@ -85,20 +91,20 @@ pub fn judge_insert(
     let i = found.place;
     let there = found.stands;
     if there {
-        return verdict(10, i, size);
+        return verdict(KEY_HELD, i, size);
     }
     if Holding::most_lines() <= count {
-        return verdict(16, i, size);
+        return verdict(TOO_MANY_RECORDS, i, size);
     }
     let met = meets(holding, file, places, tags, count, entry);
     if !met {
-        return verdict(12, i, size);
+        return verdict(REFERENCE_UNMET, i, size);
     }
     let added = entry_length(holding, file, entry) + AROUND + width((count + 1) as u64);
     if room - size < added {
-        return verdict(13, i, size);
+        return verdict(HOLDING_TOO_LONG, i, size);
     }
-    verdict(0, i, size + added)
+    verdict(ALL_DONE, i, size + added)
 }
 
 // An update to an entry's record.
@@ -120,20 +126,20 @@ pub fn judge_update(
     let i = found.place;
     let there = found.stands;
     if !there {
-        return verdict(11, i, size);
+        return verdict(KEY_ABSENT, i, size);
     }
     if !meets(holding, file, places, tags, count, entry) {
-        return verdict(12, i, size);
+        return verdict(REFERENCE_UNMET, i, size);
     }
     let old = entry_length(holding, file, places[i]);
     let new = entry_length(holding, file, entry);
     if new <= old {
-        return verdict(0, i, size - (old - new));
+        return verdict(ALL_DONE, i, size - (old - new));
     }
     if room - size < new - old {
-        return verdict(13, i, size);
+        return verdict(HOLDING_TOO_LONG, i, size);
     }
-    verdict(0, i, size + (new - old))
+    verdict(ALL_DONE, i, size + (new - old))
 }
 
 // A delete at the key of an entry's record.
@@ -156,11 +162,11 @@ pub fn judge_delete(
     let i = found.place;
     let there = found.stands;
     if !there {
-        return verdict(11, i, size);
+        return verdict(KEY_ABSENT, i, size);
     }
     if counts[i] != 0 {
-        return verdict(12, i, size);
+        return verdict(REFERENCE_UNMET, i, size);
     }
     let gone = entry_length(holding, file, places[i]) + AROUND + width(count as u64);
-    verdict(0, i, size - gone)
+    verdict(ALL_DONE, i, size - gone)
 }

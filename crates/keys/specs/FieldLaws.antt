@@ -24,9 +24,10 @@ use Rattle.meaning.specs.Format.{Field, named, formNamed}
 use Rattle.meaning.specs.Table.{scottish}
 use Rattle.meaning.specs.Sound.{soundField, forms, fieldFault}
 use Rattle.meaning.specs.Records.{Rec, ownFields, valueNamed, valuesNamed}
-use Rattle.meaning.specs.Answers.{Fault}
+use Rattle.meaning.specs.Answers.{Fault, ofLine, ofField}
 use Rattle.laws.specs.Regular.{holds}
 use Rattle.laws.specs.Body.{contentFault, fine, sound-none}
+use Rattle.meaning.specs.Codes.{fieldCountWrong, fieldMalformed}
 use Rattle.layout.specs.Rows.{padded}
 use Rattle.keys.specs.Numbers.{digitsIn, numberOf, numberNamed, numbersNamed}
 use Rattle.keys.specs.DigitLaws.{lex-append, lex-padded, lex-digits}
@@ -45,7 +46,7 @@ unfolding forms formNamed filledNamed named soundField
 named-sound n s [] fs x e h = unfold soundAs isEmpty isTextual same in tt
 named-sound n s (d ∷ ds) [] x e h = absurd (omega arith)
 named-sound n s (d ∷ ds) (f ∷ fs) x e h =
-    let a = ok-ask (soundAs (scottish .textRule) (d .form) (d .filled) f) (5, n) (forms scottish (suc n) ds fs x) e in
+    let a = ok-ask (soundAs (scottish .textRule) (d .form) (d .filled) f) (ofField fieldMalformed n) (forms scottish (suc n) ds fs x) e in
     go (eqt s (d .name)) (a .0) (named-sound (suc n) s ds fs x (a .1) (omega arith))
   where
     go : (b : Bool) → T (soundAs (scottish .textRule) (d .form) (d .filled) f) → T (soundAs (scottish .textRule) (formNamed s ds) (filledNamed s ds) (named s ds fs))
@@ -70,7 +71,7 @@ fine-field r s f =
     let c = r .content in
     let ds = ownFields scottish (r .kind) in
     let q : contentFault scottish (r .kind) c ≡ none = sound-none (contentFault scottish (r .kind) c) (and-r (all plain c) _ (and-r (holds scottish (r .kind)) _ f)) in
-    let a = ok-ask (not (oddQuotes c) && eqb (length (fieldsOf c)) (length ds)) (4, 0) (fieldFault scottish 4 ds (fieldsOf c) none) q in
+    let a = ok-ask (not (oddQuotes c) && eqb (length (fieldsOf c)) (length ds)) (ofLine fieldCountWrong) (fieldFault scottish 4 ds (fieldsOf c) none) q in
     named-sound 4 s ds (fieldsOf c) _ (a .1) (eqb→eq (length (fieldsOf c)) (length ds) (and-r (not (oddQuotes c)) (eqb (length (fieldsOf c)) (length ds)) (a .0)))
 
 -- ---- numbers

@@ -7,27 +7,28 @@ use borrow.Author.Tests.{le-leb, lt-leb, eq-eqb, ne-eqb}
 use lib.Dec.{T}
 use lib.ListN.{length, take, drop}
 use Rattle.base.specs.Lists.{pick}
-use Rattle.theory.specs.Step.{ins, upd, del, after, back}
-use Rattle.theory.specs.Trail.{undo}
+use Rattle.theory.specs.Step.{after, back}
 use Rattle.theory.specs.TrailLaws.{length-undo}
-use Rattle.theory.specs.Run.{done, run}
-use Rattle.theory.specs.Answer.{fault, file, took, refused, count}
+use Rattle.theory.specs.Run.{done}
+use Rattle.theory.specs.Answer.{fault, file, took, refused, counts}
 use Rattle.meaning.specs.Table.{scottish}
 use Rattle.meaning.specs.Records.{Rec, keyed, changeTexts, joined}
 use Rattle.meaning.specs.File.{Sheet, readFile}
 use Rattle.meaning.specs.Holding as meaning
 use Rattle.meaning.specs.Holding.{sound, unsound, readHolding, written, mostRecords}
-use Rattle.meaning.specs.Load.{six, outcome, fromStart, onFile, onHolding, load, checked, checkFile}
-use Rattle.meaning.specs.Steps.{fits, stepRules}
-use Rattle.meaning.specs.Undo.{undoSheet, undoHeld, undoBytes}
+use Rattle.meaning.specs.Load.{outcome, fromStart, onFile, onHolding, load, checked, checkFile}
+use Rattle.meaning.specs.Steps.{fits, steps}
+use Rattle.meaning.specs.Undo.{undoSheet, undoHeld, undoBytes, undoBody}
 use Rattle.laws.specs.FileRefusals.{ReadIn, among, file-codes}
 use Rattle.laws.specs.SoundHolding.{held-is-sound}
 use Rattle.laws.specs.SoundFile.{SoundFile, read-sound}
 use Rattle.laws.specs.Checks.{held-bytes}
 use Rattle.laws.specs.Scottish.{scottish-regular}
 use Rattle.text.specs.Places.{lineEnd}
-use Rattle.answers.specs.declared.numbers.Answer.{Answer as Six′}
-use Rattle.answers.specs.Meant.{answerOf}
+use Rattle.answers.specs.declared.numbers.Answer.{Answer as Told}
+use Rattle.answers.specs.Meant.{answerOf, countsOf}
+use Rattle.meaning.specs.Codes.{holdingTooLong, holdingUnsound}
+use Rattle.meaning.specs.Answers.{ofLine, Refusal, atLine, alone, takenWith, refusedWith, numbersOf, Read}
 use Rattle.places.specs.Places.{says}
 use Rattle.places.specs.Changes.{stepsBack}
 use Rattle.places.proofs.BackLaws.{length-back}
@@ -39,17 +40,17 @@ use Rattle.steps.specs.declared.run.Ran.{Ran}
 use Rattle.steps.specs.Run.{isFile, changesOf, ranAs, Kept, Runs}
 use Rattle.writer.specs.Runs.{backTexts}
 use Rattle.loader.specs.declared.load.Loaded.{Loaded}
-use Rattle.loader.specs.Loaded.{numbers, undoText, Loads}
+use Rattle.loader.specs.Loaded.{undoText, Loads}
 use Rattle.loader.proofs.FrameLaws.{frame-ends, frame-opens, frame-copied}
 
 -- ---- each refusal
 
 -- 14 for an unsound holding
-pub load-unsound : (h f : List ℕ) (room : ℕ) (r : Held) (a o k : List ℕ) → HeldIs h r a o k → (r .line ≡ 0 → ⊥) → load scottish room h f ≡ refused 14 (r .line) 0
+pub load-unsound : (h f : List ℕ) (room : ℕ) (r : Held) (a o k : List ℕ) → HeldIs h r a o k → (r .line ≡ 0 → ⊥) → load scottish room h f ≡ refused (atLine (r .line) (ofLine holdingUnsound))
 unfolding load
 load-unsound h f room r a o k w n = go (readHolding scottish h) (w .line)
   where
-    go : (u : meaning.Held) → r .line ≡ faultOf u → onHolding scottish room f u ≡ refused 14 (r .line) 0
+    go : (u : meaning.Held) → r .line ≡ faultOf u → onHolding scottish room f u ≡ refused (atLine (r .line) (ofLine holdingUnsound))
     go (sound st) e = absurd (unfold faultOf in n e)
     go (unsound m) e = unfold faultOf onHolding in rw e
 
@@ -69,14 +70,14 @@ module _ (h f : List ℕ) (room : ℕ) (r : Held) (a o tl : List ℕ) (w : HeldI
   unfolding load onHolding
   on-file = ap (onHolding scottish room f) sounds
 
-  module _ (c : Six′) (e : c ≡ answerOf (checkFile scottish f)) where
+  module _ (c : Told) (e : c ≡ answerOf (checkFile scottish f)) where
     -- the file's own fault
-    pub load-faulty : (c .code ≡ 0 → ⊥) → load scottish room h f ≡ refused (c .code) (c .line) (c .field)
+    pub load-faulty : (c .code ≡ 0 → ⊥) → (b t u : List ℕ) (x : Loaded) → x ≡ record { answer = c; count = 0; steps = 0; end = 0 } → Loads h f b t u room x
     unfolding checkFile
-    load-faulty n = on-file ∙ go (readFile scottish f) e
+    load-faulty n b t u x y = rw y (record { answered = go (readFile scottish f) e ∙ ap (λ z. answerOf (numbersOf z)) (sym on-file); taken = λ z. absurd (n z) })
       where
-        go : (u : Read Sheet) → c ≡ answerOf (checked u) → onFile scottish room st u ≡ refused (c .code) (c .line) (c .field)
-        go (fault r) q = unfold checked onFile in rw q
+        go : (u : Read Sheet) → c ≡ answerOf (checked u) → c ≡ answerOf (numbersOf (onFile scottish room st u))
+        go (fault r) q = unfold onFile in (unfold checked in q)
         go (file s) q = absurd (unfold checked in n (ap (λ y. y .code) q))
 
     module _ (k : c .code ≡ 0) where
@@ -84,7 +85,7 @@ module _ (h f : List ℕ) (room : ℕ) (r : Held) (a o tl : List ℕ) (w : HeldI
       pub record Reads : Type 0 where
         pub sheet : Sheet
         pub reads : readFile scottish f ≡ file sheet
-        pub counts : c ≡ answerOf (six 0 0 0 (count ins (sheet .1)) (count upd (sheet .1)) (count del (sheet .1)))
+        pub counts : c ≡ answerOf (takenWith (counts (sheet .1)))
 
       read : Reads
       unfolding checkFile
@@ -104,15 +105,15 @@ module _ (h f : List ℕ) (room : ℕ) (r : Held) (a o tl : List ℕ) (w : HeldI
       on-start = on-file ∙ ap (onFile scottish room st) (read .reads)
 
       -- 13 for the start
-      pub load-short : room < length h → load scottish room h f ≡ refused 13 0 0
+      pub load-short : room < length h → load scottish room h f ≡ refused (alone holdingTooLong)
       unfolding fromStart fits
       load-short s = on-start ∙ rw (lt-leb (length (written st)) room (omega (arith, ap length bytes)))
 
       module _ (s : length h ≤ room) where
         -- so the steps are made
-        on-steps : load scottish room h f ≡ outcome (read .sheet .1) (run (keyed scottish) (stepRules scottish room) 2 st (read .sheet .1))
+        on-steps : load scottish room h f ≡ outcome (read .sheet .1) (steps scottish room st (read .sheet .1))
         unfolding fromStart fits
-        on-steps = on-start ∙ ap (λ b. pick b (outcome (read .sheet .1) (run (keyed scottish) (stepRules scottish room) 2 st (read .sheet .1))) (refused 13 0 0)) (le-leb (length (written st)) room (omega (arith, ap length bytes)))
+        on-steps = on-start ∙ ap (λ b. pick b (outcome (read .sheet .1) (steps scottish room st (read .sheet .1))) (refused (alone holdingTooLong))) (le-leb (length (written st)) room (omega (arith, ap length bytes)))
 
         -- the holding as it stands is ready for them
         pub load-ready : mostRecords ≤ length a → mostRecords ≤ length o → mostRecords ≤ length tl → short room → short (length h) → short (length f)
@@ -140,11 +141,11 @@ module _ (h f : List ℕ) (room : ℕ) (r : Held) (a o tl : List ℕ) (w : HeldI
           said = w .listed z .says f
 
           -- the run of the file's changes
-          ran : ranAs h f b n ≡ run (keyed scottish) (stepRules scottish room) 2 st (read .sheet .1)
-          ran = y .ended ∙ ap (λ l. run (keyed scottish) (stepRules scottish room) 2 l (changesOf (readFile scottish f))) said ∙ ap (λ u. run (keyed scottish) (stepRules scottish room) 2 st (changesOf u)) (read .reads)
+          ran : ranAs h f b n ≡ steps scottish room st (read .sheet .1)
+          ran = y .ended ∙ ap (λ l. steps scottish room l (changesOf (readFile scottish f))) said ∙ ap (λ u. steps scottish room st (changesOf u)) (read .reads)
 
           -- a step that is refused
-          pub load-stopped : (n .code ≡ 0 → ⊥) → load scottish room h f ≡ refused (n .code) (n .line) 0
+          pub load-stopped : (n .code ≡ 0 → ⊥) → load scottish room h f ≡ refused (atLine (n .line) (ofLine (n .code)))
           unfolding outcome
           load-stopped m = on-steps ∙ rw (← ran, ne-eqb (n .code) 0 m)
 
@@ -156,33 +157,33 @@ module _ (h f : List ℕ) (room : ℕ) (r : Held) (a o tl : List ℕ) (w : HeldI
             ready = y .ready m
 
             -- all steps made
-            made : load scottish room h f ≡ took (written (says h f b (n .state .count))) (c .inserts) (c .updates) (c .deletes)
+            made : load scottish room h f ≡ took (written (says h f b (n .state .count))) (countsOf (c .inserts) (c .updates) (c .deletes))
             unfolding outcome
             made =
                 let d : ranAs h f b n ≡ done (says h f b (n .state .count)) = rw (eq-eqb (n .code) 0 m) in
-                on-steps ∙ ap (outcome (read .sheet .1)) (sym ran ∙ d) ∙ ap (λ x. took (written (says h f b (n .state .count))) (x .inserts) (x .updates) (x .deletes)) (sym (read .counts))
+                on-steps ∙ ap (outcome (read .sheet .1)) (sym ran ∙ d) ∙ ap (λ x. took (written (says h f b (n .state .count))) (countsOf (x .inserts) (x .updates) (x .deletes))) (sym (read .counts))
 
             -- and how they are taken back
-            backed : stepsBack h f t u (n .steps) ≡ undo (after (keyed scottish)) (back (keyed scottish)) st (read .sheet .1)
-            backed = kept .backed ∙ ap (λ l. undo (after (keyed scottish)) (back (keyed scottish)) l (changesOf (readFile scottish f))) said ∙ ap (λ u. undo (after (keyed scottish)) (back (keyed scottish)) st (changesOf u)) (read .reads)
+            backed : stepsBack h f t u (n .steps) ≡ undoBody scottish st (read .sheet .1)
+            backed = kept .backed ∙ ap (λ l. undoBody scottish l (changesOf (readFile scottish f))) said ∙ ap (λ u. undoBody scottish st (changesOf u)) (read .reads)
 
             file-sound : SoundFile scottish f (read .sheet .0) (read .sheet .1)
             file-sound = read-sound scottish f (read .sheet .0) (read .sheet .1) (read .reads)
 
             many : n .steps ≡ length (read .sheet .1)
-            many = sym (length-back h f t u (n .steps)) ∙ ap length backed ∙ length-undo (after (keyed scottish)) (back (keyed scottish)) st (read .sheet .1)
+            many = sym (length-back h f t u (n .steps)) ∙ ap length backed ∙ length-undoBody scottish st (read .sheet .1)
 
             undoes : undoBytes scottish h f ≡ undoText h f t u (n .steps) (n .end)
             unfolding undoBytes undoHeld undoSheet backTexts undoText
             undoes =
                 ap (undoHeld scottish f) sounds ∙ ap (undoSheet scottish st) (read .reads)
-                ∙ frame-copied f (read .sheet .0) (read .sheet .1) file-sound (n .end) (n .steps) (kept .rest) many (undo (after (keyed scottish)) (back (keyed scottish)) st (read .sheet .1))
+                ∙ frame-copied f (read .sheet .0) (read .sheet .1) file-sound (n .end) (n .steps) (kept .rest) many (undoBody scottish st (read .sheet .1))
                 ∙ ap (λ l. take (lineEnd f 0 + 2) f ++ (joined (changeTexts 1 l) ++ drop (n .end) f)) (sym backed)
 
             -- what a file that is taken leaves
             pub load-done : (x : Loaded) → x ≡ record { answer = c; count = n .state .count; steps = n .steps; end = n .end } → Loads h f b t u room x
             load-done x q = rw q (record {
-              answered = read .counts ∙ ap (λ x. answerOf (six 0 0 0 (x .inserts) (x .updates) (x .deletes))) (sym (read .counts)) ∙ ap (λ y. answerOf (numbers y)) (sym made);
+              answered = read .counts ∙ ap (λ x. answerOf (takenWith (countsOf (x .inserts) (x .updates) (x .deletes)))) (sym (read .counts)) ∙ ap (λ y. answerOf (numbersOf y)) (sym made);
               taken = λ v. record {
                 loaded = made;
                 held = ready .holds .ordered .within;
@@ -195,5 +196,5 @@ module _ (h f : List ℕ) (room : ℕ) (r : Held) (a o tl : List ℕ) (w : HeldI
             })
 
 -- a refusal leaves nothing
-pub load-refused : (h f b t u : List ℕ) (room c l x : ℕ) (r : Loaded) → load scottish room h f ≡ refused c l x → (c ≡ 0 → ⊥) → r ≡ record { answer = answerOf (six c l x 0 0 0); count = 0; steps = 0; end = 0 } → Loads h f b t u room r
-load-refused h f b t u room c l x r e n q = rw q (record { answered = ap (λ y. answerOf (numbers y)) (sym e); taken = λ z. absurd (n z) })
+pub load-refused : (h f b t u : List ℕ) (room : ℕ) (q : Refusal) (r : Loaded) → load scottish room h f ≡ refused q → (q .code ≡ 0 → ⊥) → r ≡ record { answer = answerOf (refusedWith q); count = 0; steps = 0; end = 0 } → Loads h f b t u room r
+load-refused h f b t u room q r e n y = rw y (record { answered = ap (λ y. answerOf (numbersOf y)) (sym e); taken = λ z. absurd (n z) })

@@ -3,24 +3,18 @@ use mathlib.Core.Path.{_≡_}
 use mathlib.Core.List.{List, _++_}
 use Prim.Native.Nat.{ℕ, _+_, _≤_}
 use lib.ListN.{length, take, drop}
-use Rattle.theory.specs.Answer as theory
-use Rattle.theory.specs.Answer.{took, refused}
+use Rattle.theory.specs.Answer.{took}
 use Rattle.meaning.specs.Table.{scottish}
 use Rattle.meaning.specs.File.{mostBody}
 use Rattle.meaning.specs.Holding.{written}
-use Rattle.meaning.specs.Load.{six, load}
-use Rattle.meaning.specs.Answers.{Numbers}
+use Rattle.meaning.specs.Load.{load}
+use Rattle.meaning.specs.Answers.{numbersOf}
 use Rattle.meaning.specs.Undo.{undoBytes}
 use Rattle.text.specs.Places.{lineEnd}
 use Rattle.places.specs.Places.{says}
-use Rattle.answers.specs.Meant.{answerOf}
+use Rattle.answers.specs.Meant.{countsOf, answerOf}
 use Rattle.writer.specs.Runs.{backTexts}
 use Rattle.loader.specs.declared.load.Loaded.{Loaded}
-
--- the six numbers: those of a file that is taken count its body lines
-abbrev pub numbers : theory.Answer → Numbers
-numbers (took new n) = six 0 0 0 i u d
-numbers (refused r) = six (r .code) (r .line) (r .field) 0 0 0
 
 -- an undo: the file's first line, the first n steps taken back, and what stands in the file from `end` on
 unfoldable pub undoText : List ℕ → List ℕ → List ℕ → List ℕ → ℕ → ℕ → List ℕ
@@ -28,7 +22,7 @@ undoText h f steps before n end = take (lineEnd f 0 + 2) f ++ (backTexts h f ste
 
 -- the places say the new holding, and the steps made say the undo
 pub record Taken (h f places steps before : List ℕ) (room : ℕ) (r : Loaded) : Type 0 where
-  pub loaded : load scottish room h f ≡ took (written (says h f places (r .count))) (r .answer .inserts) (r .answer .updates) (r .answer .deletes)
+  pub loaded : load scottish room h f ≡ took (written (says h f places (r .count))) (countsOf (r .answer .inserts) (r .answer .updates) (r .answer .deletes))
   pub held : r .count ≤ length places
   pub fits : length (written (says h f places (r .count))) ≤ room
   pub few : r .steps ≤ mostBody
@@ -38,5 +32,5 @@ pub record Taken (h f places steps before : List ℕ) (room : ℕ) (r : Loaded) 
 
 -- the numbers are those of the definition, and where they are of a file that is taken, this is what it leaves
 pub record Loads (h f places steps before : List ℕ) (room : ℕ) (r : Loaded) : Type 0 where
-  pub answered : r .answer ≡ answerOf (numbers (load scottish room h f))
+  pub answered : r .answer ≡ answerOf (numbersOf (load scottish room h f))
   pub taken : r .answer .code ≡ 0 → Taken h f places steps before room r

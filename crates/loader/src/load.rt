@@ -4,20 +4,24 @@ ghost use Prim.Native.Nat.{_≤_};
 ghost use lib.ListN.{length};
 ghost use Rattle.base.specs.Lists.{zeros};
 ghost use Rattle.meaning.specs.File.{mostBody};
-ghost use Rattle.meaning.specs.Load.{six};
+ghost use Rattle.meaning.specs.Answers.{ofLine, atLine, refusedWith};
 ghost use Rattle.meaning.specs.Holding.{mostRecords};
-ghost use Rattle.volume.specs.Answer.{answerOf};
+ghost use Rattle.answers.specs.Meant.{answerOf};
 ghost use Rattle.judge.specs.Ready.{short};
 ghost use Rattle.loader.specs.Loaded.{Loads};
+use answers::codes::HOLDING_TOO_LONG;
+use answers::codes::HOLDING_UNSOUND;
+use answers::numbers::Answer;
+use answers::numbers::refused;
+use answers::refusal::Refusal;
 use holding::read::read_holding;
 use judge::State;
 use layout::limits::Holding;
 use steps::run::Ran;
 use steps::run::run;
-use answers::numbers::Answer;
 use volume::check::check_file;
 
-// The six numbers; where they are of a file that is taken, how many records are in force after it, how many steps it made, and where
+// The numbers; where they are of a file that is taken, how many records are in force after it, how many steps it made, and where
 // its body ends.
 pub struct Loaded {
     pub answer: Answer,
@@ -26,16 +30,23 @@ pub struct Loaded {
     pub end: usize,
 }
 
-// A refusal: nothing is counted.
-fn refused(code: u64, line: usize, field: usize) -> Loaded
-    ensures { λ r. ⌜ r ≡ record { answer = answerOf (six code line field 0 0 0); count = 0; steps = 0; end = 0 } ⌝ }
+// Nothing is taken, for what the answer says.
+fn nothing(answer: Answer) -> Loaded
+    ensures { λ r. ⌜ r ≡ record { answer = answer; count = 0; steps = 0; end = 0 } ⌝ }
 {
     Loaded {
-        answer: volume::check::refused(code, line, field),
+        answer,
         count: 0,
         steps: 0,
         end: 0,
     }
+}
+
+// A line is refused, or at line 0 the whole.
+fn stopped(line: usize, code: u64) -> Loaded
+    ensures { λ r. ⌜ r ≡ record { answer = answerOf (refusedWith (atLine line (ofLine code))); count = 0; steps = 0; end = 0 } ⌝ }
+{
+    nothing(refused(Refusal::of_line(line as u64, code)))
 }
 
 // A file that is taken.
@@ -68,15 +79,15 @@ pub fn load(
     let mut counts = [0u16; Holding::MOST_LINES];
     let held = read_holding(holding, &mut *places, &mut tags, &mut counts);
     if held.line != 0 {
-        return refused(14, held.line, 0);
+        return stopped(held.line, HOLDING_UNSOUND);
     }
     let answer = check_file(file);
     if answer.code != 0 {
-        return refused(answer.code, answer.line, answer.field);
+        return nothing(answer);
     }
     let size = holding.len();
     if room < size {
-        return refused(13, 0, 0);
+        return stopped(0, HOLDING_TOO_LONG);
     }
     let count = held.count;
     let ran = run(
@@ -91,7 +102,7 @@ pub fn load(
         room,
     );
     if ran.code != 0 {
-        return refused(ran.code, ran.line, 0);
+        return stopped(ran.line, ran.code);
     }
     taken(answer, ran)
 }

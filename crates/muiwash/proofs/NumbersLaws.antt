@@ -5,18 +5,17 @@ use Prim.Native.Nat.{ℕ}
 use borrow.Author.Needs.{needs}
 use Rattle.base.specs.Lists.{pick}
 use Rattle.meaning.specs.Enquiries.{Slice, first, second, Found}
-use Rattle.meaning.specs.Answers.{Numbers, Three}
+use Rattle.meaning.specs.Answers.{Numbers, Three, numberList}
 use Rattle.answers.specs.declared.numbers.Answer.{Answer}
-use Rattle.answers.specs.Meant.{answerOf, verdictOf}
+use Rattle.answers.specs.Meant.{answerOf, verdictOf, answerList, verdictList, threeList}
 use Rattle.answers.specs.declared.numbers.Verdict.{Verdict}
 use Rattle.enquiries.specs.declared.finding.Finding.{Finding}
 use Rattle.enquiries.specs.Finding.{inFile, findingOf}
-use Rattle.enquiries.specs.Handed.{threeList}
-use Rattle.muiwash.specs.Numbers.{sixList, answerList, verdictList, partList, sideOf, sidedList, findingList, sidedFindingList}
+use Rattle.muiwash.specs.Numbers.{partList, sideOf, sidedList, findingList, sidedFindingList}
 
--- six
-pub six-told : (a : Answer) (s : Numbers) (l : List ℕ) → a ≡ answerOf s → l ≡ answerList a → l ≡ sixList s
-six-told a s l e w = w ∙ ap answerList e
+-- those of a file
+pub listed-told : (a : Answer) (s : Numbers) (l : List ℕ) → a ≡ answerOf s → l ≡ answerList a → l ≡ numberList s
+listed-told a s l e w = w ∙ ap answerList e
 
 -- three
 pub three-told : (v : Verdict) (t : Three) (l : List ℕ) → v ≡ verdictOf t → l ≡ verdictList v → l ≡ threeList t
@@ -36,4 +35,4 @@ sided-told g f l e w = w ∙ ap sidedFindingList e ∙ side (f .slice)
     side first = refl
     side second = refl
 
-pub ruleset told = (needs, six-told, three-told, part-told, sided-told)
+pub ruleset told = (needs, listed-told, three-told, part-told, sided-told)

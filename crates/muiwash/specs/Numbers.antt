@@ -6,23 +6,9 @@ use Rattle.base.specs.Lists.{pick}
 use Rattle.meaning.specs.Table.{scottish}
 use Rattle.meaning.specs.Load.{apply, undoFile}
 use Rattle.meaning.specs.Enquiries.{Slice, first, second, Found}
-use Rattle.meaning.specs.Answers.{Numbers}
+use Rattle.meaning.specs.Answers.{numberList}
 use Rattle.laws.specs.Buffers.{one-outcome}
-use Rattle.answers.specs.declared.numbers.Answer.{Answer}
-use Rattle.answers.specs.declared.numbers.Verdict.{Verdict}
 use Rattle.enquiries.specs.declared.finding.Finding.{Finding}
-
--- the six numbers in their order
-abbrev pub sixList : Numbers → List ℕ
-sixList s = s .code ∷ s .line ∷ s .field ∷ s .inserts ∷ s .updates ∷ s .deletes ∷ []
-
--- those of the code's answer
-abbrev pub answerList : Answer → List ℕ
-answerList a = a .code ∷ a .line ∷ a .field ∷ a .inserts ∷ a .updates ∷ a .deletes ∷ []
-
--- the three of its verdict
-abbrev pub verdictList : Verdict → List ℕ
-verdictList v = v .code ∷ v .line ∷ v .field ∷ []
 
 -- an enquiry's numbers in their order: code, line, field, and the part's start and length
 abbrev pub partList : Found → List ℕ
@@ -39,20 +25,20 @@ sidedList f = f .answer .code ∷ f .answer .line ∷ f .answer .field ∷ sideO
 
 -- those of the code's finding
 abbrev pub findingList : Finding → List ℕ
-findingList g = g .code ∷ g .line ∷ g .field ∷ g .start ∷ g .size ∷ []
+findingList g = g .answer .code ∷ g .answer .line ∷ g .answer .field ∷ g .start ∷ g .size ∷ []
 
 -- and with the side
 abbrev pub sidedFindingList : Finding → List ℕ
-sidedFindingList g = g .code ∷ g .line ∷ g .field ∷ pick (g .infile) 1 0 ∷ g .start ∷ g .size ∷ []
+sidedFindingList g = g .answer .code ∷ g .answer .line ∷ g .answer .field ∷ pick (g .infile) 1 0 ∷ g .start ∷ g .size ∷ []
 
 -- what apply leaves in its output of `room` bytes and in its answer
 abbrev pub Applies : List ℕ → List ℕ → ℕ → List ℕ → List ℕ → Type 0
-Applies old file room out answer = (answer ≡ sixList (apply scottish old file room .answer)) × (out ≡ apply scottish old file room .output)
+Applies old file room out answer = (answer ≡ numberList (apply scottish old file room .answer)) × (out ≡ apply scottish old file room .output)
 
 -- what undo leaves in its output, in its work buffer of `space` bytes and in its answer
 abbrev pub Undoes : List ℕ → List ℕ → ℕ → ℕ → List ℕ → List ℕ → List ℕ → Type 0
 Undoes old file room space out work answer =
-    (answer ≡ sixList (undoFile scottish old file room space .answer)) × (out ≡ undoFile scottish old file room space .output) × (work ≡ undoFile scottish old file room space .work)
+    (answer ≡ numberList (undoFile scottish old file room space .answer)) × (out ≡ undoFile scottish old file room space .output) × (work ≡ undoFile scottish old file room space .work)
 
 -- ---- any two outcomes are equal
 

@@ -2,19 +2,20 @@
 ghost use mathlib.Core.Path.{_≡_};
 ghost use Rattle.meaning.specs.Table.{scottish};
 ghost use Rattle.meaning.specs.Load.{checkFile, checkHolding};
-ghost use Rattle.enquiries.specs.Handed.{threeList};
-ghost use Rattle.muiwash.specs.Numbers.{sixList};
-use crate::numbers::six;
-use crate::numbers::three;
+ghost use Rattle.meaning.specs.Answers.{numberList};
+ghost use Rattle.answers.specs.Meant.{threeList};
+use answers::numbers::Answer;
+use answers::numbers::in_order;
+use answers::numbers::three;
 use holding::check::check_holding;
 use volume::check::check_file;
 
 // The check of a file.
 #[no_mangle]
-pub extern "C" fn muiwash_check_file(file: &[u8], answer: &mut [u64; 6])
-    ensures { λ _. ⌜ now (answer .exit) ≡ sixList (checkFile scottish (now (file .entry))) ⌝ }
+pub extern "C" fn muiwash_check_file(file: &[u8], answer: &mut [u64; Answer::NUMBERS])
+    ensures { λ _. ⌜ now (answer .exit) ≡ numberList (checkFile scottish (now (file .entry))) ⌝ }
 {
-    *answer = six(check_file(file));
+    *answer = in_order(check_file(file));
 }
 
 // The check of a holding.

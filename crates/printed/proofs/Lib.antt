@@ -1,2 +1,2 @@
-pub mod SixLaws
+pub mod ListedLaws
 pub mod BareLaws

@@ -2,13 +2,6 @@
 use mathlib.Core.List.{List, [], _∷_, _++_}
 use Prim.Native.Nat.{ℕ, zero, suc}
 use Rattle.theory.specs.Decimal.{dec}
-use Rattle.meaning.specs.Load.{six}
-use Rattle.meaning.specs.Answers.{Numbers}
-use Rattle.answers.specs.declared.numbers.Answer.{Answer}
-
--- the numbers that the code answers, number by number
-abbrev pub sixOf : Answer → Numbers
-sixOf a = six (a .code) (a .line) (a .field) (a .inserts) (a .updates) (a .deletes)
 
 -- a number, and what stands after it
 unfoldable pub numberThen : ℕ → List ℕ → List ℕ

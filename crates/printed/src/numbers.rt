@@ -1,12 +1,13 @@
-// The six numbers, comma separated, with CR LF.
+// The numbers of an answer, comma separated, with CR LF.
 ghost use mathlib.Core.Path.{_≡_};
 ghost use Prim.Native.Nat.{_+_, _≤_};
 ghost use lib.ListN.{length};
 ghost use Rattle.meaning.specs.Program.{printNumbers};
 ghost use Rattle.text.specs.Front.{inFront};
-ghost use Rattle.printed.specs.Printed.{numberThen, threeThen, sixOf};
-use text::put;
+ghost use Rattle.answers.specs.Meant.{numbersMeant};
+ghost use Rattle.printed.specs.Printed.{numberThen, threeThen};
 use answers::numbers::Answer;
+use text::put;
 
 // A number, and what stands after it.
 fn put_number(out: &mut [u8], n: u64, mark: &[u8]) -> usize
@@ -29,18 +30,18 @@ fn put_three(out: &mut [u8], a: u64, b: u64, c: u64, mark: &[u8]) -> usize
     end + put_number(&mut out[end..], c, mark)
 }
 
-// All six: no number has more than 20 digits, so 127 bytes are enough.
-pub fn put_six(out: &mut [u8], a: Answer) -> usize
+// All of them: no number has more than 20 digits, so 127 bytes are enough.
+pub fn put_numbers(out: &mut [u8], a: Answer) -> usize
     requires { ⌜ 127 ≤ length (now out) ⌝ }
-    ensures { λ r. ⌜ (r ≡ length (printNumbers (sixOf a))) × (r ≤ 127) × (now (out .exit) ≡ inFront (printNumbers (sixOf a)) (now (out .entry))) ⌝ }
+    ensures { λ r. ⌜ (r ≡ length (printNumbers (numbersMeant a))) × (r ≤ 127) × (now (out .exit) ≡ inFront (printNumbers (numbersMeant a)) (now (out .entry))) ⌝ }
 {
-    let at = put_three(&mut *out, a.code, a.line as u64, a.field as u64, b",");
+    let at = put_three(&mut *out, a.code, a.line, a.field, b",");
     at
         + put_three(
             &mut out[at..],
-            a.inserts as u64,
-            a.updates as u64,
-            a.deletes as u64,
+            a.inserts,
+            a.updates,
+            a.deletes,
             b"\r\n",
         )
 }

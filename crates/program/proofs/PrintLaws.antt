@@ -7,27 +7,30 @@ use native.Mathlib.Omega.{arith}
 use borrow.Author.Needs.{needs}
 use borrow.Rule.Slice.PartMut.{putMid}
 use lib.ListN.{length, take, drop, length-append}
-use Rattle.theory.specs.Answer.{took, refused}
+use Rattle.theory.specs.Answer.{took, refused, Counts}
 use Rattle.meaning.specs.Table.{scottish}
 use Rattle.meaning.specs.Holding.{written}
-use Rattle.meaning.specs.Load.{six, load, applied, apply, thenZeros}
+use Rattle.meaning.specs.Load.{load, applied, apply, thenZeros}
 use Rattle.meaning.specs.Program.{printNumbers, printLoad, program, programRoom, unusable}
-use Rattle.meaning.specs.Answers.{Answer}
+use Rattle.meaning.specs.Answers.{Answer, alone, refusedWith}
 use Rattle.laws.specs.Takes.{TookSays, took-takes}
 use Rattle.laws.specs.Scottish.{scottish-regular}
 use Rattle.text.specs.Front.{inFront}
 use Rattle.text.proofs.FrontLaws.{front-then}
-use Rattle.answers.specs.Meant.{answerOf}
+use Rattle.answers.specs.Meant.{answerOf, refusalOf, refusalMeant, numbersMeant}
 use Rattle.answers.specs.declared.numbers.Answer.{Answer as Numbers}
+use Rattle.meaning.specs.Codes.{inputUnusable}
+use Rattle.answers.specs.declared.refusal.Refusal.{Refusal}
+use Rattle.answers.proofs.RefusalLaws.{refused-made}
 use Rattle.apply.specs.Outcome.{Outcome}
-use Rattle.printed.specs.Printed.{sixOf, bare}
+use Rattle.printed.specs.Printed.{bare}
 use Rattle.printed.proofs.BareLaws.{bare-zeros, bare-joined}
 use Rattle.program.specs.Outcome.{inputOf}
 
 -- a new holding stays whole
-bare-written : (room : ℕ) (old b new : List ℕ) (i u d : ℕ) → TookSays scottish scottish-regular room old b (took new n) → bare new ≡ new
+bare-written : (room : ℕ) (old b new : List ℕ) (n : Counts) → TookSays scottish scottish-regular room old b (took new n) → bare new ≡ new
 unfolding written
-bare-written room old b new i u d a = rw (a .made) (bare-joined _)
+bare-written room old b new n a = rw (a .made) (bare-joined _)
 
 -- what apply answers and what stands before the zeros of its output are what is printed
 print-load : (room : ℕ) (old b : List ℕ) → printNumbers (apply scottish old b room .answer) ++ bare (apply scottish old b room .output) ≡ printLoad (load scottish room old b)
@@ -35,25 +38,25 @@ unfolding apply applied printLoad thenZeros bare
 print-load room old b = go (load scottish room old b) (took-takes scottish scottish-regular room old b)
   where
     go : (x : Answer) → TookSays scottish scottish-regular room old b x → printNumbers (applied room x .answer) ++ bare (applied room x .output) ≡ printLoad x
-    go (took new n) t = rw (bare-zeros new (room - length new), bare-written room old b new i u d t)
+    go (took new n) t = rw (bare-zeros new (room - length new), bare-written room old b new n t)
     go (refused r) t = rw (bare-zeros [] room, append-nil)
 
 module _ (old b : List ℕ) (a : Numbers) (out : List ℕ) (o : Outcome old b 65536 a out) (size : ℕ) (z : take size out ≡ bare out) where
   -- the same of the numbers and the bytes that the code has
-  print-parts : printNumbers (sixOf a) ++ take (size - 0) (drop 0 out) ≡ printLoad (load scottish 65536 old b)
+  print-parts : printNumbers (numbersMeant a) ++ take (size - 0) (drop 0 out) ≡ printLoad (load scottish 65536 old b)
   print-parts =
       let s : size - 0 ≡ size = omega arith in
       rw (s, z, o .1, o .0) (print-load 65536 old b)
 
-  module _ (n : ℕ) (p : n ≡ length (printNumbers (sixOf a))) where
+  module _ (n : ℕ) (p : n ≡ length (printNumbers (numbersMeant a))) where
     -- how much is written
     pub print-count : (m : ℕ) → m ≡ length (take (size - 0) (drop 0 out)) → n + m ≡ length (printLoad (load scottish 65536 old b))
-    print-count m q = omega (arith, length-append (printNumbers (sixOf a)) (take (size - 0) (drop 0 out)), ap length print-parts)
+    print-count m q = omega (arith, length-append (printNumbers (numbersMeant a)) (take (size - 0) (drop 0 out)), ap length print-parts)
 
     -- with the new holding all is there
-    pub print-done : (free new last : List ℕ) → new ≡ inFront (printNumbers (sixOf a)) free → last ≡ inFront (take (size - 0) (drop 0 out)) (take (length new - n) (drop n new))
+    pub print-done : (free new last : List ℕ) → new ≡ inFront (printNumbers (numbersMeant a)) free → last ≡ inFront (take (size - 0) (drop 0 out)) (take (length new - n) (drop n new))
         → putMid n (length new - n) new last ≡ inFront (printLoad (load scottish 65536 old b)) free
-    print-done free new last e w = front-then (printNumbers (sixOf a)) (take (size - 0) (drop 0 out)) free new last n p e w ∙ ap (λ t. inFront t free) print-parts
+    print-done free new last e w = front-then (printNumbers (numbersMeant a)) (take (size - 0) (drop 0 out)) free new last n p e w ∙ ap (λ t. inFront t free) print-parts
 
 pub ruleset loading = (needs, print-count, print-done)
 
@@ -72,13 +75,16 @@ print-all w p old new r e q f = (q ∙ ap length e, f ∙ ap (λ t. inFront t ol
 
 -- ---- what is refused before it is read
 
-module _ (a : Numbers) (e : a ≡ answerOf (six 18 0 0 0 0 0)) where
+module _ (x : Refusal) (a : Numbers) (h : x ≡ refusalOf (alone inputUnusable)) (q : a ≡ answerOf (refusedWith (refusalMeant x))) where
+  e : a ≡ answerOf (refusedWith (alone inputUnusable))
+  e = refused-made x (alone inputUnusable) a q h
+
   -- how much is printed
-  pub unusable-count : (n : ℕ) → n ≡ length (printNumbers (sixOf a)) → n ≡ length (printNumbers (six 18 0 0 0 0 0))
-  unusable-count n p = p ∙ ap (λ x. length (printNumbers (sixOf x))) e
+  pub unusable-count : (n : ℕ) → n ≡ length (printNumbers (numbersMeant a)) → n ≡ length (printNumbers (refusedWith (alone inputUnusable)))
+  unusable-count n p = p ∙ ap (λ x. length (printNumbers (numbersMeant x))) e
 
   -- and what
-  pub unusable-done : (old new : List ℕ) → new ≡ inFront (printNumbers (sixOf a)) old → new ≡ inFront (printNumbers (six 18 0 0 0 0 0)) old
-  unusable-done old new p = p ∙ ap (λ x. inFront (printNumbers (sixOf x)) old) e
+  pub unusable-done : (old new : List ℕ) → new ≡ inFront (printNumbers (numbersMeant a)) old → new ≡ inFront (printNumbers (refusedWith (alone inputUnusable))) old
+  unusable-done old new p = p ∙ ap (λ x. inFront (printNumbers (numbersMeant x)) old) e
 
 pub ruleset unusing = (needs, unusable-count, unusable-done)

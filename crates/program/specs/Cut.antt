@@ -12,19 +12,21 @@ use lib.Seq.{take-all, length-take-le}
 use Rattle.base.specs.Lists.{pick}
 use Rattle.base.specs.Tests.{T-true}
 use Rattle.meaning.specs.Table.{scottish}
-use Rattle.meaning.specs.Load.{six, load}
+use Rattle.meaning.specs.Load.{load}
 use Rattle.meaning.specs.Program.{programRoom, unusable, printNumbers, printLoad, program}
+use Rattle.meaning.specs.Codes.{inputUnusable}
+use Rattle.meaning.specs.Answers.{alone, refusedWith}
 
 -- 18 where either is unusable
-pub first-18 : (old b : Option (List ℕ)) → true ≡ unusable old → printNumbers (six 18 0 0 0 0 0) ≡ program scottish old b
+pub first-18 : (old b : Option (List ℕ)) → true ≡ unusable old → printNumbers (refusedWith (alone inputUnusable)) ≡ program scottish old b
 unfolding program
 first-18 old b e = rw (← e)
 
-pub second-18 : (old b : Option (List ℕ)) → true ≡ unusable b → printNumbers (six 18 0 0 0 0 0) ≡ program scottish old b
+pub second-18 : (old b : Option (List ℕ)) → true ≡ unusable b → printNumbers (refusedWith (alone inputUnusable)) ≡ program scottish old b
 unfolding program
 second-18 old b e = go (unusable old)
   where
-    go : (x : Bool) → printNumbers (six 18 0 0 0 0 0) ≡ pick (x || unusable b) (printNumbers (six 18 0 0 0 0 0)) (printLoad (load scottish programRoom (Option·getD old []) (Option·getD b [])))
+    go : (x : Bool) → printNumbers (refusedWith (alone inputUnusable)) ≡ pick (x || unusable b) (printNumbers (refusedWith (alone inputUnusable))) (printLoad (load scottish programRoom (Option·getD old []) (Option·getD b [])))
     go true = refl
     go false = rw (← e)
 

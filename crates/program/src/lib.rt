@@ -6,20 +6,24 @@ ghost use mathlib.Core.Path.{_≡_};
 ghost use Prim.Native.Nat.{_≤_};
 ghost use lib.ListN.{length};
 ghost use Rattle.meaning.specs.Table.{scottish};
-ghost use Rattle.meaning.specs.Load.{six, load};
+ghost use Rattle.meaning.specs.Codes.{inputUnusable};
+ghost use Rattle.meaning.specs.Answers.{alone, refusedWith};
+ghost use Rattle.meaning.specs.Load.{load};
 ghost use Rattle.meaning.specs.Program.{unusable, printNumbers, printLoad, programRoom};
 ghost use Rattle.text.specs.Front.{inFront};
 ghost use Rattle.program.specs.Outcome.{inputOf, PrintOutcome};
+use answers::codes::INPUT_UNUSABLE;
+use answers::numbers::refused;
+use answers::refusal::Refusal;
 use apply::apply;
 use printed::bare::bare_length;
-use printed::numbers::put_six;
+use printed::numbers::put_numbers;
 use text::put;
-use answers::numbers::refused;
 
 // The most bytes of an input, and the bytes of the output that apply is given.
 pub const ROOM: usize = 65536;
 
-// The most bytes that are printed: six numbers of 20 digits with their commas and CR LF, and a holding.
+// The most bytes that are printed: the numbers of an answer, 20 digits each, with their commas and CR LF, and a holding.
 pub const MOST: usize = 65663;
 
 // An input that couldn't be read, or is over 65,536 bytes.
@@ -35,9 +39,9 @@ fn is_unusable(readable: bool, s: &[u8]) -> bool
 // 18, which comes first of all.
 fn print_unusable(printed: &mut [u8]) -> usize
     requires { ⌜ 65663 ≤ length (now printed) ⌝ }
-    ensures { λ r. ⌜ (r ≡ length (printNumbers (six 18 0 0 0 0 0))) × (r ≤ 65663) × (now (printed .exit) ≡ inFront (printNumbers (six 18 0 0 0 0 0)) (now (printed .entry))) ⌝ }
+    ensures { λ r. ⌜ (r ≡ length (printNumbers (refusedWith (alone inputUnusable)))) × (r ≤ 65663) × (now (printed .exit) ≡ inFront (printNumbers (refusedWith (alone inputUnusable))) (now (printed .entry))) ⌝ }
 {
-    put_six(&mut *printed, refused(18, 0, 0))
+    put_numbers(&mut *printed, refused(Refusal::alone(INPUT_UNUSABLE)))
 }
 
 // The numbers of apply, and what stands in its output before the zeros: after a refusal that is nothing.
@@ -48,7 +52,7 @@ fn print_load(holding: &[u8], change: &[u8], printed: &mut [u8]) -> usize
 {
     let mut out = [0u8; ROOM];
     let answer = apply(holding, change, &mut out);
-    let at = put_six(&mut *printed, answer);
+    let at = put_numbers(&mut *printed, answer);
     let size = bare_length(&out);
     at + put::bytes(&mut printed[at..], &out[0..size])
 }

@@ -28,11 +28,12 @@ use Rattle.meaning.specs.Records.{Rec, keyed, opOf, changeOf}
 use Rattle.meaning.specs.Holding.{isHeld}
 use Rattle.meaning.specs.File.{Sheet, readFile, mostBody}
 use Rattle.meaning.specs.Answers.{Read}
-use Rattle.meaning.specs.Steps.{stepRules}
+use Rattle.meaning.specs.Steps.{stepRules, stepCode, steps}
 use Rattle.laws.specs.LinesAndFields.{endsAll}
 use Rattle.laws.specs.FileReadBack.{fineC, file-says}
 use Rattle.laws.specs.SoundFile.{RoleLine, SaysChange, SaysChanges, read-sound}
 use Rattle.laws.specs.Scottish.{scottish-regular}
+use Rattle.meaning.specs.Undo.{undoBody}
 use Rattle.text.specs.Places.{lineLen, lineEnd}
 use Rattle.text.proofs.LineLaws.{lines-at, lines-end}
 use Rattle.layout.specs.declared.kinds.Kind as code
@@ -98,11 +99,11 @@ body-of f t (file s) e =
 -- the way back over the rest and then over the steps made is that over the whole file
 abbrev Backed : List ℕ → List ℕ → List ℕ → State → List ℕ → State → List (Change Rec) → List ℕ → List ℕ → ℕ → Type 0
 Backed h f a₀ s₀ a s cs steps before n =
-    undo (after (keyed scottish)) (back (keyed scottish)) (says h f a (s .count)) cs ++ stepsBack h f steps before n ≡ undo (after (keyed scottish)) (back (keyed scottish)) (says h f a₀ (s₀ .count)) (changesOf (readFile scottish f))
+    undoBody scottish (says h f a (s .count)) cs ++ stepsBack h f steps before n ≡ undoBody scottish (says h f a₀ (s₀ .count)) (changesOf (readFile scottish f))
 
 -- what is left to run from `at` on, after n steps, ends as the whole run does
 pub record Going (h f a₀ : List ℕ) (room : ℕ) (s₀ : State) (a o t steps before : List ℕ) (s : State) (at n : ℕ) : Type 0 where
-  pub left : Theory.run (keyed scottish) (stepRules scottish room) (n + 2) (says h f a (s .count)) (bodyFrom (linesOf (drop at f))) ≡ Theory.run (keyed scottish) (stepRules scottish room) 2 (says h f a₀ (s₀ .count)) (changesOf (readFile scottish f))
+  pub left : Theory.run (keyed scottish) (stepRules scottish room) (n + 2) (says h f a (s .count)) (bodyFrom (linesOf (drop at f))) ≡ steps scottish room (says h f a₀ (s₀ .count)) (changesOf (readFile scottish f))
   pub backed : Backed h f a₀ s₀ a s (bodyFrom (linesOf (drop at f))) steps before n
   pub rest : linesOf (drop at f) ≡ drop (n + 1) (linesOf f)
   pub ready : Ready h f a o t room s
@@ -125,8 +126,8 @@ unfolding stepsBack
 go-start h f a o c steps before room s e y t p k q m =
     let b = body-of f t (readFile scottish f) refl in
     record {
-      left = ap (Theory.run (keyed scottish) (stepRules scottish room) 2 (says h f a (s .count))) (body ∙ b .0);
-      backed = append-nil _ ∙ ap (undo (after (keyed scottish)) (back (keyed scottish)) (says h f a (s .count))) (body ∙ b .0);
+      left = ap (steps scottish room (says h f a (s .count))) (body ∙ b .0);
+      backed = append-nil _ ∙ ap (undoBody scottish (says h f a (s .count))) (body ∙ b .0);
       rest = lines-after f 0 e q full;
       ready = y;
       fines = subst (λ cs. T (all (fineC scottish) cs)) (sym (body ∙ b .0)) (b .1);
@@ -194,16 +195,16 @@ module _ (h f a₀ : List ℕ) (room : ℕ) (s₀ : State) (a o t steps before :
       go-before = omega (arith, few-here, g .beforeSpace)
 
       module _ (b′ o′ t′ : List ℕ) (r : Stepped) (w : Steps h f a b′ o′ t′ room (changeAt f at) s r) where
-        run-here : on (judge (keyed scottish) (stepRules scottish room) (says h f a (s .count)) (changeAt f at)) (n + 2)
+        run-here : on (stepCode scottish room (says h f a (s .count)) (changeAt f at)) (n + 2)
             (Theory.run (keyed scottish) (stepRules scottish room) (suc (n + 2)) (after (keyed scottish) (says h f a (s .count)) (changeAt f at)) (bodyFrom (linesOf (drop (at + (lineLen (drop at f) + 2)) f))))
-            ≡ Theory.run (keyed scottish) (stepRules scottish room) 2 (says h f a₀ (s₀ .count)) (changesOf (readFile scottish f))
+            ≡ steps scottish room (says h f a₀ (s₀ .count)) (changesOf (readFile scottish f))
         unfolding Theory.run
         run-here = sym (ap (Theory.run (keyed scottish) (stepRules scottish room) (n + 2) (says h f a (s .count))) body-here) ∙ g .left
 
         -- a step that is refused ends the run at its line
         pub go-stop : (x : Ran) → x ≡ record { code = r .code; line = n + 2; state = s; steps = n; end = at } → (r .code ≡ 0 → ⊥) → Runs h f a₀ b′ o′ t′ steps before room s₀ x
         go-stop p v x = rw v (record {
-          ended = rw (ne-eqb (r .code) 0 x) (sym (halt (judge (keyed scottish) (stepRules scottish room) (says h f a (s .count)) (changeAt f at)) (w .coded) _) ∙ run-here);
+          ended = rw (ne-eqb (r .code) 0 x) (sym (halt (stepCode scottish room (says h f a (s .count)) (changeAt f at)) (w .coded) _) ∙ run-here);
           ready = λ z. absurd (x z);
           kept = λ z. absurd (x z);
         })

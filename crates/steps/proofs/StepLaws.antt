@@ -11,7 +11,7 @@ use mir.Val.{Fits}
 use lib.Dec.{T, leb, leb→le}
 use lib.ListN.{length, getD, take, drop, set, length-append, length-drop, length-set}
 use lib.Seq.{length-take-le}
-use Rattle.base.specs.Lists.{all, some?, ask}
+use Rattle.base.specs.Lists.{all, some?, ask, atMost}
 use Rattle.base.specs.ListLaws.{all-both}
 use Rattle.base.specs.Tests.{and-in, and-l, and-r, T-true, T-false}
 use Rattle.theory.specs.Fold.{all?}
@@ -24,8 +24,9 @@ use Rattle.meaning.specs.Records.{Rec, keyed, keyOf, refsOf}
 use Rattle.meaning.specs.Kinds.{role}
 use Rattle.meaning.specs.Table.{scottish}
 use Rattle.meaning.specs.Holding.{isHeld, written, mostRecords}
-use Rattle.meaning.specs.Steps.{few, keyCode, fits, stepRules, heldTests}
+use Rattle.meaning.specs.Steps.{few, keyCode, fits, stepRules, heldTests, stepCode}
 use Rattle.laws.specs.Body.{fine, fine-body}
+use Rattle.meaning.specs.Codes.{referenceUnmet, holdingTooLong, tooManyRecords}
 use Rattle.layout.specs.declared.kinds.Kind as code
 use Rattle.layout.specs.declared.kinds.Kind.the-variants.{Header, Street, StreetXref, Blpu, AppXref, Lpi, Metadata, Trailer}
 use Rattle.layout.specs.Meant.{kindMeant}
@@ -70,23 +71,23 @@ op-coded ins e = omega arith
 op-coded upd e = omega arith
 op-coded del e = omega arith
 
-tests-coded : (room : ℕ) (st : List Rec) → Coded (fails (stepRules scottish room) st)
-unfolding fails stepRules
+tests-coded : (room : ℕ) (st : List Rec) → Coded (fails (stepRules scottish room .tests) st)
+unfolding fails
 tests-coded room st =
-    need-coded (few st) 16 (ask (met (keyed scottish) (refsOf scottish) st) 12 (ask (fits room st) 13 none)) (λ e. omega arith)
-    (need-coded (met (keyed scottish) (refsOf scottish) st) 12 (ask (fits room st) 13 none) (λ e. omega arith) (need-coded (fits room st) 13 none (λ e. omega arith) tt))
+    need-coded (few st) tooManyRecords (ask (met (keyed scottish) (refsOf scottish) st) referenceUnmet (ask (fits room st) holdingTooLong none)) (λ e. omega arith)
+    (need-coded (met (keyed scottish) (refsOf scottish) st) referenceUnmet (ask (fits room st) holdingTooLong none) (λ e. omega arith) (need-coded (fits room st) holdingTooLong none (λ e. omega arith) tt))
 
-judge-coded : (room : ℕ) (st : List Rec) (c : Change Rec) → Coded (judge (keyed scottish) (stepRules scottish room) st c)
+judge-coded : (room : ℕ) (st : List Rec) (c : Change Rec) → Coded (stepCode scottish room st c)
 unfolding judge
-judge-coded room st c = need-coded (allowed (c .op) (get (keyed scottish) (keyOf scottish (c .rec)) st)) (keyCode (c .op)) (fails (stepRules scottish room) (after (keyed scottish) st c)) (op-coded (c .op)) (tests-coded room (after (keyed scottish) st c))
+judge-coded room st c = need-coded (allowed (c .op) (get (keyed scottish) (keyOf scottish (c .rec)) st)) (keyCode (c .op)) (fails (stepRules scottish room .tests) (after (keyed scottish) st c)) (op-coded (c .op)) (tests-coded room (after (keyed scottish) st c))
 
 zero-none : (o : Option ℕ) → Coded o → codeNumber o ≡ 0 → o ≡ none
 zero-none none c e = refl
 zero-none (some w) c e = absurd (c e)
 
 -- code 0 is no refusal
-pub code-none : (room w : ℕ) (st : List Rec) (c : Change Rec) → w ≡ codeNumber (judge (keyed scottish) (stepRules scottish room) st c) → w ≡ 0 → judge (keyed scottish) (stepRules scottish room) st c ≡ none
-code-none room w st c e z = zero-none (judge (keyed scottish) (stepRules scottish room) st c) (judge-coded room st c) (sym e ∙ z)
+pub code-none : (room w : ℕ) (st : List Rec) (c : Change Rec) → w ≡ codeNumber (stepCode scottish room st c) → w ≡ 0 → stepCode scottish room st c ≡ none
+code-none room w st c e z = zero-none (stepCode scottish room st c) (judge-coded room st c) (sym e ∙ z)
 
 -- references that are met by keys are met by numbers
 met-told : (st : List Rec) → T (all (fine scottish) st) → T (met (keyed scottish) (refsOf scottish) st) → T (all (meets numbered refNumbers st) st)
@@ -115,7 +116,7 @@ length-closed a n i l m =
 -- ---- a step that is not refused
 
 module _ (h f a o t : List ℕ) (room v : ℕ) (s : State) (y : Ready h f a o t room s) (g : T (fine scottish (recordOf h f v))) (j : Judged) where
-  few-now : s .count ≤ most
+  few-now : s .count ≤ mostRecords
   few-now = holds-few h f a o room s (y .holds)
 
   counted-now : s .count ≡ length (says h f a (s .count))
@@ -127,7 +128,7 @@ module _ (h f a o t : List ℕ) (room v : ℕ) (s : State) (y : Ready h f a o t 
 
   module _ (p : Op) (q : Judges h f a room (change p (recordOf h f v)) s j) (z : j .code ≡ 0) where
     passed : T (allowed p (get (keyed scottish) (keyOf scottish (recordOf h f v)) (says h f a (s .count)))) × T (passes (stepRules scottish room) (after (keyed scottish) (says h f a (s .count)) (change p (recordOf h f v))))
-    passed = ok-judge (keyed scottish) (stepRules scottish room) (says h f a (s .count)) (change p (recordOf h f v)) (code-none room (j .code) (says h f a (s .count)) (change p (recordOf h f v)) (q .coded) z)
+    passed = ok-stepCode scottish room (says h f a (s .count)) (change p (recordOf h f v)) (code-none room (j .code) (says h f a (s .count)) (change p (recordOf h f v)) (q .coded) z)
 
     few-after : T (few (after (keyed scottish) (says h f a (s .count)) (change p (recordOf h f v))))
     unfolding stepRules
@@ -150,9 +151,9 @@ module _ (h f a o t : List ℕ) (room v : ℕ) (s : State) (y : Ready h f a o t 
 
     ordered-next : (b c : List ℕ) (m : ℕ) → says h f b m ≡ after (keyed scottish) (says h f a (s .count)) (change p (recordOf h f v)) → m ≡ length (after (keyed scottish) (says h f a (s .count)) (change p (recordOf h f v))) → length b ≡ length a → take m c ≡ byKey tagOf (says h f b m)
         → Ordered h f b c m
-    unfolding few
+    unfolding atMost
     ordered-next b c m e n l i = record {
-      within = omega (arith, y .space, leb→le (length (after (keyed scottish) (says h f a (s .count)) (change p (recordOf h f v)))) most few-after);
+      within = omega (arith, y .space, leb→le (length (after (keyed scottish) (says h f a (s .count)) (change p (recordOf h f v)))) mostRecords few-after);
       asc = subst (Asc (keyed scottish)) (sym e) (asc-after (keyed scottish) (says h f a (s .count)) (change p (recordOf h f v)) (y .holds .ordered .asc));
       fines = subst (λ x. T (all (fine scottish) x)) (sym e) fines-after;
       tagged = i;
@@ -239,9 +240,9 @@ module _ (h f a o t : List ℕ) (room v : ℕ) (s : State) (y : Ready h f a o t 
     pub ins-fits : Fits w64 (s .count + 1)
     ins-fits = record { fits = omega (arith, few-now) }
 
-    ins-few : s .count < most
-    unfolding few
-    ins-few = omega (arith, ins-count, leb→le (length (after (keyed scottish) st (change ins x))) most (few-after ins q z))
+    ins-few : s .count < mostRecords
+    unfolding atMost
+    ins-few = omega (arith, ins-count, leb→le (length (after (keyed scottish) st (change ins x))) mostRecords (few-after ins q z))
 
     -- there is room for one entry more
     pub ins-in : s .count < length a

@@ -18,7 +18,8 @@ use Rattle.meaning.specs.Records.{Rec, keyed, opOf}
 use Rattle.meaning.specs.Holding.{isHeld}
 use Rattle.meaning.specs.File.{Sheet, readFile, mostBody}
 use Rattle.meaning.specs.Answers.{Read}
-use Rattle.meaning.specs.Steps.{stepRules}
+use Rattle.meaning.specs.Steps.{steps}
+use Rattle.meaning.specs.Undo.{undoBody}
 use Rattle.entries.specs.Entries.{recOf}
 use Rattle.places.specs.Places.{says}
 use Rattle.places.specs.Changes.{change, stepsBack}
@@ -48,11 +49,11 @@ ranAs h f b r = pick (eqb (r .code) 0) (done (says h f b (r .state .count))) (st
 -- the entries of the steps that were made say how they are taken back, and from `end` on stands what follows the body
 pub record Kept (h f a steps before : List ℕ) (s : State) (r : Ran) : Type 0 where
   pub few : r .steps ≤ mostBody
-  pub backed : stepsBack h f steps before (r .steps) ≡ undo (after (keyed scottish)) (back (keyed scottish)) (says h f a (s .count)) (changesOf (readFile scottish f))
+  pub backed : stepsBack h f steps before (r .steps) ≡ undoBody scottish (says h f a (s .count)) (changesOf (readFile scottish f))
   pub rest : linesOf (drop (r .end) f) ≡ drop (r .steps + 1) (linesOf f)
 
 -- the run ends as the run of the file's changes from line 2 on does, and where nothing is refused it leaves a state that is ready for more, and what its undo needs
 pub record Runs (h f a b g t steps before : List ℕ) (room : ℕ) (s : State) (r : Ran) : Type 0 where
-  pub ended : ranAs h f b r ≡ Theory.run (keyed scottish) (stepRules scottish room) 2 (says h f a (s .count)) (changesOf (readFile scottish f))
+  pub ended : ranAs h f b r ≡ steps scottish room (says h f a (s .count)) (changesOf (readFile scottish f))
   pub ready : r .code ≡ 0 → Ready h f b g t room (r .state)
   pub kept : r .code ≡ 0 → Kept h f a steps before s r

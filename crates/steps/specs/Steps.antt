@@ -9,7 +9,7 @@ use Rattle.theory.specs.Store.{get}
 use Rattle.theory.specs.Step.{Change, judge, after}
 use Rattle.meaning.specs.Table.{scottish}
 use Rattle.meaning.specs.Records.{Rec, keyed, keyOf}
-use Rattle.meaning.specs.Steps.{stepRules}
+use Rattle.meaning.specs.Steps.{stepCode}
 use Rattle.laws.specs.Body.{fine}
 use Rattle.layout.specs.Meant.{kindMeant}
 use Rattle.volume.specs.Meant.{changeMeant}
@@ -29,7 +29,7 @@ pub record Leaves (h f a b g t : List ℕ) (room : ℕ) (c : Change Rec) (s : St
 
 -- a step: its code, and where that is 0 what it leaves
 pub record Steps (h f a b g t : List ℕ) (room : ℕ) (c : Change Rec) (s : State) (r : Stepped) : Type 0 where
-  pub coded : r .code ≡ codeNumber (judge (keyed scottish) (stepRules scottish room) (says h f a (s .count)) c)
+  pub coded : r .code ≡ codeNumber (stepCode scottish room (says h f a (s .count)) c)
   pub left : r .code ≡ 0 → Leaves h f a b g t room c s r
 
 -- the line at `at` carries a sound record, and its kind and change are those that were read

@@ -18,18 +18,20 @@ use Rattle.base.specs.Lists.{pick, zeros}
 use Rattle.theory.specs.Answer.{took, refused}
 use Rattle.meaning.specs.Table.{scottish}
 use Rattle.meaning.specs.Holding.{written}
-use Rattle.meaning.specs.Load.{six, thenZeros, load, undone, undoFile}
-use Rattle.meaning.specs.Answers.{Answer}
+use Rattle.meaning.specs.Load.{thenZeros, load, undone, undoFile}
+use Rattle.meaning.specs.Answers.{Answer, alone, refusedWith, numbersOf}
 use Rattle.meaning.specs.Undo.{undoBytes}
 use Rattle.text.specs.Front.{inFront}
 use Rattle.text.specs.Places.{lineEnd}
 use Rattle.places.specs.Places.{says}
-use Rattle.answers.specs.declared.numbers.Answer.{Answer as Six′}
-use Rattle.answers.specs.Meant.{answerOf}
+use Rattle.answers.specs.declared.numbers.Answer.{Answer as Told}
+use Rattle.answers.specs.Meant.{answerOf, refusalOf, refusalMeant, countsOf}
+use Rattle.meaning.specs.Codes.{undoTooLong}
+use Rattle.answers.specs.declared.refusal.Refusal.{Refusal}
 use Rattle.writer.specs.Runs.{backTexts, FitsBack}
 use Rattle.text.proofs.FrontLaws.{front-same, front-then, front-room, front-last, last-room}
 use Rattle.loader.specs.declared.load.Loaded.{Loaded}
-use Rattle.loader.specs.Loaded.{numbers, undoText, Loads}
+use Rattle.loader.specs.Loaded.{undoText, Loads}
 use Rattle.undo.specs.Lent.{FitsUndo, Lent}
 use Rattle.undo.specs.Outcome.{UndoOutcome}
 use Rattle.loader.proofs.FillLaws.{fill-rest}
@@ -162,12 +164,12 @@ module _ (text old : List ℕ) (b : Bool) (t : b ≡ leb (length text) (length o
 
 module _ (h f b t u : List ℕ) (room space : ℕ) (r : Loaded) (w : Loads h f b t u space r) where
   -- what the load refuses
-  pub undo-refused : (a : Six′) (out work : List ℕ) → (r .answer .code ≡ 0 → ⊥) → a ≡ r .answer → out ≡ zeros room → work ≡ zeros space → UndoOutcome h f room space a out work
+  pub undo-refused : (a : Told) (out work : List ℕ) → (r .answer .code ≡ 0 → ⊥) → a ≡ r .answer → out ≡ zeros room → work ≡ zeros space → UndoOutcome h f room space a out work
   unfolding undoFile undone
   undo-refused a out work n p o z = go (load scottish space h f) (w .answered)
     where
-      go : (x : Answer) → r .answer ≡ answerOf (numbers x) → (a ≡ answerOf (undone room space (undoBytes scottish h f) x .answer)) × (out ≡ undone room space (undoBytes scottish h f) x .output) × (work ≡ undone room space (undoBytes scottish h f) x .work)
-      go (took new i s d) q = absurd (n (ap (λ y. y .code) q))
+      go : (x : Answer) → r .answer ≡ answerOf (numbersOf x) → (a ≡ answerOf (undone room space (undoBytes scottish h f) x .answer)) × (out ≡ undone room space (undoBytes scottish h f) x .output) × (work ≡ undone room space (undoBytes scottish h f) x .work)
+      go (took new m) q = absurd (n (ap (λ y. y .code) q))
       go (refused r) q = (p ∙ q, o, z)
 
   module _ (m : r .answer .code ≡ 0) where
@@ -181,16 +183,16 @@ module _ (h f b t u : List ℕ) (room space : ℕ) (r : Loaded) (w : Loads h f b
 
     module _ (c : Bool) (e : c ≡ leb (length (undoText h f t u (r .steps) (r .end))) room) (out work : List ℕ)
         (o : out ≡ pick {A = List ℕ} c (thenZeros room (undoText h f t u (r .steps) (r .end))) (zeros room)) (z : work ≡ zeros space) where
-      tells : undoFile scottish h f room space ≡ undone room space (undoText h f t u (r .steps) (r .end)) (took (written (says h f b (r .count))) (r .answer .inserts) (r .answer .updates) (r .answer .deletes))
+      tells : undoFile scottish h f room space ≡ undone room space (undoText h f t u (r .steps) (r .end)) (took (written (says h f b (r .count))) (countsOf (r .answer .inserts) (r .answer .updates) (r .answer .deletes)))
       unfolding undoFile
       tells = ap (λ x. undone room space x (load scottish space h f)) (w .taken m .undoes) ∙ ap (undone room space (undoText h f t u (r .steps) (r .end))) (w .taken m .loaded)
 
       -- the undo
       pub undo-done : c ≡ true → UndoOutcome h f room space (r .answer) out work
       unfolding undone
-      undo-done y = rw (tells, ← e, y) (w .answered ∙ ap (λ x. answerOf (numbers x)) (w .taken m .loaded), rw y at o, z)
+      undo-done y = rw (tells, ← e, y) (w .answered ∙ ap (λ x. answerOf (numbersOf x)) (w .taken m .loaded), rw y at o, z)
 
       -- one that is too long
-      pub undo-long : c ≡ false → (a : Six′) → a ≡ answerOf (six 17 0 0 0 0 0) → UndoOutcome h f room space a out work
+      pub undo-long : c ≡ false → (x : Refusal) (a : Told) → x ≡ refusalOf (alone undoTooLong) → a ≡ answerOf (refusedWith (refusalMeant x)) → UndoOutcome h f room space a out work
       unfolding undone
-      undo-long y a q = rw (tells, ← e, y) (q, rw y at o, z)
+      undo-long y x a v q = rw (tells, ← e, y) (q ∙ ap (λ i. answerOf (refusedWith (refusalMeant i))) v, rw y at o, z)

@@ -11,14 +11,16 @@ ghost use Rattle.text.specs.Front.{inFront};
 ghost use Rattle.loader.specs.Loaded.{undoText};
 ghost use Rattle.undo.specs.Lent.{FitsUndo, Lent};
 ghost use Rattle.undo.specs.Outcome.{UndoOutcome};
+use answers::codes::UNDO_TOO_LONG;
+use answers::numbers::Answer;
+use answers::numbers::refused;
+use answers::refusal::Refusal;
 use layout::limits::File;
 use layout::limits::Holding;
 use loader::load::load;
 use loader::load::refuse;
 use text::lines::line_end;
 use text::put;
-use answers::numbers::Answer;
-use answers::numbers::refused;
 use writer::room::back_fits;
 use writer::runs::write_back;
 
@@ -84,7 +86,7 @@ fn fill_undo(
     true
 }
 
-// Writes the undo of a file: the six numbers, the undo or zeros in the output, and zeros in the work buffer.
+// Writes the undo of a file: the numbers, the undo or zeros in the output, and zeros in the work buffer.
 pub fn undo(holding: &[u8], file: &[u8], out: &mut [u8], work: &mut [u8]) -> Answer
     ensures { λ r. ⌜ UndoOutcome (now (holding .entry)) (now (file .entry)) (length (now (out .entry))) (length (now (work .entry))) r (now (out .exit)) (now (work .exit)) ⌝ }
 {
@@ -103,5 +105,5 @@ pub fn undo(holding: &[u8], file: &[u8], out: &mut [u8], work: &mut [u8]) -> Ans
     if fill_undo(&mut *out, holding, file, &steps, &before, count, end) {
         return answer;
     }
-    refused(17, 0, 0)
+    refused(Refusal::alone(UNDO_TOO_LONG))
 }

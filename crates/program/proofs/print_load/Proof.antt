@@ -9,7 +9,7 @@ print-load-spec =
     (tie.spec
     (λ c. search loading)  -- slice-aggregate-apply
     (λ c κs. search loading)  -- apply-requires
-    (λ c κs. search loading)  -- put-six-requires
+    (λ c κs. search loading)  -- put-numbers-requires
     (λ c. search loading)  -- slice-aggregate-bare-length
     (λ c κs. search loading)  -- bare-length-requires
     (λ c. search loading)  -- sub-bytes

@@ -11,5 +11,8 @@ check-holding-spec =
     (λ c. search checks)  -- slice-aggregate-read-holding-2
     (λ c. search checks)  -- slice-aggregate-read-holding-3
     (λ c κs. search checks)  -- read-holding-requires
+    (λ c κs. search checks)  -- passed-requires
     (λ c. search checks)  -- returns
+    (λ c κs. search checks)  -- of-line-requires
+    (λ c κs. search checks)  -- faulted-requires
     (λ c. search checks))  -- returns-2

@@ -8,5 +8,5 @@ muiwash-check-file-spec =
     tie.close
     (tie.spec
     (λ c κs. search told)  -- check-file-requires
-    (λ c κs. search told)  -- six-requires
+    (λ c κs. search told)  -- in-order-requires
     (λ c. search told))  -- returns

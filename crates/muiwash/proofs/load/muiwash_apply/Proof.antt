@@ -8,6 +8,6 @@ muiwash-apply-spec =
     tie.close
     (tie.spec
     (λ c κs. search told)  -- apply-requires
-    (λ c κs. search told)  -- six-requires
+    (λ c κs. search told)  -- in-order-requires
     (λ c. search told)  -- same-length
     (λ c. search told))  -- returns

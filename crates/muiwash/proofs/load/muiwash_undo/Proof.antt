@@ -8,7 +8,7 @@ muiwash-undo-spec =
     tie.close
     (tie.spec
     (λ c κs. search told)  -- undo-requires
-    (λ c κs. search told)  -- six-requires
+    (λ c κs. search told)  -- in-order-requires
     (λ c. search told)  -- same-length
     (λ c. search told)  -- same-length-2
     (λ c. search told))  -- returns

@@ -1,5 +1,5 @@
 -- `printed::numbers::put_number` meets its contract.
-use Rattle.printed.proofs.SixLaws.{numbered}
+use Rattle.printed.proofs.ListedLaws.{numbered}
 use Rattle.printed.proofs.numbers.put_number.Statement.{statement}
 use Rattle.printed.proofs.numbers.put_number.Tie as tie
 

@@ -1,5 +1,5 @@
 -- `printed::numbers::put_three` meets its contract.
-use Rattle.printed.proofs.SixLaws.{threefold}
+use Rattle.printed.proofs.ListedLaws.{threefold}
 use Rattle.printed.proofs.numbers.put_three.Statement.{statement}
 use Rattle.printed.proofs.numbers.put_three.Tie as tie
 

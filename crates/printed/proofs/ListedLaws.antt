@@ -10,8 +10,8 @@ use mir.Syntax.{w64}
 use mir.Val.{Fits}
 use Rattle.theory.specs.Decimal.{width, dec}
 use Rattle.theory.specs.DecimalLaws.{length-dec}
-use Rattle.meaning.specs.Load.{six}
-use Rattle.meaning.specs.Program.{printNumbers}
+use Rattle.meaning.specs.Answers.{Numbers}
+use Rattle.meaning.specs.Program.{commaSeparated, printNumbers}
 use Rattle.text.specs.Front.{inFront}
 use Rattle.text.proofs.FrontLaws.{front-same, front-then, front-room, front-last, last-room}
 use Rattle.text.proofs.NumberLaws.{width-most}
@@ -83,25 +83,28 @@ module _ (a b c : ℕ) (mark old new : List ℕ) (n : ℕ) (room : 62 + length m
 
 pub ruleset threefold = (needs, second-room, third-room, three-count, three-done)
 
--- ---- all six
+-- ---- all numbers of an answer
 
 -- they are the first three with a comma after them, then the counts with CR LF
-six-parts : (c l f i u d : ℕ) → threeThen c l f (44 ∷ []) ++ threeThen i u d (13 ∷ 10 ∷ []) ≡ printNumbers (six c l f i u d)
-unfolding threeThen numberThen printNumbers
-six-parts c l f i u d = simp append-assoc
+parts : (a : Numbers) → threeThen (a .code) (a .line) (a .field) (44 ∷ []) ++ threeThen (a .inserts) (a .updates) (a .deletes) (13 ∷ 10 ∷ []) ≡ printNumbers a
+unfolding threeThen numberThen printNumbers commaSeparated
+parts a = simp append-assoc
 
-module _ (c l f i u d : ℕ) (n : ℕ) (p : n ≡ length (threeThen c l f (44 ∷ []))) where
+module _ (a : Numbers) (n : ℕ) (p : n ≡ length (threeThen (a .code) (a .line) (a .field) (44 ∷ []))) where
   -- how much is written
-  pub six-count : (m : ℕ) → m ≡ length (threeThen i u d (13 ∷ 10 ∷ [])) → n + m ≡ length (printNumbers (six c l f i u d))
-  six-count m r = omega (arith, length-append (threeThen c l f (44 ∷ [])) (threeThen i u d (13 ∷ 10 ∷ [])), ap length (six-parts c l f i u d))
+  pub listed-count : (m : ℕ) → m ≡ length (threeThen (a .inserts) (a .updates) (a .deletes) (13 ∷ 10 ∷ [])) → n + m ≡ length (printNumbers a)
+  listed-count m r =
+      omega (arith, length-append (threeThen (a .code) (a .line) (a .field) (44 ∷ [])) (threeThen (a .inserts) (a .updates) (a .deletes) (13 ∷ 10 ∷ [])), ap length (parts a))
 
-  module _ (old new : List ℕ) (q : new ≡ inFront (threeThen c l f (44 ∷ [])) old) where
+  module _ (old new : List ℕ) (q : new ≡ inFront (threeThen (a .code) (a .line) (a .field) (44 ∷ [])) old) where
     -- the counts have room
     pub counts-room : 127 ≤ length old → n ≤ 63 → 64 ≤ length (take (length new - n) (drop n new))
-    counts-room h k = front-room (threeThen c l f (44 ∷ [])) old new n 64 p q (omega arith)
+    counts-room h k = front-room (threeThen (a .code) (a .line) (a .field) (44 ∷ [])) old new n 64 p q (omega arith)
 
     -- with them all are there
-    pub six-done : (last : List ℕ) → last ≡ inFront (threeThen i u d (13 ∷ 10 ∷ [])) (take (length new - n) (drop n new)) → putMid n (length new - n) new last ≡ inFront (printNumbers (six c l f i u d)) old
-    six-done last w = front-then (threeThen c l f (44 ∷ [])) (threeThen i u d (13 ∷ 10 ∷ [])) old new last n p q w ∙ ap (λ t. inFront t old) (six-parts c l f i u d)
+    pub listed-done : (last : List ℕ) → last ≡ inFront (threeThen (a .inserts) (a .updates) (a .deletes) (13 ∷ 10 ∷ [])) (take (length new - n) (drop n new))
+        → putMid n (length new - n) new last ≡ inFront (printNumbers a) old
+    listed-done last w =
+        front-then (threeThen (a .code) (a .line) (a .field) (44 ∷ [])) (threeThen (a .inserts) (a .updates) (a .deletes) (13 ∷ 10 ∷ [])) old new last n p q w ∙ ap (λ t. inFront t old) (parts a)
 
-pub ruleset sixfold = (needs, six-count, counts-room, six-done)
+pub ruleset listed = (needs, listed-count, counts-room, listed-done)
