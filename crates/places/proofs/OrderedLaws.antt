@@ -1,4 +1,4 @@
--- The laws of records in the order of their keys, with their tags: they ascend by numbers too, and beside each place stands the tag of its key.
+-- The laws of entries in order: their keys ascend by numbers too, and beside each entry stands the tag of its key.
 use mathlib.Core.Path.{_≡_, sym, ap, _∙_}
 use mathlib.Core.List.{List}
 use Prim.Native.Nat.{ℕ, _-_, _<_}

@@ -21,7 +21,7 @@ use Rattle.judge.specs.declared.State.{State}
 use Rattle.judge.specs.Ready.{codeNumber, Ready}
 use Rattle.steps.specs.declared.step.Stepped.{Stepped}
 
--- the array says the state after the change, ready for the next, and the entry before is of the record that stood at the key, or of the change's own
+-- the array says the state after the change, ready for the next, and the entry before is of what stood at the key, or of the change's own
 pub record Leaves (h f a b g t : List ℕ) (room : ℕ) (c : Change Rec) (s : State) (r : Stepped) : Type 0 where
   pub said : says h f b (r .state .count) ≡ after (keyed scottish) (says h f a (s .count)) c
   pub ready : Ready h f b g t room (r .state)

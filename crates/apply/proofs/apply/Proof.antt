@@ -14,8 +14,8 @@ apply-spec =
     (λ c κs. search needs)  -- load-requires
     (λ c κs. search needs)  -- refuse-requires
     (λ c. search needs)  -- same-length
-    (λ c. apply-refused _ _ _ _ _ _ _ (c .before .before .before .before .before .before .before .before .before .before .load .ensures) _ _ (c .before .before .before .before .if1 .taken) (c .before .before .refuse .ensures .0) (c .before .before .refuse .ensures .1))  -- returns
+    (λ c. let t = c .before .before .before .before in let l = t .before .before .before .before .before .before in apply-refused _ _ _ _ _ _ _ (l .load .ensures) _ _ (t .if1 .taken) (c .before .before .refuse .ensures .0) (c .before .before .refuse .ensures .1))  -- returns
     (λ c. search needs)  -- slice-aggregate-fill
     (λ c κs. let t = c .before .before .before .before .before .before .before .before .load .ensures .taken (c .before .before .if1 .left) in (t .held, t .fits))  -- fill-requires
     (λ c. search needs)  -- same-length-2
-    (λ c. apply-done _ _ _ _ _ _ _ (c .before .before .before .before .before .before .before .before .before .before .before .load .ensures) _ (c .before .before .before .before .before .if1 .left) (c .before .before .fill .ensures)))  -- returns-2
+    (λ c. let t = c .before .before .before .before .before in let l = t .before .before .before .before .before .before in apply-done _ _ _ _ _ _ _ (l .load .ensures) _ (t .if1 .left) (c .before .before .fill .ensures)))  -- returns-2

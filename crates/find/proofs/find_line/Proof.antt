@@ -22,5 +22,5 @@ find-line-spec =
     (λ c. search finds)  -- returns-2
     (λ c. search finds)  -- slice-aggregate-held-line
     (λ c. search finds)  -- slice-aggregate-held-line-2
-    (λ c κs. enquired _ _ _ _ _ _ _ (c .before .before .before .before .before .before .before .before .before .before .before .before .is-enquired .ensures) (not-false _ (c .before .before .before .before .before .before .before .before .before .before .before .if1 .left)) (c .before .before .before .before .before .before .before .read-holding .ensures) (c .before .before .if2 .left) (search needs))  -- held-line-requires
+    (λ c κs. let r = c .before .before .before .before .before .before .before in let t = r .before .before .before .before in enquired _ _ _ _ _ _ _ (t .before .is-enquired .ensures) (not-false _ (t .if1 .left)) (r .read-holding .ensures) (c .before .before .if2 .left) (search needs))  -- held-line-requires
     (λ c. search finds))  -- returns-3

@@ -27,5 +27,5 @@ line-in-force-spec =
     (λ c. search force)  -- returns-3
     (λ c. search force)  -- slice-aggregate-last-line
     (λ c. search force)  -- slice-aggregate-last-line-2
-    (λ c κs. (enquired _ _ _ _ _ _ _ (c .before .before .before .before .before .before .before .before .before .before .before .before .before .before .before .is-enquired .ensures) (not-false _ (c .before .before .before .before .before .before .before .before .before .before .before .before .before .before .if1 .left)) (c .before .before .before .before .before .before .before .before .before .before .read-holding .ensures) (c .before .before .before .before .before .if2 .left) (search needs), faultless _ _ (c .before .before .before .before .check-file .ensures) (c .before .before .if3 .left)))  -- last-line-requires
-    (λ c. force-last _ _ _ _ _ _ (c .before .before .before .before .before .before .before .before .before .before .before .before .before .before .before .before .is-enquired .ensures) (not-false _ (c .before .before .before .before .before .before .before .before .before .before .before .before .before .before .before .if1 .left)) _ _ _ _ (c .before .before .before .before .before .before .before .before .before .before .before .read-holding .ensures) (c .before .before .before .before .before .before .if2 .left) (c .last-line .ensures)))  -- returns-4
+    (λ c κs. let f = c .before .before .before .before in let r = f .before .before .before .before .before .before in let t = r .before .before .before .before in (enquired _ _ _ _ _ _ _ (t .before .is-enquired .ensures) (not-false _ (t .if1 .left)) (r .read-holding .ensures) (f .before .if2 .left) (search needs), faultless _ _ (f .check-file .ensures) (c .before .before .if3 .left)))  -- last-line-requires
+    (λ c. let t = c .before .before .before .before .before .before in let r = t .before .before .before .before .before in let u = r .before .before .before .before in force-last _ _ _ _ _ _ (u .before .is-enquired .ensures) (not-false _ (u .if1 .left)) _ _ _ _ (r .read-holding .ensures) (t .if2 .left) (c .last-line .ensures)))  -- returns-4

@@ -27,25 +27,25 @@ run-spec =
     (λ c. search running)  -- same-length-4
     (λ c. search running)  -- same-length-5
     (λ c. search running)  -- returns
-    (λ c κs. let t = c .before .before .before in let i = t .before in let r = i .before in let l = r .before .before in let lo = l .before in (lo .loop .inv .0 .ready, go-carries _ _ _ _ _ _ _ _ _ _ _ _ _ (lo .loop .inv .0) (l .loop-test .taken) (r .read-line .result) (r .read-line .ensures .0) _ (i .is-held .ensures) (not-false _ (t .if1 .left)) (r .read-line .ensures .1)))  -- step-requires
+    (λ c κs. let t = c .before .before .before in let r = t .before .before in let l = r .before .before in (l .before .loop .inv .0 .ready, go-carries _ _ _ _ _ _ _ _ _ _ _ _ _ (l .before .loop .inv .0) (l .loop-test .taken) (r .read-line .result) (r .read-line .ensures .0) _ (t .before .is-held .ensures) (not-false _ (t .if1 .left)) (r .read-line .ensures .1)))  -- step-requires
     (λ c. search running)  -- add-ended
     (λ c κs. search running)  -- ended-requires-2
-    (λ c. let p = c .before .before .before .before .before .before .before in let l = p .before .before .before .before .before .before .before .before .before .before in p .places .given ∙ l .loop .inv .1)  -- same-length-6
-    (λ c. let t = c .before .before .before .before .before in let l = t .before .before .before .before .before .before .before .before .before .before .before .before in t .tags .given ∙ l .loop .inv .2)  -- same-length-7
-    (λ c. let co = c .before .before .before in let l = co .before .before .before .before .before .before .before .before .before .before .before .before .before .before in co .counts .given ∙ l .loop .inv .3)  -- same-length-8
-    (λ c. let l = c .before .before .before .before .before .before .before .before .before .before .before .before .before .before .before .before .before in l .loop .inv .4)  -- same-length-9
-    (λ c. let l = c .before .before .before .before .before .before .before .before .before .before .before .before .before .before .before .before .before in l .loop .inv .5)  -- same-length-10
-    (λ c. let s = c .before .before .before .before .before .before .before .before in let t = s .before .before .before .before in let i = t .before in let r = i .before in let l = r .before .before in let lo = l .before in go-stop _ _ _ _ _ _ _ _ _ _ _ _ _ (lo .loop .inv .0) (l .loop-test .taken) (r .read-line .result) (r .read-line .ensures .0) _ (i .is-held .ensures) (not-false _ (t .if1 .left)) _ _ _ _ (s .step .ensures) _ (c .ended2 .ensures) (c .before .if2 .taken))  -- returns-2
+    (λ c. let p = c .before .before .before .before .before .before .before in let e = p .before .before .before .before .before .before .before .before in let l = e .before .before in p .places .given ∙ l .loop .inv .1)  -- same-length-6
+    (λ c. let t = c .before .before .before .before .before in let r = t .before .before .before .before .before .before .before .before .before in let l = r .before .before .before in t .tags .given ∙ l .loop .inv .2)  -- same-length-7
+    (λ c. let o = c .before .before .before in let s = o .before .before .before .before .before in let l = s .before .before .before .before .before .before .before .before .before in o .counts .given ∙ l .loop .inv .3)  -- same-length-8
+    (λ c. let s = c .before .before .before .before .before .before .before .before in let l = s .before .before .before .before .before .before .before .before .before in l .loop .inv .4)  -- same-length-9
+    (λ c. let s = c .before .before .before .before .before .before .before .before in let l = s .before .before .before .before .before .before .before .before .before in l .loop .inv .5)  -- same-length-10
+    (λ c. let s = c .before .before .before .before .before .before .before .before in let t = s .before .before .before .before in let r = t .before .before in let l = r .before .before in go-stop _ _ _ _ _ _ _ _ _ _ _ _ _ (l .before .loop .inv .0) (l .loop-test .taken) (r .read-line .result) (r .read-line .ensures .0) _ (t .before .is-held .ensures) (not-false _ (t .if1 .left)) _ _ _ _ (s .step .ensures) _ (c .ended2 .ensures) (c .before .if2 .taken))  -- returns-2
     (λ c. search running)  -- mul-steps
     (λ c. search running)  -- add-steps
     (λ c. search running)  -- mul-steps-2
-    (λ c. let t = c .before .before .before .before .before .before .before .before .before .before .before in let i = t .before in let r = i .before in let l = r .before .before in let lo = l .before in go-steps _ _ _ _ _ _ _ _ _ _ _ _ _ (lo .loop .inv .0) (l .loop-test .taken) (r .read-line .result) (r .read-line .ensures .0) _ (i .is-held .ensures) (not-false _ (t .if1 .left)))  -- slice-write-steps
+    (λ c. let s = c .before .before .before .before .before .before .before in let t = s .before .before .before .before in let r = t .before .before in let l = r .before .before in go-steps _ _ _ _ _ _ _ _ _ _ _ _ _ (l .before .loop .inv .0) (l .loop-test .taken) (r .read-line .result) (r .read-line .ensures .0) _ (t .before .is-held .ensures) (not-false _ (t .if1 .left)))  -- slice-write-steps
     (λ c. search running)  -- mul-before
-    (λ c. let t = c .before .before .before .before .before .before .before .before .before .before .before in let i = t .before in let r = i .before in let l = r .before .before in let lo = l .before in go-before _ _ _ _ _ _ _ _ _ _ _ _ _ (lo .loop .inv .0) (l .loop-test .taken) (r .read-line .result) (r .read-line .ensures .0) _ (i .is-held .ensures) (not-false _ (t .if1 .left)))  -- slice-write-before
+    (λ c. let s = c .before .before .before .before .before .before .before in let t = s .before .before .before .before in let r = t .before .before in let l = r .before .before in go-before _ _ _ _ _ _ _ _ _ _ _ _ _ (l .before .loop .inv .0) (l .loop-test .taken) (r .read-line .result) (r .read-line .ensures .0) _ (t .before .is-held .ensures) (not-false _ (t .if1 .left)))  -- slice-write-before
     (λ c. search running)  -- add-at-2
     (λ c. search running)  -- add-made
     (λ c. search running)  -- loop-less
-    (λ c. let co = c .before .before .before in let t = co .before .before in let p = t .before .before in let s = p .before in let t2 = s .before .before .before .before in let i = t2 .before in let r = i .before in let l = r .before in let lo = l .before in let loo = lo .before in (go-turn _ _ _ _ _ _ _ _ _ _ _ _ _ (loo .loop .inv .0) (lo .loop-test .taken) (r .read-line .result) (r .read-line .ensures .0) _ (i .is-held .ensures) (not-false _ (t2 .if1 .left)) _ _ _ _ (s .step .ensures) _ (c .before .if2 .left) (l .line-end2 .ensures .0) (l .line-end2 .ensures .2), p .places .given ∙ loo .loop .inv .1, t .tags .given ∙ loo .loop .inv .2, co .counts .given ∙ loo .loop .inv .3, search needs, search needs))  -- loop-again
+    (λ c. let o = c .before .before .before in let t = o .before .before in let p = t .before .before in let u = p .before .before .before .before .before in let r = u .before .before in let l = r .before .before in (go-turn _ _ _ _ _ _ _ _ _ _ _ _ _ (l .before .loop .inv .0) (l .loop-test .taken) (r .read-line .result) (r .read-line .ensures .0) _ (u .before .is-held .ensures) (not-false _ (u .if1 .left)) _ _ _ _ (p .before .step .ensures) _ (c .before .if2 .left) (r .before .line-end2 .ensures .0) (r .before .line-end2 .ensures .2), p .places .given ∙ l .before .loop .inv .1, t .tags .given ∙ l .before .loop .inv .2, o .counts .given ∙ l .before .loop .inv .3, search needs, search needs))  -- loop-again
     (λ c κs. search running)  -- ended-requires-3
     (λ c. search running)  -- same-length-11
     (λ c. search running)  -- same-length-12

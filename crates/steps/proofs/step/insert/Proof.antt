@@ -15,10 +15,10 @@ insert-spec =
     (λ c. search inserted)  -- add-next
     (λ c κs. search inserted)  -- open-requires
     (λ c κs. search inserted)  -- entry-tag-requires
-    (λ c κs. let t = c .before .before .before .before .before .before in let j = t .before in let p = j .before .before .before .before .before .before .before .before in (ins-place _ _ _ _ _ _ _ _ (p .pre .0) (p .pre .1) _ (j .judge-insert .ensures) (t .if1 .left), ins-tags _ _ _ _ _ _ _ _ (p .pre .0) (p .pre .1) _ (j .judge-insert .ensures) (t .if1 .left)))  -- open-requires-2
-    (λ c κs. let t = c .before .before .before .before .before .before .before .before .before .before in let j = t .before in let p = j .before .before .before .before .before .before .before .before in (ins-place _ _ _ _ _ _ _ _ (p .pre .0) (p .pre .1) _ (j .judge-insert .ensures) (t .if1 .left), ins-counts _ _ _ _ _ _ _ _ (p .pre .0) (p .pre .1) _ (j .judge-insert .ensures) (t .if1 .left)))  -- open-requires-3
-    (λ c κs. let o = c .before .before .before .before .before in let op = o .before .before .before .before in let e = op .before in let ope = e .before .before .before .before in let t = ope .before .before in let j = t .before in let p = j .before .before .before .before .before .before .before .before in ins-asked _ _ _ _ _ _ _ _ (p .pre .0) (p .pre .1) _ (j .judge-insert .ensures) (t .if1 .left) _ (ope .«open» .ensures) _ (e .entry-tag .ensures) _ (op .open2 .ensures) _ (o .open3 .ensures))  -- note-requires
+    (λ c κs. let t = c .before .before .before .before .before .before in let s = t .before .before .before .before .before .before .before .before .before in (ins-place _ _ _ _ _ _ _ _ (s .pre .0) (s .pre .1) _ (t .before .judge-insert .ensures) (t .if1 .left), ins-tags _ _ _ _ _ _ _ _ (s .pre .0) (s .pre .1) _ (t .before .judge-insert .ensures) (t .if1 .left)))  -- open-requires-2
+    (λ c κs. let o = c .before .before .before .before .before .before .before .before in let t = o .before .before in let s = t .before .before .before .before .before .before .before .before .before in (ins-place _ _ _ _ _ _ _ _ (s .pre .0) (s .pre .1) _ (t .before .judge-insert .ensures) (t .if1 .left), ins-counts _ _ _ _ _ _ _ _ (s .pre .0) (s .pre .1) _ (t .before .judge-insert .ensures) (t .if1 .left)))  -- open-requires-3
+    (λ c κs. let o = c .before .before .before .before .before in let p = o .before .before .before .before in let e = p .before .before .before .before .before in let t = e .before .before in let s = t .before .before .before .before .before .before .before .before .before in ins-asked _ _ _ _ _ _ _ _ (s .pre .0) (s .pre .1) _ (t .before .judge-insert .ensures) (t .if1 .left) _ (e .«open» .ensures) _ (p .before .entry-tag .ensures) _ (p .open2 .ensures) _ (o .open3 .ensures))  -- note-requires
     (λ c. search inserted)  -- same-length-3
     (λ c. search inserted)  -- same-length-4
     (λ c. search inserted)  -- same-length-5
-    (λ c. let o = c .before .before .before .before .before .before .before .before in let op = o .before .before .before .before in let e = op .before in let ope = e .before .before .before .before in let t = ope .before .before in let j = t .before in let p = j .before .before .before .before .before .before .before .before in ins-step _ _ _ _ _ _ _ _ (p .pre .0) (p .pre .1) _ (j .judge-insert .ensures) (t .if1 .left) _ (ope .«open» .ensures) _ (e .entry-tag .ensures) _ (op .open2 .ensures) _ (o .open3 .ensures) _ _ (c .before .before .note .ensures)))  -- returns-2
+    (λ c. let o = c .before .before .before .before .before .before .before .before in let p = o .before .before .before .before in let e = p .before .before .before .before .before in let t = e .before .before in let s = t .before .before .before .before .before .before .before .before .before in ins-step _ _ _ _ _ _ _ _ (s .pre .0) (s .pre .1) _ (t .before .judge-insert .ensures) (t .if1 .left) _ (e .«open» .ensures) _ (p .before .entry-tag .ensures) _ (p .open2 .ensures) _ (o .open3 .ensures) _ _ (c .before .before .note .ensures)))  -- returns-2

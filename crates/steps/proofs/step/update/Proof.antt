@@ -13,11 +13,11 @@ update-spec =
     (λ c. search updated)  -- same-length
     (λ c. search updated)  -- returns
     (λ c. search updated)  -- mul-old
-    (λ c. let p = c .before .before .before .before .before .before .before .before .before in let i = upd-in _ _ _ _ _ _ _ _ (p .pre .0) (p .pre .1) _ (c .before .before .judge-update .ensures) (c .before .if1 .left) in search (needs, i))  -- slice-read-old
-    (λ c κs. let t = c .before .before .before in let j = t .before in let p = j .before .before .before .before .before .before .before in upd-asked _ _ _ _ _ _ _ _ (p .pre .0) (p .pre .1) _ (j .judge-update .ensures) (t .if1 .left))  -- note-requires
+    (λ c. search updated)  -- slice-read-old
+    (λ c κs. let t = c .before .before .before in let s = t .before .before .before .before .before .before .before .before in upd-asked _ _ _ _ _ _ _ _ (s .pre .0) (s .pre .1) _ (t .before .judge-update .ensures) (t .if1 .left))  -- note-requires
     (λ c. search updated)  -- mul-places
-    (λ c. let t = c .before .before .before .before .before .before in let j = t .before in let p = j .before .before .before .before .before .before .before in let i = upd-in _ _ _ _ _ _ _ _ (p .pre .0) (p .pre .1) _ (j .judge-update .ensures) (t .if1 .left) in search (needs, i))  -- slice-write-places
-    (λ c κs. let n = c .before .before .before .before in let t = n .before .before .before .before in let j = t .before in let p = j .before .before .before .before .before .before .before in upd-asked-new _ _ _ _ _ _ _ _ (p .pre .0) (p .pre .1) _ (j .judge-update .ensures) (t .if1 .left) _ _ (n .note .ensures))  -- note-requires-2
+    (λ c. let t = c .before .before .before .before .before .before in let s = t .before .before .before .before .before .before .before .before in let i = upd-in _ _ _ _ _ _ _ _ (s .pre .0) (s .pre .1) _ (t .before .judge-update .ensures) (t .if1 .left) in search (needs, i))  -- slice-write-places
+    (λ c κs. let n = c .before .before .before .before in let t = n .before .before .before .before in let s = t .before .before .before .before .before .before .before .before in upd-asked-new _ _ _ _ _ _ _ _ (s .pre .0) (s .pre .1) _ (t .before .judge-update .ensures) (t .if1 .left) _ _ (n .note .ensures))  -- note-requires-2
     (λ c. search updated)  -- same-length-2
     (λ c. search updated)  -- same-length-3
-    (λ c. let n = c .before .before .before .before .before .before .before in let t = n .before .before .before .before in let j = t .before in let p = j .before .before .before .before .before .before .before in upd-step _ _ _ _ _ _ _ _ (p .pre .0) (p .pre .1) _ (j .judge-update .ensures) (t .if1 .left) _ _ (n .note .ensures) _ _ (c .before .before .note2 .ensures)))  -- returns-2
+    (λ c. let n = c .before .before .before .before .before .before .before in let t = n .before .before .before .before in let s = t .before .before .before .before .before .before .before .before in upd-step _ _ _ _ _ _ _ _ (s .pre .0) (s .pre .1) _ (t .before .judge-update .ensures) (t .if1 .left) _ _ (n .note .ensures) _ _ (c .before .before .note2 .ensures)))  -- returns-2

@@ -31,6 +31,6 @@ write-back-spec =
     (λ c. search backwards)  -- add-pos
     (λ c. search backwards)  -- add-done
     (λ c. search backwards)  -- loop-less
-    (λ c. (writing-turn _ _ _ _ _ _ (c .before .before .before .before .before .before .before .before .loop .inv .0) (c .before .before .before .before .before .before .before .before .before .before .before .before .before .before .pre .2) (back-next _ _ _ _ _ _ _ _ (c .before .before .before .before .before .before .before .loop-test .taken) refl (c .before .before .before .before .before .step-back .ensures)) _ (c .before .before .put-entry .ensures .0) _ (c .before .before .put-entry .ensures .1), search needs))  -- loop-again
+    (λ c. let s = c .before .before .before .before .before in let l = s .before .before in let p = l .before .before .before .before .before .before .before in (writing-turn _ _ _ _ _ _ (l .before .loop .inv .0) (p .pre .2) (back-next _ _ _ _ _ _ _ _ (l .loop-test .taken) refl (s .step-back .ensures)) _ (c .before .before .put-entry .ensures .0) _ (c .before .before .put-entry .ensures .1), search needs))  -- loop-again
     (λ c. search backwards)  -- same-length
     (λ c. search backwards))  -- returns

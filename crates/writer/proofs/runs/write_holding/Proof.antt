@@ -26,6 +26,6 @@ write-holding-spec =
     (λ c. search holding)  -- add-pos
     (λ c. search holding)  -- add-i
     (λ c. search holding)  -- loop-less
-    (λ c. (writing-turn _ _ _ _ _ _ (c .before .before .before .before .before .before .loop .inv .0) (c .before .before .before .before .before .before .before .before .before .before .before .pre .1) (insert-next _ _ _ _ _ (c .before .before .before .before .before .before .before .before .before .before .before .pre .0) (c .before .before .before .before .before .loop-test .taken)) _ (c .before .before .put-entry .ensures .0) _ (c .before .before .put-entry .ensures .1), search needs))  -- loop-again
+    (λ c. let l = c .before .before .before .before .before in let s = l .before .before .before .before .before .before in (writing-turn _ _ _ _ _ _ (l .before .loop .inv .0) (s .pre .1) (insert-next _ _ _ _ _ (s .pre .0) (l .loop-test .taken)) _ (c .before .before .put-entry .ensures .0) _ (c .before .before .put-entry .ensures .1), search needs))  -- loop-again
     (λ c. search holding)  -- same-length
     (λ c. search holding))  -- returns
