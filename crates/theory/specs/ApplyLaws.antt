@@ -1,5 +1,5 @@
 -- Laws of apply and undo on bytes: what an answer says, and that the undo of a file gives the holding back.
-use mathlib.Core.Path.{_≡_, refl, ap, subst}
+use mathlib.Core.Path.{_≡_, refl, ap}
 use mathlib.Core.Option.{Option, none, some}
 use mathlib.Core.List.{List}
 use Prim.Native.Nat.{ℕ}
@@ -71,10 +71,6 @@ module _ (K : Keyed) (H : Holding K) (F : Files (K .Rec) (H .fine)) (Room : Type
   pub says-apply : (room : Room) (old b : List ℕ) → Says room old b (apply room old b)
   unfolding A.apply
   says-apply room old b = says-hold room old b (hold old) refl
-
-  -- where apply answers a new holding, every line and every change was allowed, and the holding is what the changes make
-  pub applied : (room : Room) (old b new : List ℕ) (i u d : ℕ) → apply room old b ≡ took new i u d → Applied room old b new
-  applied room old b new i u d e = subst (Says room old b) e (says-apply room old b) .0
 
   -- where every line and every change is allowed, apply answers the new holding and the counts
   pub apply-took : (room : Room) (old b new : List ℕ) (a : Applied room old b new) → apply room old b ≡ took new (count ins (a .cs)) (count upd (a .cs)) (count del (a .cs))
