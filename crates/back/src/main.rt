@@ -1,12 +1,13 @@
 // Six nights forward and back, the last with no body. Each file is taken into the holding that the one before it left, and its undo is
-// made against the holding that it met; the undos are then handed in, last first, and each holding on the way back is compared byte for
-// byte with the one that stood there going forward. The undo of paper 01's worked example is printed whole.
+// made against the holding that it met, and compared with the file: only without a body it is the file itself. The undos are then handed
+// in, last first, and each holding on the way back is compared byte for byte with the one that stood there going forward. The undo of
+// paper 01's worked example is printed whole.
 use apply::apply;
 use night::input::read_file;
 use printed::bare::bare_length;
-use samples::put_text;
-use spoken::say;
-use spoken::say_six;
+use shown::built::put_text;
+use shown::said::say;
+use shown::said::say_six;
 use undo::undo;
 use answers::numbers::Answer;
 use volume::check::check_file;
@@ -30,19 +31,34 @@ fn is_as_stood(a: &[u8], b: &[u8]) -> bool {
     text::order::is_same(&a[0..n], &b[0..m])
 }
 
-// Takes the file of that name into the holding, and makes its undo against that holding.
+// Whether an undo is the file itself.
+fn say_which(undone: &[u8], file: &[u8]) {
+    if text::order::is_same(undone, file) {
+        say(b", the file itself");
+    } else {
+        say(b", another file");
+    }
+}
+
+// Makes the undo of a file against the holding that the file meets.
+fn make_undo(holding: &[u8], file: &[u8], undone: &mut [u8]) {
+    let mut work = [0u8; ROOM];
+    let answer = undo(holding, file, &mut *undone, &mut work);
+    say_answer(b"; its undo: ", answer);
+    let k = bare_length(&*undone);
+    say_which(&undone[0..k], file);
+    say_answer(b"; the undo checked: ", check_file(&undone[0..k]));
+    say(b"\n");
+}
+
+// Takes the file of that name into the holding, and makes its undo.
 fn forward(name: &[u8], holding: &[u8], next: &mut [u8], undone: &mut [u8]) {
     let mut file = [0u8; ROOM];
-    let mut work = [0u8; ROOM];
     let m = read_file(name, &mut file).size;
     let n = bare_length(holding);
     say(name);
     say_answer(b" taken: ", apply(&holding[0..n], &file[0..m], &mut *next));
-    let answer = undo(&holding[0..n], &file[0..m], &mut *undone, &mut work);
-    say_answer(b"; its undo: ", answer);
-    let k = bare_length(&*undone);
-    say_answer(b"; the undo checked: ", check_file(&undone[0..k]));
-    say(b"\n");
+    make_undo(&holding[0..n], &file[0..m], &mut *undone);
 }
 
 // Hands the undo of the file of that name in to the holding, and says whether what comes of it is what stood before that file.

@@ -3,11 +3,11 @@ use mathlib.Core.Path.{_≡_, refl, sym, ap, _∙_, subst}
 use mathlib.Core.Bool.{Bool, true, false, _&&_, _||_}
 use mathlib.Core.Option.{Option, none, some, Option·some-injective}
 use mathlib.Core.List.{List, [], _∷_, append-nil}
-use Prim.Native.Nat.{ℕ, zero, suc, _≤_, _<_}
+use Prim.Native.Nat.{ℕ, _≤_}
 use Prim.Native.String.{String}
 use native.Mathlib.Omega.{arith}
 use lib.Dec.{T, eqb, leb, leb→le, eqb→eq}
-use lib.ListN.{length, getD, drop}
+use lib.ListN.{length, drop}
 use Rattle.base.specs.Lists.{pick, all, bytes}
 use Rattle.base.specs.Tests.{and-l, and-r, T-true}
 use Rattle.theory.specs.Tri.{Tri, lt, eq, gt}
@@ -164,24 +164,12 @@ number-agrees k n t l x g =
     rw (numbers-values x g (keyNames (x .kind)) (subst (λ k. T (numbersIn k (keyNames k))) j t))
     (lex-padded 3 (n ∷ []) (numbersNamed x (keyNames (x .kind))) (omega (arith, length-numbers x (keyNames (x .kind)), u)) (omega arith)))
 
--- and alike at each place
-pub alike-at : (ns bs : List (List ℕ)) → Alike ns bs → (j : ℕ) → j < length bs → Agree (getD ns j []) (getD bs j [])
-alike-at [] [] h j l = absurd (omega arith)
-alike-at [] (b ∷ bs) h j l = absurd h
-alike-at (a ∷ ns) [] h j l = absurd h
-alike-at (a ∷ ns) (b ∷ bs) h zero l = h .0
-alike-at (a ∷ ns) (b ∷ bs) h (suc j) l = alike-at ns bs (h .1) j (omega arith)
-
 -- tests that are equal of keys that are alike are equal of lists
 pub alike-all : (p q : List ℕ → Bool) → ((a b : List ℕ) → Agree a b → p a ≡ q b) → (ns bs : List (List ℕ)) → Alike ns bs → all p ns ≡ all q bs
 alike-all p q f [] [] h = refl
 alike-all p q f [] (b ∷ bs) h = absurd h
 alike-all p q f (a ∷ ns) [] h = absurd h
 alike-all p q f (a ∷ ns) (b ∷ bs) h = rw (f a b (h .0), alike-all p q f ns bs (h .1))
-
--- the references of a sound record, place by place
-pub refs-agree : (r : Rec) → T (fine scottish r) → (j : ℕ) → j < length (refsOf scottish r) → Agree (getD (refNumbers r) j []) (getD (refsOf scottish r) j [])
-refs-agree r f j h = alike-at (refNumbers r) (refsOf scottish r) (refs-alike r f) j h
 
 -- keys that are alike are apart from the key of the same sound records
 pub agree-apart : (a b : List ℕ) → Agree a b → (x : Rec) → T (fine scottish x) → apart numbered a (keyNumbers x) ≡ apart (keyed scottish) b (keyOf scottish x)

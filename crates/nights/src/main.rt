@@ -9,12 +9,12 @@ use night::input::read_file;
 use night::night;
 use program::MOST;
 use program::print;
-use samples::put_holding;
-use samples::put_text;
-use spoken::say;
-use spoken::say_line;
-use spoken::say_number;
-use spoken::say_six;
+use shown::built::put_holding;
+use shown::built::put_text;
+use shown::said::say;
+use shown::said::say_line;
+use shown::said::say_number;
+use shown::said::say_six;
 
 // The first line of what was printed.
 fn say_first(s: &[u8]) {

@@ -5,7 +5,7 @@ use mathlib.Core.List.{List}
 use Prim.Native.Nat.{ℕ, _+_, _-_, _≤_, _<_}
 use native.Mathlib.Omega.{arith}
 use borrow.Author.Needs.{needs}
-use borrow.Author.Tests.{lt-ltb, le-ltb}
+use borrow.Author.Tests.{lt-ltb, le-ltb, ltb-false}
 use denote.Ref.{RefT, now}
 use lib.Dec.{ltb}
 use lib.ListN.{length, drop}
@@ -15,18 +15,13 @@ use Rattle.text.specs.Places.{lineLen, lineEnd}
 use Rattle.text.specs.Parts.{StandsIn}
 use Rattle.reader.specs.Reading.{startIn, nextLine}
 
--- the start is within any bytes
-start-zero : (s : List ℕ) → startIn s 0 ≡ 0
-unfolding startIn
-start-zero s = go (ltb (length s) 0)
-  where
-    go : (b : Bool) → pick {A = ℕ} b 0 0 ≡ 0
-    go true = refl
-    go false = refl
+-- what is said of a reader is said of what it was made of: its line
+pub handed-is : (f s t : RefT (List ℕ)) (at n : ℕ) → f ≡ s → at ≡ n → StandsIn t f (startIn (f .now) at) (lineLen (drop at (f .now))) → StandsIn t s (startIn (s .now) n) (lineLen (drop n (s .now)))
+handed-is f s t at n e z h = rw (e, z) at h
 
--- the line at the start is the first
-pub first-is : (f s t : RefT (List ℕ)) (at : ℕ) → f ≡ s → at ≡ 0 → StandsIn t f (startIn (f .now) at) (lineLen (drop at (f .now))) → StandsIn t s 0 (lineLen (s .now))
-first-is f s t at e z h = rw (start-zero (s .now)) at (rw (e, z) at h)
+-- and its place past that
+pub past-is : (f s : RefT (List ℕ)) (at n x : ℕ) → f ≡ s → at ≡ n → x ≡ nextLine (f .now) at → x ≡ nextLine (s .now) n
+past-is f s at n x e z h = rw (e, z) at h
 
 -- past the end the line is empty
 pub line-past : (s r : RefT (List ℕ)) (at : ℕ) → length (s .now) < at → StandsIn r s 0 (0 - 0) → StandsIn r s (startIn (s .now) at) (lineLen (drop at (s .now)))
@@ -56,3 +51,16 @@ unfolding nextLine
 next-last s at e h q l = rw (le-ltb (length s) at h, ← q, le-ltb e (length s) l)
 
 pub ruleset past = (needs, next-past, next-more, next-last)
+
+-- a reader goes on, as long as there are bytes
+next-on : (s : List ℕ) (at : ℕ) → at < length s → at < nextLine s at
+unfolding nextLine
+next-on s at h = rw (le-ltb (length s) at (omega arith)) (go (ltb (lineEnd s at) (length s)) refl)
+  where
+    go : (b : Bool) → ltb (lineEnd s at) (length s) ≡ b → at < pick b (lineEnd s at + 2) (lineEnd s at)
+    go true e = omega arith
+    go false e = let end : length s ≤ lineEnd s at = ltb-false (lineEnd s at) (length s) e in omega arith
+
+-- and fewer are left
+pub next-less : (s : List ℕ) (at r : ℕ) → at < length s → r ≡ nextLine s at → length s - r < length s - at
+next-less s at r h e = let on : at < nextLine s at = next-on s at h in omega arith

@@ -1,7 +1,8 @@
 // A reader that holds the lent file and its place hands out one line after another.
 //
 // Functions over a struct that holds a reference are walked by hand in proofs/: they are few and thin, take the reader apart and call
-// `line_from` or `past_line`, which are covered. Whoever needs no reader calls those, or `first_line`, whose parameters are plain.
+// `line_from` or `past_line`, which are covered. Whoever needs no reader calls those; `handed_at` and `past_at` go by way of one, and have
+// plain parameters, so that their callers need no walk.
 ghost use mathlib.Core.Path.{_≡_};
 ghost use lib.ListN.{drop};
 ghost use Rattle.text.specs.Parts.{StandsIn};
@@ -38,11 +39,11 @@ pub fn past_line(s: &[u8], at: usize) -> usize
     if end < s.len() { end + 2 } else { end }
 }
 
-// A reader at the first line.
-pub fn new<'a>(file: &'a [u8]) -> Reader<'a>
-    ensures { λ r. ⌜ (r .file ≡ file .entry) × (r .at ≡ 0) ⌝ }
+// A reader at a place of a file.
+pub fn new<'a>(file: &'a [u8], at: usize) -> Reader<'a>
+    ensures { λ r. ⌜ (r .file ≡ file .entry) × (r .at ≡ at) ⌝ }
 {
-    Reader { file, at: 0 }
+    Reader { file, at }
 }
 
 // The line that the reader stands at.
@@ -63,9 +64,16 @@ pub fn advance<'a>(r: Reader<'a>) -> Reader<'a>
     }
 }
 
-// The first line of a file, by way of a reader.
-pub fn first_line<'a>(file: &'a [u8]) -> &'a [u8]
-    ensures { λ r. ⌜ StandsIn r (file .entry) 0 (lineLen (now (file .entry))) ⌝ }
+// The line that a reader at a place hands out.
+pub fn handed_at<'a>(file: &'a [u8], at: usize) -> &'a [u8]
+    ensures { λ r. ⌜ StandsIn r (file .entry) (startIn (now (file .entry)) at) (lineLen (drop at (now (file .entry)))) ⌝ }
 {
-    line(new(file))
+    line(new(file, at))
+}
+
+// Where that reader stands past its line.
+pub fn past_at<'a>(file: &'a [u8], at: usize) -> usize
+    ensures { λ r. ⌜ r ≡ nextLine (now (file .entry)) at ⌝ }
+{
+    advance(new(file, at)).at
 }

@@ -1,5 +1,5 @@
 -- Laws of apply and undo on bytes: what an answer says, and that the undo of a file gives the holding back.
-use mathlib.Core.Path.{_≡_, refl, ap, subst}
+use mathlib.Core.Path.{_≡_, refl, ap}
 use mathlib.Core.Option.{Option, none, some}
 use mathlib.Core.List.{List}
 use Prim.Native.Nat.{ℕ}
@@ -12,7 +12,7 @@ use Rattle.theory.specs.Trail.{final, undo}
 use Rattle.theory.specs.TrailLaws.{length-undo}
 use Rattle.theory.specs.Run.{Out, done, stop, run, Good}
 use Rattle.theory.specs.RunLaws.{run-taken, taken-run, fine-final, fine-undo, good-final, undo-taken, undo-same}
-use Rattle.theory.specs.Answer.{Read, fault, file, Answer, took, Counts, counts}
+use Rattle.theory.specs.Answer.{Read, fault, file, Answer, took, counts}
 use Rattle.theory.specs.ReadBack.{Sound, Holding, Files}
 use Rattle.theory.specs.Apply as A
 
@@ -72,10 +72,6 @@ module _ {E : Type 0} (K : Keyed) (H : Holding K) (F : Files E (K .Rec) (H .fine
   pub says-apply : (room : Room) (old b : List ℕ) → Says room old b (apply room old b)
   unfolding A.apply
   says-apply room old b = says-hold room old b (hold old) refl
-
-  -- where apply answers a new holding, every line and every change was allowed, and the holding is what the changes make
-  pub applied : (room : Room) (old b new : List ℕ) (n : Counts) → apply room old b ≡ took new n → Applied room old b new
-  applied room old b new n e = subst (Says room old b) e (says-apply room old b) .0
 
   -- where every line and every change is allowed, apply answers the new holding and the counts
   pub apply-took : (room : Room) (old b new : List ℕ) (a : Applied room old b new) → apply room old b ≡ took new (counts (a .cs))

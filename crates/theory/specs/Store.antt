@@ -1,9 +1,8 @@
 -- A state, which is a list of records in order of their keys, with one way to write and one way to look up.
 use mathlib.Core.Path.{_≡_}
-use mathlib.Core.Bool.{Bool, true, _&&_}
 use mathlib.Core.Option.{Option, none, some}
 use mathlib.Core.List.{List, [], _∷_}
-use Rattle.theory.specs.Tri.{Tri, lt, eq, gt, isLt}
+use Rattle.theory.specs.Tri.{Tri, lt, eq, gt}
 use Rattle.theory.specs.Keyed.{Keyed}
 
 -- a list with one element in front, or with none
@@ -51,17 +50,6 @@ module _ (K : Keyed) where
   abbrev pub Asc : State → Type 0
   Asc [] = Unit {0}
   Asc (x ∷ xs) = Low (key x) xs × Asc xs
-
-  -- the test of Low
-  unfoldable pub low? : Key → State → Bool
-  low? k [] = true
-  low? k (x ∷ xs) = isLt (cmp k (key x))
-
-  -- the test of Asc
-  unfoldable pub asc? : State → Bool
-  unfolding low?
-  asc? [] = true
-  asc? (x ∷ xs) = low? (key x) xs && asc? xs
 
   -- what may stand at the key: a record of that key, or none
   abbrev pub At : Key → Option Rec → Type 0

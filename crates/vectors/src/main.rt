@@ -7,9 +7,9 @@ use layout::kinds::Kind;
 use layout::kinds::KindFound;
 use layout::rules::layout;
 use libc::STDIN_FILENO;
-use spoken::say;
-use spoken::say_line;
-use spoken::say_number;
+use shown::said::say;
+use shown::said::say_line;
+use shown::said::say_number;
 use text::lines::plain_end;
 
 // The answer on one field of a kind.

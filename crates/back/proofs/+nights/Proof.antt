@@ -9,7 +9,7 @@ use Rattle.back.proofs.nights.Kinds as nights-kinds
 use Rattle.back.proofs.+nights.Lts-nights as nights-lts
 use Rattle.back.proofs.back.Reads as back-reads
 use Rattle.back.proofs.forward.Reads as forward-reads
-use Rattle.samples.proofs.put_text.Reads as put-text-reads
+use Rattle.shown.proofs.built.put_text.Reads as put-text-reads
 use Rattle.back.proofs.+nights.{statement}
 use Rattle.back.proofs.+nights.Tie.{close}
 

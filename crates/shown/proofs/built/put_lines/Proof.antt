@@ -1,10 +1,10 @@
--- `samples::put_lines` meets its contract.
+-- `shown::built::put_lines` meets its contract.
 use borrow.Author.Needs.{needs}
 use mathlib.Core.Path.{_≡_}
 use Prim.Native.Nat.{_-_, _≤_}
 use lib.ListN.{length}
-use Rattle.samples.proofs.put_lines.Statement.{statement}
-use Rattle.samples.proofs.put_lines.Tie as tie
+use Rattle.shown.proofs.built.put_lines.Statement.{statement}
+use Rattle.shown.proofs.built.put_lines.Tie as tie
 
 pub put-lines-spec : {M : Type 1} → statement M
 put-lines-spec =
