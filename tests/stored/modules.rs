@@ -9,8 +9,8 @@ fn placed(first: bool, row: &str) -> String {
     format!("{}{row}\n", if first { "    " } else { CONS })
 }
 
-/// A module with the answer of every row given anew. The error names a line that can't be read: a row of an unknown table is none that is
-/// passed over.
+/// A module with the answer of every row given anew. The error names a line that can't be read, or that looks like a row and is of no known
+/// table, so that no table is passed over.
 pub fn answered(stored: &str) -> Result<String, String> {
     let mut anew = String::new();
     let mut table = None;
@@ -46,7 +46,7 @@ pub fn listed(stored: &str, all: &[Added]) -> Result<String, String> {
     Ok(format!("{front}cases =\n{rows}{CONS}[]\n{back}"))
 }
 
-/// How many rows a module has: each but the first of a table stands behind a cons, and the end does.
+/// How many rows a module has: as many as lines with a cons, since the first row of a table has none and its end has one.
 pub fn rows(module: &str) -> usize {
     module.lines().filter(|line| line.starts_with(CONS)).count()
 }
