@@ -1,4 +1,4 @@
--- The limits of 4,096 body lines and 8,192 records, at the state that is reached: what the reference answered on the whole file or holding.
+-- The limits of 4,096 body lines and 8,192 records, computed at the state that is reached. tests/cases writes the reference's answers.
 use mathlib.Core.Path.{_≡_, refl}
 use mathlib.Core.List.{List, [], _∷_, _++_}
 use Prim.Native.Nat.{ℕ, zero, suc, _*_}
@@ -7,7 +7,7 @@ use Rattle.theory.specs.Decimal.{dec}
 use Rattle.theory.specs.Run.{Out, done, stop, run}
 use Rattle.base.specs.Lists.{pick, same, bytes}
 use Rattle.meaning.specs.Lines.{linesOf}
-use Rattle.meaning.specs.Kinds.{street}
+use Rattle.meaning.specs.Kinds.{Kind, street, streetXref}
 use Rattle.meaning.specs.Table.{scottish}
 use Rattle.meaning.specs.Records.{Rec, keyed}
 use Rattle.meaning.specs.File.{inBody, readFrom}
@@ -23,6 +23,7 @@ tails =
     ∷ ((bytes "11,\"x\"" ++ ((13 ∷ 10 ∷ []))), (9 ∷ 4098 ∷ 0 ∷ 0 ∷ 0 ∷ 0 ∷ []))
     ∷ ((bytes "12,\"I\",1,1,1,1,2001-01-01,2001-01-01,,2001-01-01" ++ ((13 ∷ 10 ∷ []))), (9 ∷ 4098 ∷ 0 ∷ 0 ∷ 0 ∷ 0 ∷ []))
     ∷ ((bytes "12,\"Z\",4097,1,1,1,2001-01-01,2001-01-01,,2001-01-01" ++ ((13 ∷ 10 ∷ []) ++ (bytes "rest"))), (9 ∷ 4098 ∷ 0 ∷ 0 ∷ 0 ∷ 0 ∷ []))
+    ∷ ((bytes "12,\"I\",4097,1,1,1,2001-01-01,2001-01-01,2000-12-31,2001-01-01" ++ ((13 ∷ 10 ∷ []))), (9 ∷ 4098 ∷ 0 ∷ 0 ∷ 0 ∷ 0 ∷ []))
     ∷ ((bytes "24" ++ ((13 ∷ 10 ∷ []))), (9 ∷ 4098 ∷ 0 ∷ 0 ∷ 0 ∷ 0 ∷ []))
     ∷ ((bytes "13,1" ++ ((13 ∷ 10 ∷ []))), (2 ∷ 4098 ∷ 1 ∷ 0 ∷ 0 ∷ 0 ∷ []))
     ∷ ((bytes "12,\"I\",4097,1,1,1,2001-01-01,2001-01-01,,2001-01-01"), (1 ∷ 4098 ∷ 0 ∷ 0 ∷ 0 ∷ 0 ∷ []))
@@ -48,18 +49,18 @@ pub agreed-tails : tailMisses 0 tails ≡ []
 unfolding computed opened tails tailMisses
 agreed-tails = refl
 
--- a street by its number, as far as steps look at it
-unfoldable pub numbered : ℕ → Rec
-numbered u = record { kind = street; content = dec u }
+-- the street with that number, or its cross reference of type 1 with number 1, as far as steps look at them
+unfoldable pub numbered : Kind → ℕ → Rec
+numbered k u = record { kind = k; content = dec u ++ bytes ",1,1" }
 
--- a change to that street
-abbrev pub change : Op → ℕ → Change Rec
-change o u = record { op = o; rec = numbered u }
+-- a change to that record
+abbrev pub change : Kind → Op → ℕ → Change Rec
+change k o u = record { op = o; rec = numbered k u }
 
 -- n streets with the even numbers from 2 * i on
 unfoldable pub evens : ℕ → ℕ → List Rec
 evens zero i = []
-evens (suc n) i = numbered (2 * i) ∷ evens n (suc i)
+evens (suc n) i = numbered street (2 * i) ∷ evens n (suc i)
 
 -- the code and the line at which a run stops, 0 and 0 where it does not
 unfoldable pub stopped : Out (List Rec) → List ℕ
@@ -70,17 +71,18 @@ stopped (stop l w) = w ∷ l ∷ []
 unfoldable pub stops : Change Rec → List ℕ
 stops c = stopped (run (keyed scottish) (stepTests scottish 9999999) 2 (evens 8192 1) (c ∷ []))
 
--- a step over the full holding, and the answer: 16 for an absent key, 10 for a held one, 11 for an update or delete of an absent one
+-- a step over the full holding, and the answer: 10 for an insert of a held key, 11 for another step at an absent one, else 16, even where 12 is due
 unfoldable pub full : List (Change Rec × List ℕ)
 full =
-    (change ins 1, (16 ∷ 2 ∷ []))
-    ∷ (change ins 3, (16 ∷ 2 ∷ []))
-    ∷ (change ins 5, (16 ∷ 2 ∷ []))
-    ∷ (change ins 41, (16 ∷ 2 ∷ []))
-    ∷ (change ins 401, (16 ∷ 2 ∷ []))
-    ∷ (change ins 400, (10 ∷ 2 ∷ []))
-    ∷ (change upd 401, (11 ∷ 2 ∷ []))
-    ∷ (change del 1, (11 ∷ 2 ∷ []))
+    (change street ins 1, (16 ∷ 2 ∷ []))
+    ∷ (change street ins 3, (16 ∷ 2 ∷ []))
+    ∷ (change street ins 5, (16 ∷ 2 ∷ []))
+    ∷ (change street ins 41, (16 ∷ 2 ∷ []))
+    ∷ (change street ins 401, (16 ∷ 2 ∷ []))
+    ∷ (change street ins 400, (10 ∷ 2 ∷ []))
+    ∷ (change streetXref ins 3, (16 ∷ 2 ∷ []))
+    ∷ (change street upd 401, (11 ∷ 2 ∷ []))
+    ∷ (change street del 1, (11 ∷ 2 ∷ []))
     ∷ []
 
 -- the numbers of the steps that do not agree

@@ -7,3 +7,4 @@ pub mod Loads6
 pub mod Loads7
 pub mod Loads8
 pub mod Loads9
+pub mod Added

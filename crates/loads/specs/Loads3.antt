@@ -1,4 +1,4 @@
--- Cases of the reference, computed.
+-- Cases of the reference, computed. tests/cases writes the answers.
 use mathlib.Core.Path.{_≡_, refl}
 use mathlib.Core.List.{List, [], _∷_, _++_}
 use Rattle.base.specs.Lists.{bytes}

@@ -1,0 +1,56 @@
+//! The loads that a person lists: what each shows, its lines and lengths, and what apply and undo answer.
+use crate::reference::answers::Operation;
+use crate::wants::{answered, Case};
+
+#[derive(Default)]
+pub struct Added {
+    pub shows: String,
+    pub case: Case,
+    apply: String,
+    undo: String,
+}
+
+/// The error names the line that can't be read.
+pub fn read(list: &str) -> Result<Vec<Added>, String> {
+    let mut all = Vec::new();
+    for line in list.lines().filter(|line| !line.is_empty() && !line.starts_with('#')) {
+        take(&mut all, line).ok_or_else(|| format!("can't be read: {line}"))?;
+    }
+    Ok(all)
+}
+
+fn take(all: &mut Vec<Added>, line: &str) -> Option<()> {
+    let (word, rest) = line.split_once(' ')?;
+    if word == "case" {
+        all.push(Added { shows: rest.to_string(), ..Added::default() });
+        return Some(());
+    }
+    let Added { case, apply, undo, .. } = all.last_mut()?;
+    match word {
+        "holding" => case.old.extend_from_slice(format!("{rest}\r\n").as_bytes()),
+        "file" => case.change.extend_from_slice(format!("{rest}\r\n").as_bytes()),
+        "unended" => case.change.extend_from_slice(rest.as_bytes()),
+        "lengths" => {
+            let numbers: Option<Vec<usize>> = rest.split(' ').map(|number| number.parse().ok()).collect();
+            [case.room, case.undo_room, case.space] = numbers?.try_into().ok()?;
+        }
+        "apply" => *apply = rest.to_string(),
+        "undo" => *undo = rest.to_string(),
+        _ => return None,
+    }
+    Some(())
+}
+
+impl Added {
+    /// The error says where the reference's code, line and field aren't those of the list.
+    pub fn check(&self) -> Result<(), String> {
+        for (operation, listed) in [(Operation::Apply, &self.apply), (Operation::Undo, &self.undo)] {
+            let numbers = answered(&self.case, operation).numbers;
+            let given = numbers[..3].iter().map(u64::to_string).collect::<Vec<_>>().join(",");
+            if given != *listed {
+                return Err(format!("{}: {operation:?} answers {given}, and the list says {listed}", self.shows));
+            }
+        }
+        Ok(())
+    }
+}
