@@ -26,7 +26,7 @@ use Rattle.laws.specs.SoundFile.{SoundFile, sound-read, read-sound}
 use Rattle.laws.specs.FileRefusals.{ReadIn, among, file-codes}
 use Rattle.laws.specs.LoadRefusals.{stepCodes, AnswerIn, loadCodes, load-in}
 use Rattle.laws.specs.Checks.{SomeFile, SomeHolding, held-only}
-use Rattle.laws.specs.Demand2.{StepLawful, StepAllowed, StepsAllowed, Allowed, Lawful, Roomy, allowed-takes, done-allowed, lawful-exactly}
+use Rattle.laws.specs.Demand2.{StepLawful, StepsAllowed, Allowed, Lawful, Roomy, allowed-takes, done-allowed, lawful-exactly}
 use Rattle.laws.specs.Demand3.{undo-only-17}
 use Rattle.laws.specs.StepFails.{no-true, false-no, FailsWith, atKey, tooMany, unmet, noRoom, FirstRefused, RunSays, run-says, refused-stops}
 
