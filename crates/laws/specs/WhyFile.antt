@@ -1,9 +1,8 @@
 -- Why a file is refused: its lowest faulty line fails a test in its place, or the file ends before its trailer; and it is refused just so.
 use mathlib.Core.Path.{_≡_, refl, sym, ap, _∙_, subst}
-use mathlib.Core.Bool.{Bool, true, false}
 use mathlib.Core.Option.{Option, none, some}
 use mathlib.Core.List.{List, [], _∷_, _++_}
-use Prim.Native.Nat.{ℕ, zero, suc, _+_, _-_, _≤_, _<_}
+use Prim.Native.Nat.{ℕ, suc, _+_, _-_, _≤_}
 use native.Mathlib.Nat.{add-zero, zero-add}
 use native.Mathlib.Omega.{arith}
 use lib.Dec.{T, ltb→lt, lt→ltb}
@@ -20,7 +19,7 @@ use Rattle.laws.specs.FileRefusals.{among}
 use Rattle.laws.specs.LinePart.{noLine}
 use Rattle.laws.specs.Judgement.{Judges, JudgedIs, judged, line-sound}
 use Rattle.laws.specs.WhyLoad.{Numbered}
-use Rattle.laws.specs.LineFails.{Stands, LineFails, ending, unknown, misplaced, tooMany, miscounted, malformed, misdated, misnumbered, mistold, JudgedFails, judge-fails, fails-judged, lowest-within}
+use Rattle.laws.specs.LineFails.{LineFails, ending, unknown, misplaced, tooMany, miscounted, malformed, misdated, misnumbered, mistold, JudgedFails, judge-fails, fails-judged, lowest-within}
 
 -- ---- the place after the trailer
 

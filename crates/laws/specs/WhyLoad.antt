@@ -85,7 +85,7 @@ module _ (F : Format) where
   LoadSays room old b (refused c l f) = Reason room old b c l f
 
   -- a sound file is no fault, so a fault is no sound file
-  fault-faulty : (b : List ℕ) (c l f : ℕ) → readFile F b ≡ fault c l f → Faulty b
+  pub fault-faulty : (b : List ℕ) (c l f : ℕ) → readFile F b ≡ fault c l f → Faulty b
   fault-faulty b c l f e s = subst IsFile (sym (sound-read F b (s .frame) (s .changes) (s .sounds)) ∙ e) tt
 
   -- a step's code is one of the steps'
@@ -120,7 +120,7 @@ module _ (F : Format) where
 
   module _ (regular : Regular F) where
     -- an unsound holding has no records
-    unsound-is : (old : List ℕ) (n : ℕ) → readHolding F old ≡ unsound n → Unsound old
+    pub unsound-is : (old : List ℕ) (n : ℕ) → readHolding F old ≡ unsound n → Unsound old
     unsound-is old n e s = subst IsSound (sym (sound-held F regular old (s .state) (s .sounds)) ∙ e) tt
 
     -- what a sound holding and a sound file say is determined by their bytes
