@@ -3,6 +3,7 @@ pub mod Demand2
 pub mod Demand3
 pub mod CheckClaims
 pub mod LoadClaims
+pub mod BackClaims
 pub mod PartClaims
 pub mod ForC
 pub mod OneOutcome

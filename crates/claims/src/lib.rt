@@ -5,6 +5,7 @@
 // callers ensure, made of them; one outcome only; the [p] table. docs/PROMISES.md maps the sentences of the demands to these.
 pub mod checks; // a file, and a holding
 pub mod loads; // taking a file, and handing it back
+pub mod back; // both, one after the other
 pub mod parts; // find, the record in force, one field of a line
 pub mod prints; // what the program prints
 pub mod for_c; // the same of the functions for C
