@@ -1,10 +1,9 @@
 -- What is promised of a file that is taken and handed back: demand 3 for one file, of what apply, undo and apply again answer and leave.
-use mathlib.Core.Path.{_≡_, _∙_}
+use mathlib.Core.Path.{_≡_}
 use mathlib.Core.List.{List, [], _∷_}
-use Prim.Native.Nat.{ℕ, _-_, _≤_}
-use native.Mathlib.Omega.{arith}
+use Prim.Native.Nat.{ℕ, _≤_}
 use lib.Dec.{T, leb}
-use lib.ListN.{length, take, drop}
+use lib.ListN.{length}
 use Rattle.base.specs.Lists.{pick}
 use Rattle.meaning.specs.Table.{scottish}
 use Rattle.meaning.specs.Load.{filled, undoBytes}
@@ -27,22 +26,15 @@ pub record BackClaims (old file : List ℕ) (room undoRoom space backRoom : ℕ)
   -- with a buffer as long as the one used going forward, the undo is taken and gives back, byte for byte, the holding that stood before
   pub givesBack : taken .code ≡ 0 → made .code ≡ 0 → room ≤ backRoom → (back .code ≡ 0) × (out ≡ filled backRoom old)
 
--- the bytes before the zeros, as a part that starts where the output does
-part-bare : (s : List ℕ) (n : ℕ) → take n s ≡ bare s → take (n - 0) (drop 0 s) ≡ bare s
-part-bare s n e = let z : n - 0 ≡ n = omega arith in rw z e
-
-module _ (old file : List ℕ) (room undoRoom space backRoom : ℕ) (taken made back : Answer) (new undone work out : List ℕ) (n m : ℕ) where
+module _ (old file : List ℕ) (room undoRoom space backRoom : ℕ) (taken made back : Answer) (new undone work out : List ℕ) where
   -- whatever comes of the three is so
-  pub back-claims : Outcome old file room taken new → UndoOutcome old file undoRoom space made undone work → take n new ≡ bare new → take m undone ≡ bare undone
-      → Outcome (take (n - 0) (drop 0 new)) (take (m - 0) (drop 0 undone)) backRoom back out → BackClaims old file room undoRoom space backRoom taken made back out
-  back-claims o u p q b = record {
+  pub back-claims : Outcome old file room taken new → UndoOutcome old file undoRoom space made undone work → Outcome (bare new) (bare undone) backRoom back out
+      → BackClaims old file room undoRoom space backRoom taken made back out
+  back-claims o u b = record {
     onlyForRoom = λ t. refused-for-room old (night t) undoRoom space made undone work u;
     onlyIfLong = λ t h. refused-with-17 old (night t) undoRoom space made undone work h u;
     counted = λ t e. undo-counted old (night t) (its t e);
-    givesBack = λ t e h.
-        let w : Outcome (bare new) (bare undone) backRoom back out = rw (part-bare new n p, part-bare undone m q) at b in
-        let g = gives-back old (night t) (its t e) backRoom back out h w in
-        (g .0, g .1);
+    givesBack = λ t e h. let g = gives-back old (night t) (its t e) backRoom back out h b in (g .0, g .1);
   }
     where
       night : taken .code ≡ 0 → Night old
