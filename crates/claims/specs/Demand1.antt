@@ -21,7 +21,7 @@ use Rattle.laws.specs.Scottish.{scottish-regular}
 use Rattle.answers.specs.Meant.{answerOf, verdictOf}
 use Rattle.answers.specs.declared.numbers.Answer.{Answer}
 use Rattle.answers.specs.declared.numbers.Verdict.{Verdict}
-use Rattle.enquiries.specs.Handed.{threeList, Handed, lentAs, HandedOf}
+use Rattle.enquiries.specs.Handed.{Handed, lentAs, HandedOf}
 use Rattle.apply.specs.Outcome.{Outcome}
 use Rattle.undo.specs.Outcome.{UndoOutcome}
 

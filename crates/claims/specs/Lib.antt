@@ -1,5 +1,10 @@
 pub mod Demand1
 pub mod Demand2
 pub mod Demand3
+pub mod CheckClaims
+pub mod LoadClaims
+pub mod BackClaims
+pub mod PartClaims
+pub mod ForC
 pub mod OneOutcome
 pub mod Table

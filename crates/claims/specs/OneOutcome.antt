@@ -1,4 +1,4 @@
--- One outcome only: any two outcomes that meet the statement of an operation are equal, in the numbers answered, in the bytes left, and for
+-- One outcome only: any two outcomes that meet what is claimed of an operation are equal, in the numbers answered, in the bytes left, and for
 -- a part that is handed back in its bytes and in where it stands.
 use mathlib.Core.Path.{_≡_, ap₂}
 use mathlib.Core.Bool.{Bool}
@@ -6,34 +6,37 @@ use mathlib.Core.List.{List}
 use Prim.Native.Nat.{ℕ}
 use denote.Ref.{RefT}
 use Rattle.meaning.specs.Table.{scottish}
-use Rattle.meaning.specs.Load.{checkFile, checkHolding}
 use Rattle.meaning.specs.Enquiries.{Found, find, inForce, fieldOf}
 use Rattle.laws.specs.Buffers.{one-outcome}
-use Rattle.answers.specs.Meant.{answerOf, verdictOf}
 use Rattle.answers.specs.declared.numbers.Answer.{Answer}
 use Rattle.answers.specs.declared.numbers.Verdict.{Verdict}
-use Rattle.enquiries.specs.Handed.{Handed, lentAs, HandedOf}
-use Rattle.apply.specs.Outcome.{Outcome}
-use Rattle.undo.specs.Outcome.{UndoOutcome}
+use Rattle.enquiries.specs.Handed.{Handed, lentAs}
 use Rattle.program.specs.Outcome.{PrintOutcome}
+use Rattle.claims.specs.CheckClaims.{FileClaims, HoldingClaims}
+use Rattle.claims.specs.LoadClaims.{ApplyClaims, UndoClaims}
+use Rattle.claims.specs.PartClaims.{FindClaims, ForceClaims, FieldClaims}
+use Rattle.claims.specs.ForC.{FileInC, HoldingInC, ApplyInC, UndoInC, FindInC, ForceInC, FieldInC}
 
 -- check a file
-pub check-file-once : (file : List ℕ) (r s : Answer) → r ≡ answerOf (checkFile scottish file) → s ≡ answerOf (checkFile scottish file) → r ≡ s
-check-file-once file r s o p = one-outcome _ r s o p
+pub check-file-once : (file : List ℕ) (r s : Answer) → FileClaims file r → FileClaims file s → r ≡ s
+check-file-once file r s o p = one-outcome _ r s (o .outcome) (p .outcome)
 
 -- check a holding
-pub check-holding-once : (old : List ℕ) (v w : Verdict) → v ≡ verdictOf (checkHolding scottish old) → w ≡ verdictOf (checkHolding scottish old) → v ≡ w
-check-holding-once old v w o p = one-outcome _ v w o p
+pub check-holding-once : (old : List ℕ) (v w : Verdict) → HoldingClaims old v → HoldingClaims old w → v ≡ w
+check-holding-once old v w o p = one-outcome _ v w (o .outcome) (p .outcome)
 
 -- apply
-pub apply-once : (old file : List ℕ) (room : ℕ) (r s : Answer) (out put : List ℕ) → Outcome old file room r out → Outcome old file room s put → (r ≡ s) × (out ≡ put)
-apply-once old file room r s out put o p = (one-outcome _ r s (o .0) (p .0), one-outcome _ out put (o .1) (p .1))
+pub apply-once : (old file : List ℕ) (room : ℕ) (r s : Answer) (out put : List ℕ) → ApplyClaims old file room r out → ApplyClaims old file room s put → (r ≡ s) × (out ≡ put)
+apply-once old file room r s out put o p = (one-outcome _ r s (o .outcome .0) (p .outcome .0), one-outcome _ out put (o .outcome .1) (p .outcome .1))
 
 -- undo
 pub undo-once : (old file : List ℕ) (room space : ℕ) (r s : Answer) (out put work rest : List ℕ)
-    → UndoOutcome old file room space r out work → UndoOutcome old file room space s put rest → (r ≡ s) × (out ≡ put) × (work ≡ rest)
-undo-once old file room space r s out put work rest o p =
-    (one-outcome _ r s (o .0) (p .0), one-outcome _ out put (o .1) (p .1), one-outcome _ work rest (o .2) (p .2))
+    → UndoClaims old file room space r out work → UndoClaims old file room space s put rest → (r ≡ s) × (out ≡ put) × (work ≡ rest)
+undo-once old file room space r s out put work rest o p = (
+  one-outcome _ r s (o .outcome .0) (p .outcome .0),
+  one-outcome _ out put (o .outcome .1) (p .outcome .1),
+  one-outcome _ work rest (o .outcome .2) (p .outcome .2),
+)
 
 -- the numbers, the part's bytes, its block and its place in it
 abbrev pub SameHanded : (a b : List ℕ) (r p : RefT (List ℕ)) → Type 0
@@ -47,19 +50,46 @@ handed-once f s r p a b h k = (
 )
 
 -- find a street or BLPU
-pub find-once : (s r p : RefT (List ℕ)) (kind n : ℕ) (a b : List ℕ) → Handed (find scottish (s .now) kind n) s r a → Handed (find scottish (s .now) kind n) s p b → SameHanded a b r p
-find-once s r p kind n a b h k = handed-once (find scottish (s .now) kind n) s r p a b h k
+pub find-once : (s r p : RefT (List ℕ)) (kind n : ℕ) (a b : List ℕ) → FindClaims s r kind n a → FindClaims s p kind n b → SameHanded a b r p
+find-once s r p kind n a b h k = handed-once (find scottish (s .now) kind n) s r p a b (h .outcome) (k .outcome)
 
 -- show the record in force
-pub in-force-once : (s t r p : RefT (List ℕ)) (kind n : ℕ) (a b : List ℕ)
-    → HandedOf (inForce scottish (s .now) (t .now) kind n) s t r a → HandedOf (inForce scottish (s .now) (t .now) kind n) s t p b → SameHanded a b r p
-in-force-once s t r p kind n a b h k = let f = inForce scottish (s .now) (t .now) kind n in handed-once f (lentAs (f .slice) s t) r p a b h k
+pub in-force-once : (s t r p : RefT (List ℕ)) (kind n : ℕ) (a b : List ℕ) → ForceClaims s t r kind n a → ForceClaims s t p kind n b → SameHanded a b r p
+in-force-once s t r p kind n a b h k = let f = inForce scottish (s .now) (t .now) kind n in handed-once f (lentAs (f .slice) s t) r p a b (h .outcome) (k .outcome)
 
 -- give one field of a line
-pub field-once : (s r p : RefT (List ℕ)) (line n : ℕ) (a b : List ℕ) → Handed (fieldOf (s .now) line n) s r a → Handed (fieldOf (s .now) line n) s p b → SameHanded a b r p
-field-once s r p line n a b h k = handed-once (fieldOf (s .now) line n) s r p a b h k
+pub field-once : (s r p : RefT (List ℕ)) (line n : ℕ) (a b : List ℕ) → FieldClaims s r line n a → FieldClaims s p line n b → SameHanded a b r p
+field-once s r p line n a b h k = handed-once (fieldOf (s .now) line n) s r p a b (h .outcome) (k .outcome)
 
 -- the program's print
 pub print-once : (held sent : Bool) (holding change before : List ℕ) (n m : ℕ) (x y : List ℕ)
     → PrintOutcome held holding sent change before n x → PrintOutcome held holding sent change before m y → (n ≡ m) × (x ≡ y)
 print-once held sent holding change before n m x y o p = (one-outcome _ n m (o .0) (p .0), one-outcome _ x y (o .1) (p .1))
+
+-- ---- the functions for C
+
+pub check-file-in-c-once : (file a b : List ℕ) → FileInC file a → FileInC file b → a ≡ b
+check-file-in-c-once file a b o p = one-outcome _ a b (o .outcome) (p .outcome)
+
+pub check-holding-in-c-once : (old a b : List ℕ) → HoldingInC old a → HoldingInC old b → a ≡ b
+check-holding-in-c-once old a b o p = one-outcome _ a b (o .outcome) (p .outcome)
+
+pub apply-in-c-once : (old file : List ℕ) (room : ℕ) (out put a b : List ℕ) → ApplyInC old file room out a → ApplyInC old file room put b → (a ≡ b) × (out ≡ put)
+apply-in-c-once old file room out put a b o p = (one-outcome _ a b (o .outcome .0) (p .outcome .0), one-outcome _ out put (o .outcome .1) (p .outcome .1))
+
+pub undo-in-c-once : (old file : List ℕ) (room space : ℕ) (out put work rest a b : List ℕ) → UndoInC old file room space out work a → UndoInC old file room space put rest b
+    → (a ≡ b) × (out ≡ put) × (work ≡ rest)
+undo-in-c-once old file room space out put work rest a b o p = (
+  one-outcome _ a b (o .outcome .0) (p .outcome .0),
+  one-outcome _ out put (o .outcome .1) (p .outcome .1),
+  one-outcome _ work rest (o .outcome .2) (p .outcome .2),
+)
+
+pub find-in-c-once : (old : List ℕ) (kind n : ℕ) (a b : List ℕ) → FindInC old kind n a → FindInC old kind n b → a ≡ b
+find-in-c-once old kind n a b o p = one-outcome _ a b (o .outcome) (p .outcome)
+
+pub in-force-in-c-once : (old file : List ℕ) (kind n : ℕ) (a b : List ℕ) → ForceInC old file kind n a → ForceInC old file kind n b → a ≡ b
+in-force-in-c-once old file kind n a b o p = one-outcome _ a b (o .outcome) (p .outcome)
+
+pub field-in-c-once : (bytes : List ℕ) (l f : ℕ) (a b : List ℕ) → FieldInC bytes l f a → FieldInC bytes l f b → a ≡ b
+field-in-c-once bytes l f a b o p = one-outcome _ a b (o .outcome) (p .outcome)

@@ -1,3 +1,11 @@
-// The promises, and nothing else: no code. See specs/, in the order of its Lib: demands 1, 2 and 3; one outcome only; the [p] table.
-// Each is drawn from the `ensures` of the public functions: an answer and bytes that meet an operation's promise are as is said here.
-// docs/PROMISES.md maps the sentences of the demands to these theorems.
+// The promises: a small caller for each public operation and for each function for C, with no `requires`, whose `ensures` is what is claimed
+// of the answer and of the bytes. So a contract below that says less breaks a proof here.
+//
+// What is claimed stands in specs/, in the order of its Lib: theorems of demands 1, 2 and 3 over an operation's outcome; the claims that the
+// callers ensure, made of them; one outcome only; the [p] table. docs/PROMISES.md maps the sentences of the demands to these.
+pub mod checks; // a file, and a holding
+pub mod loads; // taking a file, and handing it back
+pub mod back; // both, one after the other
+pub mod parts; // find, the record in force, one field of a line
+pub mod prints; // what the program prints
+pub mod for_c; // the same of the functions for C

@@ -29,7 +29,7 @@ use Rattle.laws.specs.InForce.{NamedSays, in-force}
 use Rattle.laws.specs.Scottish.{scottish-knows, scottish-regular}
 use Rattle.entries.specs.Entries.{recOf}
 use Rattle.entries.proofs.LineLaws.{rec-change}
-use Rattle.enquiries.specs.Handed.{threeList, lentAs, HandedOf}
+use Rattle.enquiries.specs.Handed.{lentAs, HandedOf}
 use Rattle.find.proofs.FindLaws.{Asked, asked-is}
 use Rattle.in_force.proofs.ForceLaws.{body-rec}
 

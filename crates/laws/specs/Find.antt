@@ -47,11 +47,12 @@ line-there n [] r post = omega arith
 line-there n (x ∷ pre) r post = omega (arith, line-there (suc n) pre r post)
 
 -- the kind that an enquiry's number names has that identifier
-abbrev EnquiredIs : ℕ → Option Kind → Type 0
+abbrev pub EnquiredIs : ℕ → Option Kind → Type 0
 EnquiredIs n none = Unit {0}
 EnquiredIs n (some k) = value (ident k) ≡ n
 
-enquired-is : (ks : List Kind) (n : ℕ) → EnquiredIs n (numberedAmong ks n)
+-- and that is so of every number
+pub enquired-is : (ks : List Kind) (n : ℕ) → EnquiredIs n (numberedAmong ks n)
 unfolding numberedAmong
 enquired-is [] n = tt
 enquired-is (k ∷ ks) n = go (eqb n (value (ident k))) refl (enquired-is ks n)

@@ -36,7 +36,8 @@ module _ (F : Format) where
       × (q ≡ keyOf F (c .rec))
       × (v ≡ new (c .op) (c .rec))
 
-  apart-same : (q k : List ℕ) → T (apart (keyed F) q k) → same q k ≡ false
+  -- keys that are apart are not the same
+  pub apart-same : (q k : List ℕ) → T (apart (keyed F) q k) → same q k ≡ false
   apart-same q k d = go (same q k) refl
     where
       go : (c : Bool) → same q k ≡ c → c ≡ false

@@ -1,0 +1,135 @@
+-- What is promised of apply and undo, of the numbers that they answer and the bytes that they leave: demands 1 and 2, and why each number.
+use mathlib.Core.Path.{_≡_, refl, sym, ap, _∙_}
+use mathlib.Core.Logic.{_↔_}
+use mathlib.Core.List.{List}
+use Prim.Native.Nat.{ℕ, _≤_, _<_}
+use lib.Dec.{T}
+use lib.ListN.{length}
+use Rattle.base.specs.Lists.{zeros}
+use Rattle.theory.specs.Step.{ins, upd, del, after, back}
+use Rattle.theory.specs.Trail.{undo}
+use Rattle.theory.specs.Answer.{count}
+use Rattle.meaning.specs.Table.{scottish}
+use Rattle.meaning.specs.Records.{Rec, keyed}
+use Rattle.meaning.specs.File.{writeFile}
+use Rattle.meaning.specs.Holding.{written}
+use Rattle.meaning.specs.Load.{filled, fits, checkFile, undoSheet, undoHeld, undoBytes}
+use Rattle.laws.specs.SoundHolding.{SoundHolding, sound-held}
+use Rattle.laws.specs.SoundFile.{sound-read}
+use Rattle.laws.specs.Rows.{applyRows, undoRows}
+use Rattle.laws.specs.Checks.{SomeHolding}
+use Rattle.laws.specs.Demand2.{Allowed, afterAll, Lawful, Roomy}
+use Rattle.laws.specs.WhyLoad.{Numbered, Unsound, Faulty, BothSound, Reason, badFile, apply-why, why-apply, apply-14, apply-start, apply-13, undo-why, why-undo, undo-14, undo-start, undo-13, undo-0, undo-17}
+use Rattle.laws.specs.Scottish.{scottish-regular}
+use Rattle.answers.specs.declared.numbers.Answer.{Answer}
+use Rattle.apply.specs.Outcome.{Outcome}
+use Rattle.undo.specs.Outcome.{UndoOutcome}
+use Rattle.claims.specs.Demand1.{Nothing, InTable, apply-refused, undo-refused, undo-filled, work-is-zeros, apply-numbers, undo-numbers}
+use Rattle.claims.specs.Demand2.{taken-if, taken-only, new-holding, counted}
+
+-- ---- why a load is refused, of the numbers answered, with `room` bytes for the holding
+
+-- the numbers of a file over a holding, where they aren't 0 and, for undo, not 17
+pub record WhyRefused (old file : List ℕ) (room : ℕ) (r : Answer) : Type 0 where
+  -- where there is a reason, the numbers are its
+  pub exactly : (c l f : ℕ) → Reason scottish room old file c l f → Numbered (r .code) (r .line) (r .field) c l f
+  -- 14 exactly if the holding is unsound
+  pub unsound : (r .code ≡ 14) ↔ Unsound scottish old
+  -- with a sound holding and a faulty file, the numbers of check_file
+  pub faulty : SomeHolding scottish old → Faulty scottish file → Numbered (r .code) (r .line) (r .field) (checkFile scottish file .code) (checkFile scottish file .line) (checkFile scottish file .field)
+  -- with both sound, 13 at line 0 exactly if the holding doesn't fit at the start
+  pub start : (m : BothSound scottish old file) → ((r .code ≡ 13) × (r .line ≡ 0)) ↔ (T (fits room (m .st)) → ⊥)
+  -- with every line and every step lawful, 13 exactly if the holding doesn't fit at the start and after every step
+  pub roomless : (st : List Rec) → SoundHolding scottish old st → Lawful scottish st file → (r .code ≡ 13) ↔ (Roomy scottish room st file → ⊥)
+
+-- ---- apply
+
+-- what apply answers to a file over a holding with an output of `room` bytes, and leaves in it
+pub record ApplyClaims (old file : List ℕ) (room : ℕ) (r : Answer) (out : List ℕ) : Type 0 where
+  -- the definition's numbers and bytes, and so one outcome only
+  pub outcome : Outcome old file room r out
+  -- demand 1: a row of paper 01's table
+  pub tabled : InTable (applyRows scottish old file) r
+  -- and on refusal zeros, and nothing counted
+  pub refused : (r .code ≡ 0 → ⊥) → Nothing room r out
+  -- demand 2: taken exactly if all is allowed
+  pub taken : (r .code ≡ 0) ↔ Allowed scottish old file room
+  -- with a sound holding and room at every step, exactly if every line and every step is lawful
+  pub lawful : (st : List Rec) → SoundHolding scottish old st → Roomy scottish room st file → (r .code ≡ 0) ↔ Lawful scottish st file
+  -- then the output is the old holding with the file's changes made in their order, and zeros
+  pub new : (a : Allowed scottish old file room) → (out ≡ filled room (written (afterAll scottish a))) × (length (written (afterAll scottish a)) ≤ room)
+  -- each counted in the answer
+  pub counts : (a : Allowed scottish old file room) → (r .inserts ≡ count ins (a .cs)) × (r .updates ≡ count upd (a .cs)) × (r .deletes ≡ count del (a .cs))
+  -- a refusal has a reason
+  pub why : (r .code ≡ 0 → ⊥) → Reason scottish room old file (r .code) (r .line) (r .field)
+  pub whys : WhyRefused old file room r
+
+-- every outcome of apply is so
+pub apply-claims : (old file : List ℕ) (room : ℕ) (r : Answer) (out : List ℕ) → Outcome old file room r out → ApplyClaims old file room r out
+apply-claims old file room r out o = record {
+  outcome = o;
+  tabled = apply-numbers old file room r out o;
+  refused = apply-refused old file room r out o;
+  taken = taken-only old file room r out o;
+  lawful = taken-if old file room r out o;
+  new = new-holding old file room r out o;
+  counts = counted old file room r out o;
+  why = λ n. rw (o .0) (apply-why scottish scottish-regular old file room (λ e. n (ap (λ x. x .code) (o .0) ∙ e)));
+  whys = record {
+    exactly = λ c l f w. rw (o .0) (why-apply scottish scottish-regular old file room c l f w);
+    unsound = rw (o .0) (apply-14 scottish scottish-regular old file room);
+    faulty = λ h n. rw (o .0) (why-apply scottish scottish-regular old file room _ _ _ (badFile h n (refl, refl, refl)));
+    start = λ m. rw (o .0) (apply-start scottish scottish-regular old file room m);
+    roomless = λ st h l. rw (o .0) (apply-13 scottish scottish-regular old file room st h l);
+  };
+}
+
+-- ---- undo
+
+-- what undo answers to a file over a holding with an output of `room` bytes and a work buffer of `space`, and leaves in them
+pub record UndoClaims (old file : List ℕ) (room space : ℕ) (r : Answer) (out work : List ℕ) : Type 0 where
+  -- the definition's numbers and bytes, and so one outcome only
+  pub outcome : UndoOutcome old file room space r out work
+  -- demand 1: a row of paper 01's table
+  pub tabled : InTable (undoRows scottish old file) r
+  -- on refusal zeros, and nothing counted
+  pub refused : (r .code ≡ 0 → ⊥) → Nothing room r out
+  -- the work buffer is all zeros
+  pub cleared : work ≡ zeros space
+  -- 0 exactly if all is allowed with the room of the work buffer, and the undo isn't longer than its output
+  pub done : (r .code ≡ 0) ↔ (Allowed scottish old file space × (length (undoBytes scottish old file) ≤ room))
+  -- 17 exactly if all is allowed so, and the undo is longer than its output
+  pub long : (r .code ≡ 17) ↔ (Allowed scottish old file space × (room < length (undoBytes scottish old file)))
+  -- on success the output is the undo, and zeros
+  pub filledIn : r .code ≡ 0 → (out ≡ filled room (undoBytes scottish old file)) × (length (undoBytes scottish old file) ≤ room)
+  -- which is the file's own header, metadata and trailer around the steps taken backwards, numbered from 1
+  pub body : (a : Allowed scottish old file space) → undoBytes scottish old file ≡ writeFile (a .fr) (undo (after (keyed scottish)) (back (keyed scottish)) (a .st) (a .cs))
+  -- another refusal has a load's reason, with the work buffer's length for 13
+  pub why : (r .code ≡ 0 → ⊥) → (r .code ≡ 17 → ⊥) → Reason scottish space old file (r .code) (r .line) (r .field)
+  pub whys : WhyRefused old file space r
+
+undo-body : (old file : List ℕ) (space : ℕ) (a : Allowed scottish old file space)
+    → undoBytes scottish old file ≡ writeFile (a .fr) (undo (after (keyed scottish)) (back (keyed scottish)) (a .st) (a .cs))
+unfolding undoBytes undoHeld undoSheet
+undo-body old file space a = rw (sound-held scottish scottish-regular old (a .st) (a .held), sound-read scottish file (a .fr) (a .cs) (a .lines))
+
+-- every outcome of undo is so
+pub undo-claims : (old file : List ℕ) (room space : ℕ) (r : Answer) (out work : List ℕ) → UndoOutcome old file room space r out work → UndoClaims old file room space r out work
+undo-claims old file room space r out work o = record {
+  outcome = o;
+  tabled = undo-numbers old file room space r out work o;
+  refused = undo-refused old file room space r out work o;
+  cleared = work-is-zeros old file room space r out work o;
+  done = rw (o .0) (undo-0 scottish scottish-regular old file room space);
+  long = rw (o .0) (undo-17 scottish scottish-regular old file room space);
+  filledIn = undo-filled old file room space r out work o;
+  body = undo-body old file space;
+  why = λ n k. let e = ap (λ x. x .code) (o .0) in rw (o .0) (undo-why scottish scottish-regular old file room space (λ z. n (e ∙ z)) (λ z. k (e ∙ z)));
+  whys = record {
+    exactly = λ c l f w. rw (o .0) (why-undo scottish scottish-regular old file room space c l f w);
+    unsound = rw (o .0) (undo-14 scottish scottish-regular old file room space);
+    faulty = λ h n. rw (o .0) (why-undo scottish scottish-regular old file room space _ _ _ (badFile h n (refl, refl, refl)));
+    start = λ m. rw (o .0) (undo-start scottish scottish-regular old file room space m);
+    roomless = λ st h l. rw (o .0) (undo-13 scottish scottish-regular old file room space st h l);
+  };
+}
