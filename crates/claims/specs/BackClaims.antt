@@ -6,7 +6,8 @@ use lib.Dec.{T, leb}
 use lib.ListN.{length}
 use Rattle.base.specs.Lists.{pick}
 use Rattle.meaning.specs.Table.{scottish}
-use Rattle.meaning.specs.Load.{filled, undoBytes}
+use Rattle.meaning.specs.Load.{thenZeros}
+use Rattle.meaning.specs.Undo.{undoBytes}
 use Rattle.laws.specs.FileRefusals.{among}
 use Rattle.answers.specs.declared.numbers.Answer.{Answer}
 use Rattle.apply.specs.Outcome.{Outcome}
@@ -24,7 +25,7 @@ pub record BackClaims (old file : List ℕ) (room undoRoom space backRoom : ℕ)
   -- undo counts what apply did
   pub counted : taken .code ≡ 0 → made .code ≡ 0 → made ≡ taken
   -- with a buffer as long as the one used going forward, the undo is taken and gives back, byte for byte, the holding that stood before
-  pub givesBack : taken .code ≡ 0 → made .code ≡ 0 → room ≤ backRoom → (back .code ≡ 0) × (out ≡ filled backRoom old)
+  pub givesBack : taken .code ≡ 0 → made .code ≡ 0 → room ≤ backRoom → (back .code ≡ 0) × (out ≡ thenZeros backRoom old)
 
 module _ (old file : List ℕ) (room undoRoom space backRoom : ℕ) (taken made back : Answer) (new undone work out : List ℕ) where
   -- whatever comes of the three is so

@@ -11,7 +11,7 @@ use Rattle.theory.specs.Step.{ins, upd, del, Change}
 use Rattle.theory.specs.Answer.{count}
 use Rattle.meaning.specs.Lines.{identifier}
 use Rattle.meaning.specs.Kinds.{Kind, trailerLine, role}
-use Rattle.meaning.specs.Format.{kindOf, placeFrom, recordCount, endDate}
+use Rattle.meaning.specs.Format.{kindOf, fieldNumber, recordCount, endDate}
 use Rattle.meaning.specs.Table.{scottish}
 use Rattle.meaning.specs.Records.{Rec}
 use Rattle.meaning.specs.File.{Frame}
@@ -51,9 +51,9 @@ pub record FileClaims (file : List ℕ) (r : Answer) : Type 0 where
   -- 5 names a field that the line's kind has
   pub five : r .code ≡ 5 → (k : Kind) × (kindOf scottish (identifier (lineAt file (r .line) .text)) ≡ some k) × (1 ≤ r .field) × (r .field ≤ length (scottish .fields k))
   -- 6 names that kind's END_DATE
-  pub six : r .code ≡ 6 → (k : Kind) × (kindOf scottish (identifier (lineAt file (r .line) .text)) ≡ some k) × (r .field ≡ placeFrom 1 endDate (scottish .fields k))
+  pub six : r .code ≡ 6 → (k : Kind) × (kindOf scottish (identifier (lineAt file (r .line) .text)) ≡ some k) × (r .field ≡ fieldNumber 1 endDate (scottish .fields k))
   -- 8 is a trailer's, and names its RECORD_COUNT
-  pub eight : r .code ≡ 8 → (k : Kind) × (kindOf scottish (identifier (lineAt file (r .line) .text)) ≡ some k) × (role k ≡ trailerLine) × (r .field ≡ placeFrom 1 recordCount (scottish .fields k))
+  pub eight : r .code ≡ 8 → (k : Kind) × (kindOf scottish (identifier (lineAt file (r .line) .text)) ≡ some k) × (role k ≡ trailerLine) × (r .field ≡ fieldNumber 1 recordCount (scottish .fields k))
   -- 9 stands on line 4,098 only
   pub nine : r .code ≡ 9 → r .line ≡ 4098
 

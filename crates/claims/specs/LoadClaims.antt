@@ -13,7 +13,9 @@ use Rattle.meaning.specs.Table.{scottish}
 use Rattle.meaning.specs.Records.{Rec, keyed}
 use Rattle.meaning.specs.File.{writeFile}
 use Rattle.meaning.specs.Holding.{written}
-use Rattle.meaning.specs.Load.{filled, fits, checkFile, undoSheet, undoHeld, undoBytes}
+use Rattle.meaning.specs.Load.{thenZeros, checkFile}
+use Rattle.meaning.specs.Steps.{fits}
+use Rattle.meaning.specs.Undo.{undoSheet, undoHeld, undoBytes}
 use Rattle.laws.specs.SoundHolding.{SoundHolding, sound-held}
 use Rattle.laws.specs.SoundFile.{sound-read}
 use Rattle.laws.specs.Rows.{applyRows, undoRows}
@@ -57,7 +59,7 @@ pub record ApplyClaims (old file : List ℕ) (room : ℕ) (r : Answer) (out : Li
   -- with a sound holding and room at every step, exactly if every line and every step is lawful
   pub lawful : (st : List Rec) → SoundHolding scottish old st → Roomy scottish room st file → (r .code ≡ 0) ↔ Lawful scottish st file
   -- then the output is the old holding with the file's changes made in their order, and zeros
-  pub new : (a : Allowed scottish old file room) → (out ≡ filled room (written (afterAll scottish a))) × (length (written (afterAll scottish a)) ≤ room)
+  pub new : (a : Allowed scottish old file room) → (out ≡ thenZeros room (written (afterAll scottish a))) × (length (written (afterAll scottish a)) ≤ room)
   -- each counted in the answer
   pub counts : (a : Allowed scottish old file room) → (r .inserts ≡ count ins (a .cs)) × (r .updates ≡ count upd (a .cs)) × (r .deletes ≡ count del (a .cs))
   -- a refusal has a reason
@@ -101,7 +103,7 @@ pub record UndoClaims (old file : List ℕ) (room space : ℕ) (r : Answer) (out
   -- 17 exactly if all is allowed so, and the undo is longer than its output
   pub long : (r .code ≡ 17) ↔ (Allowed scottish old file space × (room < length (undoBytes scottish old file)))
   -- on success the output is the undo, and zeros
-  pub filledIn : r .code ≡ 0 → (out ≡ filled room (undoBytes scottish old file)) × (length (undoBytes scottish old file) ≤ room)
+  pub filledIn : r .code ≡ 0 → (out ≡ thenZeros room (undoBytes scottish old file)) × (length (undoBytes scottish old file) ≤ room)
   -- which is the file's own header, metadata and trailer around the steps taken backwards, numbered from 1
   pub body : (a : Allowed scottish old file space) → undoBytes scottish old file ≡ writeFile (a .fr) (undo (after (keyed scottish)) (back (keyed scottish)) (a .st) (a .cs))
   -- another refusal has a load's reason, with the work buffer's length for 13

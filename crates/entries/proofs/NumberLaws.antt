@@ -16,7 +16,7 @@ use Rattle.theory.specs.Decimal.{value, valueF}
 use Rattle.meaning.specs.Lines.{isSep, fieldsOf}
 use Rattle.meaning.specs.Forms.{Form, isTextual, isEmpty}
 use Rattle.meaning.specs.Kinds.{Kind, kinds}
-use Rattle.meaning.specs.Format.{placeFrom}
+use Rattle.meaning.specs.Format.{fieldNumber}
 use Rattle.meaning.specs.Table.{fields, keyNames}
 use Rattle.laws.specs.Kinds.{every}
 use Rattle.text.specs.Places.{fieldLen}
@@ -116,7 +116,7 @@ pub ruleset placing = (needs, number-none, number-placed)
 
 -- no kind's key begins with a text in field 4
 first-plain : (k : Kind) → getD (laidOut k .key) 0 0 ≡ 4 → isTextual (rowOf k 3 .0) ≡ false
-unfolding kinds laidOut placesOf padded zeros placeFrom fields keyNames rowOf isTextual
+unfolding kinds laidOut placesOf padded zeros fieldNumber fields keyNames rowOf isTextual
 first-plain k e = go (eqb (getD (laidOut k .key) 0 0) 4) (isTextual (rowOf k 3 .0)) (eq-eqb (getD (laidOut k .key) 0 0) 4 e) (every (λ k. not (eqb (getD (laidOut k .key) 0 0) 4) || not (isTextual (rowOf k 3 .0))) tt k)
   where
     go : (a b : Bool) → a ≡ true → T (not a || not b) → b ≡ false

@@ -20,7 +20,7 @@ use Rattle.theory.specs.LexLaws.{lex-order}
 use Rattle.theory.specs.Decimal.{value, valueF}
 use Rattle.theory.specs.Store.{get, gets, Low, Asc}
 use Rattle.theory.specs.StoreLaws.{low-down}
-use Rattle.theory.specs.Place.{rank, ranks}
+use Rattle.theory.specs.Rank.{rank, ranks}
 use Rattle.meaning.specs.Lines.{linesOf}
 use Rattle.meaning.specs.Kinds.{Kind, bodyLine, role, street, blpu, ident, numberedAmong}
 use Rattle.meaning.specs.Format.{formNamed}

@@ -6,7 +6,7 @@ use Prim.Native.Nat.{ℕ, suc, _≤_}
 use lib.ListN.{length}
 use Rattle.base.specs.Lists.{pick, some?}
 use Rattle.theory.specs.Store.{get}
-use Rattle.theory.specs.Place.{rank}
+use Rattle.theory.specs.Rank.{rank}
 use Rattle.meaning.specs.Kinds.{numberedAmong}
 use Rattle.meaning.specs.Table.{enquiries}
 use Rattle.meaning.specs.Records.{Rec}

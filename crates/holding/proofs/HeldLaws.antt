@@ -16,7 +16,7 @@ use Rattle.theory.specs.DecimalLaws.{length-dec}
 use Rattle.theory.specs.Step.{ins}
 use Rattle.meaning.specs.Lines.{Line, endsWell, fieldsOf, identifier, hasFields}
 use Rattle.meaning.specs.Kinds.{Kind, role}
-use Rattle.meaning.specs.Format.{kindOf, named, placeFrom, startDate, endDate}
+use Rattle.meaning.specs.Format.{kindOf, named, fieldNumber, startDate, endDate}
 use Rattle.meaning.specs.Table.{fields, scottish}
 use Rattle.meaning.specs.Codes.{fieldCountWrong, fieldMalformed, endBeforeStart}
 use Rattle.meaning.specs.Answers as meant
@@ -58,7 +58,7 @@ no-code k t f e z =
     let u : told (formFault scottish k t none) .code ≡ 0 = sym (ap (λ x. x .code) e) ∙ z in
     let n : ℕ = lowestBad 1 (map bare (fields k)) (fieldsOf t) in
     rw (forms-is 0 (fields k) (fieldsOf t) _)
-    (go (hasFields (length (fields k)) t) (eqb n 0) (datesAgree (named startDate (fields k) (fieldsOf t)) (named endDate (fields k) (fieldsOf t))) (placeFrom 1 endDate (fields k)) n
+    (go (hasFields (length (fields k)) t) (eqb n 0) (datesAgree (named startDate (fields k) (fieldsOf t)) (named endDate (fields k) (fieldsOf t))) (fieldNumber 1 endDate (fields k)) n
     (rw (forms-is 0 (fields k) (fieldsOf t) _) at u))
   where
     go : (a b c : Bool) (x y : ℕ) → told (ask {A = meant.Fault} a (ofLine fieldCountWrong) (pick b (ask c (ofField endBeforeStart x) none) (some (ofField fieldMalformed y)))) .code ≡ 0 → isSound (ask a (ofLine fieldCountWrong) (pick b (ask c (ofField endBeforeStart x) none) (some (ofField fieldMalformed y)))) ≡ true

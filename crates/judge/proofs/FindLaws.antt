@@ -12,7 +12,7 @@ use Rattle.base.specs.Tests.{T-true}
 use Rattle.theory.specs.Tri.{Tri, lt, eq, gt, isGt}
 use Rattle.theory.specs.Lex.{lex}
 use Rattle.theory.specs.Store.{get, gets}
-use Rattle.theory.specs.Place.{rank}
+use Rattle.theory.specs.Rank.{rank}
 use Rattle.meaning.specs.Table.{scottish}
 use Rattle.meaning.specs.Records.{Rec, keyed, keyOf}
 use Rattle.laws.specs.Body.{fine}

@@ -7,7 +7,7 @@ use lib.Dec.{T}
 use lib.ListN.{length, take}
 use Rattle.base.specs.Lists.{some?}
 use Rattle.theory.specs.Store.{get}
-use Rattle.theory.specs.Place.{rank}
+use Rattle.theory.specs.Rank.{rank}
 use Rattle.theory.specs.Step.{Change, passes, judge, after}
 use Rattle.meaning.specs.Table.{scottish}
 use Rattle.meaning.specs.Records.{Rec, keyed, keyOf}

@@ -20,7 +20,7 @@ use Rattle.theory.specs.Decimal.{value}
 use Rattle.meaning.specs.Lines.{fieldsOf}
 use Rattle.meaning.specs.Forms.{isEmpty}
 use Rattle.meaning.specs.Kinds.{Kind, kinds, ident}
-use Rattle.meaning.specs.Format.{Field, placeFrom, named, formNamed}
+use Rattle.meaning.specs.Format.{Field, fieldNumber, named, formNamed}
 use Rattle.meaning.specs.Table.{fields, keyNames, refersTo, scottish}
 use Rattle.meaning.specs.Records.{ownFields, emptyNamed}
 use Rattle.laws.specs.Kinds.{every}
@@ -61,34 +61,34 @@ pub ruleset ordered = (needs, lex-first, lex-after, lex-last)
 
 -- the field of that name is one of the content's
 abbrev pub own : Kind → String → Bool
-own k s = leb 4 (placeFrom 1 s (fields k))
+own k s = leb 4 (fieldNumber 1 s (fields k))
 
 -- a place past j fields is the same among the others
-place-drop : (j n : ℕ) (s : String) (ds : List Field) → suc n + j ≤ placeFrom (suc n) s ds → placeFrom (suc n) s ds ≡ placeFrom (suc n + j) s (drop j ds)
-unfolding placeFrom
+place-drop : (j n : ℕ) (s : String) (ds : List Field) → suc n + j ≤ fieldNumber (suc n) s ds → fieldNumber (suc n) s ds ≡ fieldNumber (suc n + j) s (drop j ds)
+unfolding fieldNumber
 place-drop zero n s ds h = let z : suc n + 0 ≡ suc n = omega arith in rw z
 place-drop (suc j) n s [] h = absurd (omega arith)
 place-drop (suc j) n s (d ∷ ds) h = go (eqt s (d .name)) h (place-drop j (suc n) s ds)
   where
-    go : (b : Bool) → suc n + suc j ≤ pick b (suc n) (placeFrom (suc (suc n)) s ds)
-        → (suc (suc n) + j ≤ placeFrom (suc (suc n)) s ds → placeFrom (suc (suc n)) s ds ≡ placeFrom (suc (suc n) + j) s (drop j ds))
-        → pick b (suc n) (placeFrom (suc (suc n)) s ds) ≡ placeFrom (suc n + suc j) s (drop j ds)
+    go : (b : Bool) → suc n + suc j ≤ pick b (suc n) (fieldNumber (suc (suc n)) s ds)
+        → (suc (suc n) + j ≤ fieldNumber (suc (suc n)) s ds → fieldNumber (suc (suc n)) s ds ≡ fieldNumber (suc (suc n) + j) s (drop j ds))
+        → pick b (suc n) (fieldNumber (suc (suc n)) s ds) ≡ fieldNumber (suc n + suc j) s (drop j ds)
     go true h ih = absurd (omega arith)
     go false h ih = let z : suc n + suc j ≡ suc (suc n) + j = omega arith in rw z (ih (omega arith))
 
 -- the form of a name is the one at its place
-form-at : (n : ℕ) (s : String) (ds : List Field) → (placeFrom (suc n) s ds ≡ 0 → ⊥) → formNamed s ds ≡ getD (map bare ds) (placeFrom (suc n) s ds - suc n) noRow .0
-unfolding formNamed placeFrom
+form-at : (n : ℕ) (s : String) (ds : List Field) → (fieldNumber (suc n) s ds ≡ 0 → ⊥) → formNamed s ds ≡ getD (map bare ds) (fieldNumber (suc n) s ds - suc n) noRow .0
+unfolding formNamed fieldNumber
 form-at n s [] h = absurd (h refl)
 form-at n s (d ∷ ds) h = go (eqt s (d .name)) h (place-from (suc (suc n)) s ds) (form-at (suc n) s ds)
   where
-    go : (b : Bool) → (pick b (suc n) (placeFrom (suc (suc n)) s ds) ≡ 0 → ⊥) → ((placeFrom (suc (suc n)) s ds ≡ 0 → ⊥) → suc (suc n) ≤ placeFrom (suc (suc n)) s ds)
-        → ((placeFrom (suc (suc n)) s ds ≡ 0 → ⊥) → formNamed s ds ≡ getD (map bare ds) (placeFrom (suc (suc n)) s ds - suc (suc n)) noRow .0)
-        → pick b (d .form) (formNamed s ds) ≡ getD (bare d ∷ map bare ds) (pick b (suc n) (placeFrom (suc (suc n)) s ds) - suc n) noRow .0
+    go : (b : Bool) → (pick b (suc n) (fieldNumber (suc (suc n)) s ds) ≡ 0 → ⊥) → ((fieldNumber (suc (suc n)) s ds ≡ 0 → ⊥) → suc (suc n) ≤ fieldNumber (suc (suc n)) s ds)
+        → ((fieldNumber (suc (suc n)) s ds ≡ 0 → ⊥) → formNamed s ds ≡ getD (map bare ds) (fieldNumber (suc (suc n)) s ds - suc (suc n)) noRow .0)
+        → pick b (d .form) (formNamed s ds) ≡ getD (bare d ∷ map bare ds) (pick b (suc n) (fieldNumber (suc (suc n)) s ds) - suc n) noRow .0
     go true h l ih = let z : suc n - suc n ≡ 0 = omega arith in rw z
     go false h l ih =
         let m = l h in
-        let z : placeFrom (suc (suc n)) s ds - suc n ≡ suc (placeFrom (suc (suc n)) s ds - suc (suc n)) = omega arith in
+        let z : fieldNumber (suc (suc n)) s ds - suc n ≡ suc (fieldNumber (suc (suc n)) s ds - suc (suc n)) = omega arith in
         rw z (ih h)
 
 -- rows after j others
@@ -98,36 +98,36 @@ row-drop (suc j) [] i = refl
 row-drop (suc j) (d ∷ ds) i = let z : suc j + i ≡ suc (j + i) = omega arith in rw z (row-drop j ds i)
 
 module _ (k : Kind) (c : List ℕ) (s : String) (o : T (own k s)) where
-  high : 4 ≤ placeFrom 1 s (fields k)
-  high = leb→le 4 (placeFrom 1 s (fields k)) o
+  high : 4 ≤ fieldNumber 1 s (fields k)
+  high = leb→le 4 (fieldNumber 1 s (fields k)) o
 
-  moved : placeFrom 1 s (fields k) ≡ placeFrom 4 s (ownFields scottish k)
+  moved : fieldNumber 1 s (fields k) ≡ fieldNumber 4 s (ownFields scottish k)
   unfolding ownFields
   moved = place-drop 3 0 s (fields k) high
 
   -- a name's field is the one at its place
-  name-field : named s (ownFields scottish k) (fieldsOf c) ≡ fieldAt c (placeFrom 1 s (fields k))
+  name-field : named s (ownFields scottish k) (fieldsOf c) ≡ fieldAt c (fieldNumber 1 s (fields k))
   unfolding fieldAt
   name-field = named-at 3 s (ownFields scottish k) (fieldsOf c) (λ z. absurd (omega (arith, high, moved))) ∙ rw moved
 
   -- and its form
-  name-form : formNamed s (ownFields scottish k) ≡ rowOf k (placeFrom 1 s (fields k) - 1) .0
+  name-form : formNamed s (ownFields scottish k) ≡ rowOf k (fieldNumber 1 s (fields k) - 1) .0
   unfolding rowOf ownFields
   name-form =
-      let z : 3 + (placeFrom 4 s (ownFields scottish k) - 4) ≡ placeFrom 1 s (fields k) - 1 = omega (arith, high, moved) in
+      let z : 3 + (fieldNumber 4 s (ownFields scottish k) - 4) ≡ fieldNumber 1 s (fields k) - 1 = omega (arith, high, moved) in
       form-at 3 s (ownFields scottish k) (λ z. absurd (omega (arith, high, moved)))
-      ∙ ap (λ r. r .0) (row-drop 3 (fields k) (placeFrom 4 s (ownFields scottish k) - 4))
+      ∙ ap (λ r. r .0) (row-drop 3 (fields k) (fieldNumber 4 s (ownFields scottish k) - 4))
       ∙ ap (λ i. getD (map bare (fields k)) i noRow .0) z
 
   -- so is its number
-  name-number : numberAt k c (placeFrom 1 s (fields k)) ≡ numberNamed (record { kind = k; content = c }) s
+  name-number : numberAt k c (fieldNumber 1 s (fields k)) ≡ numberNamed (record { kind = k; content = c }) s
   unfolding numberAt numberNamed
-  name-number = rw (le-ltb (placeFrom 1 s (fields k)) 4 high, name-field, name-form)
+  name-number = rw (le-ltb (fieldNumber 1 s (fields k)) 4 high, name-field, name-form)
 
   -- and whether it is empty
-  name-empty : emptyAt k c (placeFrom 1 s (fields k)) ≡ emptyNamed scottish (record { kind = k; content = c }) (s ∷ [])
+  name-empty : emptyAt k c (fieldNumber 1 s (fields k)) ≡ emptyNamed scottish (record { kind = k; content = c }) (s ∷ [])
   unfolding emptyAt emptyNamed
-  name-empty = rw (le-ltb (placeFrom 1 s (fields k)) 4 high, name-field, name-form) (sym (or-false (isEmpty (rowOf k (placeFrom 1 s (fields k) - 1) .0) (fieldAt c (placeFrom 1 s (fields k))))))
+  name-empty = rw (le-ltb (fieldNumber 1 s (fields k)) 4 high, name-field, name-form) (sym (or-false (isEmpty (rowOf k (fieldNumber 1 s (fields k) - 1) .0) (fieldAt c (fieldNumber 1 s (fields k))))))
     where
       or-false : (b : Bool) → (b || false) ≡ b
       or-false true = refl
@@ -150,7 +150,7 @@ padded-numbers k c (suc m) (s ∷ ss) t = ap₂ (λ n l. n ∷ l) (name-number k
 
 -- the fields of every key are the content's
 keys-own : (k : Kind) → T (all (own k) (keyNames k))
-unfolding kinds keyNames fields placeFrom
+unfolding kinds keyNames fields fieldNumber
 keys-own k = every (λ k. all (own k) (keyNames k)) tt k
 
 -- three places, one by one
@@ -183,7 +183,7 @@ single k (s ∷ (t ∷ ss)) = false
 
 -- so are all
 rows-single : (k : Kind) → T (all (λ p. single k (p .1)) (refersTo k))
-unfolding kinds refersTo fields placeFrom
+unfolding kinds refersTo fields fieldNumber
 rows-single k = every (λ k. all (λ p. single k (p .1)) (refersTo k)) tt k
 
 -- a number that is padded, where it is given

@@ -18,7 +18,7 @@ use Rattle.theory.specs.Lex.{cmpN, andThen, lex}
 use Rattle.theory.specs.LexLaws.{is-cmpN}
 use Rattle.theory.specs.Decimal.{value}
 use Rattle.meaning.specs.Lines.{fieldsOf, oddQuotes, hasFields, plain}
-use Rattle.meaning.specs.Forms.{Form, number, atLeast1, decimal, date, time, text, changeType, xrefType, fileType, keyText, isDigit, isNumber, digits, inside, isText, oneOf, isKey, hasForm, isTextual, isEmpty, soundAs, valueOf}
+use Rattle.meaning.specs.Forms.{Form, number, atLeast1, decimal, date, time, text, changeType, xrefType, fileType, keyText, isDigit, isNumber, isDigits, inside, isText, oneOf, isKey, hasForm, isTextual, isEmpty, soundAs, valueOf}
 use Rattle.meaning.specs.Kinds.{Kind}
 use Rattle.meaning.specs.Format.{Field, named, formNamed}
 use Rattle.meaning.specs.Table.{scottish}
@@ -203,13 +203,13 @@ record Keyish (letter : ℕ) (f : List ℕ) : Type 0 where
   others : T (all isDigit (part f 6 15))
 
 key-made : (letter : ℕ) (f : List ℕ) → T (isKey (scottish .textRule) letter f) → Keyish letter f
-unfolding isKey digits inside
+unfolding isKey isDigits inside
 key-made letter f t =
     let a = and-r (isText (scottish .textRule) 14 f) _ t in
     let size : length f ≡ 16 = eqb→eq (length f) 16 (and-l (eqb (length f) 16) _ a) in
     let b = and-r (eqb (length f) 16) _ a in
-    let p = and-l (digits 4 (part f 1 5)) _ b in
-    let c = and-r (digits 4 (part f 1 5)) _ b in
+    let p = and-l (isDigits 4 (part f 1 5)) _ b in
+    let c = and-r (isDigits 4 (part f 1 5)) _ b in
     let m : part f 5 6 ≡ letter ∷ [] = same-eq (part f 5 6) (letter ∷ []) (and-l (same (part f 5 6) (letter ∷ [])) _ c) in
     let q = and-r (same (part f 5 6) (letter ∷ [])) _ c in
     let last : length f - 1 ≡ 15 = omega arith in

@@ -15,7 +15,7 @@ use Rattle.theory.specs.Lex.{cmpN, Is, andThen, lex}
 use Rattle.theory.specs.LexLaws.{cmpN-is, lex-order}
 use Rattle.theory.specs.Decimal.{value, valueF}
 use Rattle.theory.specs.Store.{cons?, put, get, Asc}
-use Rattle.theory.specs.Place.{rank}
+use Rattle.theory.specs.Rank.{rank}
 use Rattle.theory.specs.AgreeLaws.{get-agree, put-agree, rank-agree, asc-agree}
 use Rattle.theory.specs.Refs.{apart, has, meets, clear}
 use Rattle.meaning.specs.Lines.{fieldsOf}

@@ -17,7 +17,7 @@ use Rattle.theory.specs.Step.{Change}
 use Rattle.meaning.specs.Lines.{plain, fieldsOf, oddQuotes, hasFields, identifier}
 use Rattle.meaning.specs.Forms.{number, hasForm, isEmpty, soundAs, isNumber, isDigit, isTextual, changeType}
 use Rattle.meaning.specs.Kinds.{Kind, kinds, ident, bodyLine, role, kindAmong}
-use Rattle.meaning.specs.Format.{Format, Field, opening, kindOf, knows, named, placeFrom, man}
+use Rattle.meaning.specs.Format.{Format, Field, opening, kindOf, knows, named, fieldNumber, man}
 use Rattle.meaning.specs.Sound.{soundField, forms, fieldFault, formFault}
 use Rattle.meaning.specs.Records.{Rec, contentOf, ownFields, letter, changeText, changeOf}
 use Rattle.meaning.specs.Holding.{isHeld, isSound}
@@ -159,7 +159,7 @@ module _ (F : Format) where
       → fieldFault F 1 (opening ++ own) (f1 ∷ f2 ∷ f3 ∷ fs) rest
       ≡ ask (soundField F (man "RECORD_IDENTIFIER" (number 2)) f1) (ofField fieldMalformed 1)
       (ask (soundField F (man "CHANGE_TYPE" changeType) f2) (ofField fieldMalformed 2) (ask (soundField F (man "PRO_ORDER" (number 16)) f3) (ofField fieldMalformed 3) (fieldFault F 4 own fs rest)))
-  unfolding fieldFault forms named placeFrom
+  unfolding fieldFault forms named fieldNumber
   fault-split own f1 f2 f3 fs rest = refl
 
   -- where the fields are sound, what is left is the rest

@@ -18,7 +18,7 @@ use Rattle.meaning.specs.Kinds.{Kind, Role, headerLine, metadataLine, trailerLi
 use Rattle.meaning.specs.Format.{Format, named}
 use Rattle.meaning.specs.Answers.{Refusal}
 use Rattle.meaning.specs.Records.{Rec, changeText, changeOf, changeTexts}
-use Rattle.meaning.specs.File.{Place, Judged, bad, good, judgeLine, Frame, atStart, inBody, afterMetadata, afterTrailer, readFile, writeFile, mostBody}
+use Rattle.meaning.specs.File.{Stage, Judged, bad, good, judgeLine, Frame, atStart, inBody, afterMetadata, afterTrailer, readFile, writeFile, mostBody}
 use Rattle.laws.specs.Kinds.{isRole, role-refl, is-role}
 use Rattle.laws.specs.Regular.{Regular}
 use Rattle.laws.specs.LinesAndFields.{ends, lines-in}
@@ -44,7 +44,7 @@ module _ (F : Format) where
       && accepted trailerLine (judgeLine F afterMetadata n (ends (fr .trailerText)))))
 
   -- an accepted line is a sound line of its role, with the right numbers
-  accepted-sound : (o : Role) (p : Place) (n : ℕ) (t : List ℕ) → T (accepted o (judgeLine F p n (ends t))) → (a : RoleLine F o t) × Numbers F o n (a .kind) t
+  accepted-sound : (o : Role) (p : Stage) (n : ℕ) (t : List ℕ) → T (accepted o (judgeLine F p n (ends t))) → (a : RoleLine F o t) × Numbers F o n (a .kind) t
   unfolding accepted
   accepted-sound o p n t a = go (judgeLine F p n (ends t)) (judged F p n (ends t)) a
     where
@@ -56,7 +56,7 @@ module _ (F : Format) where
           (record { kind = k; roles = r; sounds = s .1 }, subst (λ o. Numbers F o n k t) r (s .2))
 
   -- and a line that is judged good, with that role, is accepted
-  good-accepted : (o : Role) (p : Place) (n : ℕ) (t : List ℕ) (k : Kind) (q : Place) → judgeLine F p n (ends t) ≡ good k q → role k ≡ o → T (accepted o (judgeLine F p n (ends t)))
+  good-accepted : (o : Role) (p : Stage) (n : ℕ) (t : List ℕ) (k : Kind) (q : Stage) → judgeLine F p n (ends t) ≡ good k q → role k ≡ o → T (accepted o (judgeLine F p n (ends t)))
   unfolding accepted
   good-accepted o p n t k q e r = rw (e, r) (role-refl o)
 

@@ -14,9 +14,9 @@ use Rattle.base.specs.Lists.{pick, ask}
 use Rattle.theory.specs.Answer.{fault, file}
 use Rattle.meaning.specs.Lines.{fieldsOf, identifier, Line, linesOf, endsWell}
 use Rattle.meaning.specs.Kinds.{Kind, ident, Role, headerLine, bodyLine, metadataLine, trailerLine, role}
-use Rattle.meaning.specs.Format.{Format, Field, kindOf, knows, named, placeFrom, proOrder, recordCount, startDate, endDate}
+use Rattle.meaning.specs.Format.{Format, Field, kindOf, knows, named, fieldNumber, proOrder, recordCount, startDate, endDate}
 use Rattle.meaning.specs.Sound.{soundField, forms, datesAgree, fieldFault, formFault}
-use Rattle.meaning.specs.File.{Place, next, countFault, Judged, bad, good, lineFault, verdict, judgeKind, judgeText, judgeLine, Sheet, adds, bodyAfter, atStart, inBody, afterMetadata, afterTrailer, atEnd, onLine, readFrom, readFile}
+use Rattle.meaning.specs.File.{Stage, next, countFault, Judged, bad, good, lineFault, verdict, judgeKind, judgeText, judgeLine, Sheet, adds, bodyAfter, atStart, inBody, afterMetadata, afterTrailer, atEnd, onLine, readFrom, readFile}
 use Rattle.meaning.specs.Holding.{isHeld}
 use Rattle.meaning.specs.Answers.{Read, Fault, ofLine, ofField}
 use Rattle.meaning.specs.Codes.{fieldMalformed, fieldCountWrong, tooManyBodyLines, endingWrong, endBeforeStart, notRunningNumber, recordCountWrong, identifierUnknown, outOfPlace}
@@ -25,13 +25,13 @@ use Rattle.laws.specs.Regular.{holds, Regular}
 use Rattle.laws.specs.Body.{kind-in, kind-known}
 
 -- a kind that has no field of that name has no bytes of it
-pub none-named : (n : ℕ) (s : String) (ds : List Field) (fs : List (List ℕ)) → placeFrom (suc n) s ds ≡ 0 → named s ds fs ≡ []
-unfolding placeFrom named
+pub none-named : (n : ℕ) (s : String) (ds : List Field) (fs : List (List ℕ)) → fieldNumber (suc n) s ds ≡ 0 → named s ds fs ≡ []
+unfolding fieldNumber named
 none-named n s [] fs e = refl
 none-named n s (d ∷ ds) [] e = refl
 none-named n s (d ∷ ds) (f ∷ fs) e = go (eqt s (d .name)) (none-named (suc n) s ds fs) e
   where
-    go : (c : Bool) → (placeFrom (suc (suc n)) s ds ≡ 0 → named s ds fs ≡ []) → pick c (suc n) (placeFrom (suc (suc n)) s ds) ≡ 0 → pick c f (named s ds fs) ≡ []
+    go : (c : Bool) → (fieldNumber (suc (suc n)) s ds ≡ 0 → named s ds fs ≡ []) → pick c (suc n) (fieldNumber (suc (suc n)) s ds) ≡ 0 → pick c f (named s ds fs) ≡ []
     go true i e = absurd (omega (arith, e))
     go false i e = i e
 
@@ -59,7 +59,7 @@ module _ (F : Format) where
 
   -- END_DATE's own number in a kind that the format knows
   unfoldable pub endNumber : ℕ → Bool
-  endNumber f = leb 1 f && any (λ k. eqb f (placeFrom 1 endDate (fields k))) known
+  endNumber f = leb 1 f && any (λ k. eqb f (fieldNumber 1 endDate (fields k))) known
 
   -- code and field: 1, 3, 4 and 9 with no field, 2 with field 1, 5 with a field, 6 with END_DATE, 7 and 8 with field 3
   unfoldable pub shaped : Fault → Bool
@@ -97,14 +97,14 @@ module _ (F : Format) where
   forms-shaped n (d ∷ ds) (f ∷ fs) rest r = ask-shaped (soundField F d f) (ofField fieldMalformed (suc n)) (forms F (suc (suc n)) ds fs rest) (five n) (forms-shaped (suc n) ds fs rest r)
 
   -- END_DATE's place in a known kind is such a number, or 0 where the kind has no END_DATE
-  end-or-none : (k : Kind) → T (knows F k) → T (endNumber (placeFrom 1 endDate (fields k)) || eqb (placeFrom 1 endDate (fields k)) 0)
+  end-or-none : (k : Kind) → T (knows F k) → T (endNumber (fieldNumber 1 endDate (fields k)) || eqb (fieldNumber 1 endDate (fields k)) 0)
   unfolding endNumber kindOf
-  end-or-none k h = go (placeFrom 1 endDate (fields k)) refl
+  end-or-none k h = go (fieldNumber 1 endDate (fields k)) refl
     where
       isEnd : ℕ → Kind → Bool
-      isEnd m j = eqb m (placeFrom 1 endDate (fields j))
+      isEnd m j = eqb m (fieldNumber 1 endDate (fields j))
 
-      go : (m : ℕ) → placeFrom 1 endDate (fields k) ≡ m → T ((leb 1 m && any (isEnd m) known) || eqb m 0)
+      go : (m : ℕ) → fieldNumber 1 endDate (fields k) ≡ m → T ((leb 1 m && any (isEnd m) known) || eqb m 0)
       go zero e = tt
       go (suc m) e =
           let t : T (any (isEnd (suc m)) known) = found-any (isEnd (suc m)) known (ident k) k (kind-in F k h) (yes-eqb (sym e)) in
@@ -112,15 +112,15 @@ module _ (F : Format) where
 
   -- 6 names END_DATE: a kind that has none isn't given it
   six-shaped : (k : Kind) (fs : List (List ℕ)) (rest : Option Fault) → T (knows F k) → Shaped rest
-      → Shaped (ask (datesAgree (named startDate (fields k) fs) (named endDate (fields k) fs)) (ofField endBeforeStart (placeFrom 1 endDate (fields k))) rest)
+      → Shaped (ask (datesAgree (named startDate (fields k) fs) (named endDate (fields k) fs)) (ofField endBeforeStart (fieldNumber 1 endDate (fields k))) rest)
   unfolding shaped ask datesAgree
-  six-shaped k fs rest h r = go (endNumber (placeFrom 1 endDate (fields k))) refl (end-or-none k h)
+  six-shaped k fs rest h r = go (endNumber (fieldNumber 1 endDate (fields k))) refl (end-or-none k h)
     where
       agree : Bool
       agree = datesAgree (named startDate (fields k) fs) (named endDate (fields k) fs)
 
-      go : (c : Bool) → endNumber (placeFrom 1 endDate (fields k)) ≡ c → T (c || eqb (placeFrom 1 endDate (fields k)) 0) → Shaped (ask agree (ofField endBeforeStart (placeFrom 1 endDate (fields k))) rest)
-      go true e t = ask-shaped agree (ofField endBeforeStart (placeFrom 1 endDate (fields k))) rest (or-l (endNumber (placeFrom 1 endDate (fields k))) _ (rw e tt)) r
+      go : (c : Bool) → endNumber (fieldNumber 1 endDate (fields k)) ≡ c → T (c || eqb (fieldNumber 1 endDate (fields k)) 0) → Shaped (ask agree (ofField endBeforeStart (fieldNumber 1 endDate (fields k))) rest)
+      go true e t = ask-shaped agree (ofField endBeforeStart (fieldNumber 1 endDate (fields k))) rest (or-l (endNumber (fieldNumber 1 endDate (fields k))) _ (rw e tt)) r
       go false e t =
           let z : named endDate (fields k) fs ≡ [] = none-named 0 endDate (fields k) fs (eqb→eq _ 0 t) in
           rw z r
@@ -142,7 +142,7 @@ module _ (F : Format) where
   adds-shaped o k t (fault r) i = i
   adds-shaped o k t (file s) i = tt
 
-  on-shaped : (i : ℕ) (t : List ℕ) (go : Kind → Place → Read Sheet) → ((k : Kind) (q : Place) → ReadShaped (go k q))
+  on-shaped : (i : ℕ) (t : List ℕ) (go : Kind → Stage → Read Sheet) → ((k : Kind) (q : Stage) → ReadShaped (go k q))
       → (j : Judged) → BadShaped j → ReadShaped (onLine i t j go)
   unfolding onLine
   on-shaped i t go h (bad f) b = b
@@ -167,20 +167,20 @@ module _ (F : Format) where
 
     -- ---- every refusal has that shape, and so its code is one of 1 to 9
 
-    seven-shaped : (k : Kind) → T (knows F k) → role k ≡ bodyLine → T (shaped (ofField notRunningNumber (placeFrom 1 proOrder (fields k))))
-    unfolding shaped placeFrom holds isHeld
+    seven-shaped : (k : Kind) → T (knows F k) → role k ≡ bodyLine → T (shaped (ofField notRunningNumber (fieldNumber 1 proOrder (fields k))))
+    unfolding shaped fieldNumber holds isHeld
     seven-shaped k h e = rw (opens k (and-in (knows F k) (isHeld (role k)) h (rw e tt))) tt
 
-    eight-shaped : (k : Kind) → T (knows F k) → role k ≡ trailerLine → T (shaped (ofField recordCountWrong (placeFrom 1 recordCount (fields k))))
+    eight-shaped : (k : Kind) → T (knows F k) → role k ≡ trailerLine → T (shaped (ofField recordCountWrong (fieldNumber 1 recordCount (fields k))))
     unfolding shaped
     eight-shaped k h e = rw (count-third k h e) tt
 
     count-shaped : (o : Role) (n : ℕ) (k : Kind) (t : List ℕ) → T (knows F k) → role k ≡ o → Shaped (countFault F o n k t)
     unfolding countFault
     count-shaped headerLine n k t h e = tt
-    count-shaped bodyLine n k t h e = ask-shaped _ (ofField notRunningNumber (placeFrom 1 proOrder (fields k))) none (seven-shaped k h e) tt
+    count-shaped bodyLine n k t h e = ask-shaped _ (ofField notRunningNumber (fieldNumber 1 proOrder (fields k))) none (seven-shaped k h e) tt
     count-shaped metadataLine n k t h e = tt
-    count-shaped trailerLine n k t h e = ask-shaped _ (ofField recordCountWrong (placeFrom 1 recordCount (fields k))) none (eight-shaped k h e) tt
+    count-shaped trailerLine n k t h e = ask-shaped _ (ofField recordCountWrong (fieldNumber 1 recordCount (fields k))) none (eight-shaped k h e) tt
 
     line-shaped : (k : Kind) (n : ℕ) (t : List ℕ) → T (knows F k) → Shaped (lineFault F k n t)
     unfolding lineFault formFault fieldFault shaped
@@ -190,15 +190,15 @@ module _ (F : Format) where
         (forms-shaped 0 (fields k) (fieldsOf t) _
         (six-shaped k (fieldsOf t) _ h (count-shaped (role k) n k t h refl))))
 
-    judge-shaped : (p : Place) (n : ℕ) (l : Line) → BadShaped (judgeLine F p n l)
+    judge-shaped : (p : Stage) (n : ℕ) (l : Line) → BadShaped (judgeLine F p n l)
     unfolding judgeLine judgeText judgeKind verdict shaped
     judge-shaped p n l = ended (endsWell l)
       where
-        formed : (k : Kind) (q : Place) (o : Option Fault) → Shaped o → BadShaped (verdict o k q)
+        formed : (k : Kind) (q : Stage) (o : Option Fault) → Shaped o → BadShaped (verdict o k q)
         formed k q none i = tt
         formed k q (some f) i = i
 
-        placed : (k : Kind) (o : Option Place) → T (knows F k) → BadShaped (judgeKind F n (l .text) k o)
+        placed : (k : Kind) (o : Option Stage) → T (knows F k) → BadShaped (judgeKind F n (l .text) k o)
         placed k none h = tt
         placed k (some q) h = formed k q (lineFault F k n (l .text)) (line-shaped k n (l .text) h)
 
@@ -210,7 +210,7 @@ module _ (F : Format) where
         ended true = kinded (kindOf F (identifier (l .text))) refl
         ended false = tt
 
-    read-shaped : (i : ℕ) (p : Place) (n : ℕ) (ls : List Line) → ReadShaped (readFrom F i p n ls)
+    read-shaped : (i : ℕ) (p : Stage) (n : ℕ) (ls : List Line) → ReadShaped (readFrom F i p n ls)
     unfolding readFrom atEnd shaped
     read-shaped i atStart n [] = tt
     read-shaped i inBody n [] = tt

@@ -11,7 +11,7 @@ use Rattle.meaning.specs.Lines.{Line, linesOf}
 use Rattle.meaning.specs.Kinds.{Kind, Role, bodyLine, role}
 use Rattle.meaning.specs.Format.{Format}
 use Rattle.meaning.specs.Records.{Rec}
-use Rattle.meaning.specs.File.{Place, Judged, bad, good, judgeLine, Sheet, adds, bodyAfter, atStart, inBody, afterMetadata, afterTrailer, atEnd, onLine, readFrom, readFile, mostBody}
+use Rattle.meaning.specs.File.{Stage, Judged, bad, good, judgeLine, Sheet, adds, bodyAfter, atStart, inBody, afterMetadata, afterTrailer, atEnd, onLine, readFrom, readFile, mostBody}
 use Rattle.meaning.specs.Answers.{Read, Refusal}
 use Rattle.meaning.specs.Codes.{outOfPlace}
 use Rattle.laws.specs.LinesAndFields.{ends, endsAll}
@@ -29,7 +29,7 @@ unfolding adds
 at-adds i m o k t (fault r) h = (omega (arith, h .0), omega (arith, h .1), λ e. h .2 (omega (arith, e)))
 at-adds i m o k t (file s) h = tt
 
-at-line : (i m : ℕ) (t : List ℕ) (go : Kind → Place → Read Sheet) → ((k : Kind) (q : Place) → FaultAt (suc i) m (go k q)) → (j : Judged) → FaultAt i (suc m) (onLine i t j go)
+at-line : (i m : ℕ) (t : List ℕ) (go : Kind → Stage → Read Sheet) → ((k : Kind) (q : Stage) → FaultAt (suc i) m (go k q)) → (j : Judged) → FaultAt i (suc m) (onLine i t j go)
 unfolding onLine
 at-line i m t go h (bad f) = (omega arith, omega arith, λ e. absurd (omega (arith, e)))
 at-line i m t go h (good k q) = at-adds i m (role k) k t (go k q) (h k q)
@@ -46,7 +46,7 @@ unfolding adds
 same-adds i o k t (fault r) s h = λ lt. ap (adds o k t) (h lt)
 same-adds i o k t (file x) s h = tt
 
-same-line : (i e : ℕ) (t : List ℕ) (go to : Kind → Place → Read Sheet) → ((k : Kind) (q : Place) → SameFault e (go k q) (to k q))
+same-line : (i e : ℕ) (t : List ℕ) (go to : Kind → Stage → Read Sheet) → ((k : Kind) (q : Stage) → SameFault e (go k q) (to k q))
     → (j : Judged) → SameFault e (onLine i t j go) (onLine i t j to)
 unfolding onLine
 same-line i e t go to h (bad f) = λ lt. refl
@@ -59,7 +59,7 @@ early i (file x) s m h = tt
 module _ (F : Format) where
   -- ---- nothing after the first fault counts
 
-  fault-at : (i : ℕ) (p : Place) (n : ℕ) (ls : List Line) → FaultAt i (length ls) (readFrom F i p n ls)
+  fault-at : (i : ℕ) (p : Stage) (n : ℕ) (ls : List Line) → FaultAt i (length ls) (readFrom F i p n ls)
   unfolding readFrom atEnd
   fault-at i atStart n [] = (omega arith, omega arith, λ e. refl)
   fault-at i inBody n [] = (omega arith, omega arith, λ e. refl)
@@ -74,14 +74,14 @@ module _ (F : Format) where
   file-fault-at b = fault-at 1 atStart 0 (linesOf b)
 
   -- files that agree in their first lines have the same fault, where it is at one of those
-  pub nothing-after : (i : ℕ) (p : Place) (n : ℕ) (ls ms ns : List Line) → SameFault (i + length ls) (readFrom F i p n (ls ++ ms)) (readFrom F i p n (ls ++ ns))
+  pub nothing-after : (i : ℕ) (p : Stage) (n : ℕ) (ls ms ns : List Line) → SameFault (i + length ls) (readFrom F i p n (ls ++ ms)) (readFrom F i p n (ls ++ ns))
   unfolding readFrom
   nothing-after i p n [] ms ns =
       let a = readFrom F i p n ms in
       let b = readFrom F i p n ns in
       subst (λ e. SameFault e a b) (sym (add-zero i)) (early i a b (length ms) (fault-at i p n ms))
   nothing-after i p n (l ∷ ls) ms ns =
-      let go : List Line → Kind → Place → Read Sheet = λ xs k q. readFrom F (suc i) q (bodyAfter (role k) n) (ls ++ xs) in
+      let go : List Line → Kind → Stage → Read Sheet = λ xs k q. readFrom F (suc i) q (bodyAfter (role k) n) (ls ++ xs) in
       let e : suc i + length ls ≡ i + suc (length ls) = omega arith in
       same-line i (i + suc (length ls)) (l .text) (go ms) (go ns)
       (λ k q. subst (λ e. SameFault e (go ms k q) (go ns k q)) e (nothing-after (suc i) q (bodyAfter (role k) n) ls ms ns)) (judgeLine F p n l)

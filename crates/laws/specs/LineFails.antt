@@ -1,4 +1,4 @@
--- Why a line of a file is refused in its place: the first of paper 01's tests that it fails, in the order 1, 2, 3, 9, 4, 5, 6, 7, 8; and that it is refused just so.
+-- Why a line of a file is refused at its stage: the first of paper 01's tests that it fails, in the order 1, 2, 3, 9, 4, 5, 6, 7, 8; and that it is refused just so.
 use mathlib.Core.Path.{_≡_, refl, sym, _∙_, subst}
 use mathlib.Core.Logic.{_⊎_, inl, inr}
 use mathlib.Core.Bool.{Bool, true, false}
@@ -14,11 +14,13 @@ use Rattle.base.specs.Tests.{T-true}
 use Rattle.theory.specs.Decimal.{value}
 use Rattle.meaning.specs.Lines.{fieldsOf, hasFields, identifier, Line, endsWell}
 use Rattle.meaning.specs.Kinds.{Kind, Role, headerLine, bodyLine, metadataLine, trailerLine, role}
-use Rattle.meaning.specs.Format.{Format, Field, kindOf, named, placeFrom, proOrder, recordCount, startDate, endDate}
-use Rattle.meaning.specs.Sound.{Fault, soundField, forms, datesAgree, fieldFault, formFault}
-use Rattle.meaning.specs.File.{Place, next, hasRoom, countFault, Judged, bad, good, lineFault, verdict, judgeKind, judgeText, judgeLine}
+use Rattle.meaning.specs.Format.{Format, Field, kindOf, named, fieldNumber, proOrder, recordCount, startDate, endDate}
+use Rattle.meaning.specs.Sound.{soundField, forms, datesAgree, fieldFault, formFault}
+use Rattle.meaning.specs.File.{Stage, next, hasRoom, countFault, Judged, bad, good, lineFault, verdict, judgeKind, judgeText, judgeLine}
+use Rattle.meaning.specs.Answers.{Fault, ofLine, ofField}
 use Rattle.laws.specs.SoundLine.{EachSound, each-forms}
 use Rattle.laws.specs.StepFails.{no-true, false-no}
+use Rattle.meaning.specs.Codes.{endingWrong, identifierUnknown, outOfPlace, fieldCountWrong, fieldMalformed, endBeforeStart, notRunningNumber, recordCountWrong, tooManyBodyLines}
 
 module _ (F : Format) where
   open Format F using (fields)
@@ -31,12 +33,12 @@ module _ (F : Format) where
   Lowest n (d ∷ ds) [] field = ⊥
   Lowest n (d ∷ ds) (f ∷ fs) field = ((T (soundField F d f) → ⊥) × (field ≡ n)) ⊎ (T (soundField F d f) × Lowest (suc n) ds fs field)
 
-  -- line l ends well, its identifier is known as kind k's, and a line of that kind may stand at place p
-  pub record Stands (p : Place) (l : Line) (k : Kind) : Type 0 where
+  -- line l ends well, its identifier is known as kind k's, and a line of that kind may stand at stage p
+  pub record Stands (p : Stage) (l : Line) (k : Kind) : Type 0 where
     pub ending : T (endsWell l)
     pub kind : kindOf F (identifier (l .text)) ≡ some k
-    pub place : Place
-    pub may : next p (role k) ≡ some place
+    pub after : Stage
+    pub may : next p (role k) ≡ some after
 
   -- the dates of a line of kind k agree
   abbrev pub Dated : Kind → List ℕ → Type 0
@@ -49,41 +51,41 @@ module _ (F : Format) where
     pub forms : EachSound F (fields k) (fieldsOf (l .text))
     pub dated : Dated k (l .text)
 
-  -- the first test that line l, at place p after n body lines, fails: its code and its field
-  pub data LineFails (p : Place) (n : ℕ) (l : Line) (code field : ℕ) : Type 0 where
+  -- the first test that line l, at stage p after n body lines, fails: its code and its field
+  pub data LineFails (p : Stage) (n : ℕ) (l : Line) (code field : ℕ) : Type 0 where
     -- 1: line ending wrong
-    ending : (T (endsWell l) → ⊥) → code ≡ 1 → field ≡ 0 → LineFails p n l code field
+    ending : (T (endsWell l) → ⊥) → code ≡ endingWrong → field ≡ 0 → LineFails p n l code field
     -- 2: identifier unknown
-    unknown : T (endsWell l) → kindOf F (identifier (l .text)) ≡ none → code ≡ 2 → field ≡ 1 → LineFails p n l code field
+    unknown : T (endsWell l) → kindOf F (identifier (l .text)) ≡ none → code ≡ identifierUnknown → field ≡ 1 → LineFails p n l code field
     -- 3: out of place
-    misplaced : (k : Kind) → T (endsWell l) → kindOf F (identifier (l .text)) ≡ some k → next p (role k) ≡ none → code ≡ 3 → field ≡ 0 → LineFails p n l code field
+    misplaced : (k : Kind) → T (endsWell l) → kindOf F (identifier (l .text)) ≡ some k → next p (role k) ≡ none → code ≡ outOfPlace → field ≡ 0 → LineFails p n l code field
     -- 9: one body line too many
-    tooMany : (k : Kind) → Stands p l k → (T (hasRoom (role k) n) → ⊥) → code ≡ 9 → field ≡ 0 → LineFails p n l code field
+    tooMany : (k : Kind) → Stands p l k → (T (hasRoom (role k) n) → ⊥) → code ≡ tooManyBodyLines → field ≡ 0 → LineFails p n l code field
     -- 4: field count wrong
-    miscounted : (k : Kind) → Stands p l k → T (hasRoom (role k) n) → (T (hasFields (length (fields k)) (l .text)) → ⊥) → code ≡ 4 → field ≡ 0 → LineFails p n l code field
+    miscounted : (k : Kind) → Stands p l k → T (hasRoom (role k) n) → (T (hasFields (length (fields k)) (l .text)) → ⊥) → code ≡ fieldCountWrong → field ≡ 0 → LineFails p n l code field
     -- 5: field malformed, the lowest such
-    malformed : (k : Kind) → Stands p l k → T (hasRoom (role k) n) → T (hasFields (length (fields k)) (l .text)) → Lowest 1 (fields k) (fieldsOf (l .text)) field → code ≡ 5
+    malformed : (k : Kind) → Stands p l k → T (hasRoom (role k) n) → T (hasFields (length (fields k)) (l .text)) → Lowest 1 (fields k) (fieldsOf (l .text)) field → code ≡ fieldMalformed
         → LineFails p n l code field
     -- 6: END_DATE before START_DATE
     misdated : (k : Kind) → Stands p l k → T (hasRoom (role k) n) → T (hasFields (length (fields k)) (l .text)) → EachSound F (fields k) (fieldsOf (l .text)) → (Dated k (l .text) → ⊥)
-        → code ≡ 6 → field ≡ placeFrom 1 endDate (fields k) → LineFails p n l code field
+        → code ≡ endBeforeStart → field ≡ fieldNumber 1 endDate (fields k) → LineFails p n l code field
     -- 7: PRO_ORDER of a body line not the running number
     misnumbered : (k : Kind) → Stands p l k → Formed n l k → role k ≡ bodyLine → (value (named proOrder (fields k) (fieldsOf (l .text))) ≡ suc n → ⊥)
-        → code ≡ 7 → field ≡ placeFrom 1 proOrder (fields k) → LineFails p n l code field
+        → code ≡ notRunningNumber → field ≡ fieldNumber 1 proOrder (fields k) → LineFails p n l code field
     -- 8: RECORD_COUNT of a trailer not the number of body lines
     mistold : (k : Kind) → Stands p l k → Formed n l k → role k ≡ trailerLine → (value (named recordCount (fields k) (fieldsOf (l .text))) ≡ n → ⊥)
-        → code ≡ 8 → field ≡ placeFrom 1 recordCount (fields k) → LineFails p n l code field
+        → code ≡ recordCountWrong → field ≡ fieldNumber 1 recordCount (fields k) → LineFails p n l code field
 
   -- ---- a line that is refused fails so
 
   -- what a judgement says of a line that is refused
-  abbrev pub JudgedFails : Place → ℕ → Line → Judged → Type 0
-  JudgedFails p n l (bad f) = LineFails p n l (f .0) (f .1)
+  abbrev pub JudgedFails : Stage → ℕ → Line → Judged → Type 0
+  JudgedFails p n l (bad f) = LineFails p n l (f .code) (f .field)
   JudgedFails p n l (good k q) = Unit {0}
 
   -- the lowest malformed field, or none
   abbrev FormsSay : ℕ → List Field → List (List ℕ) → Option Fault → Option Fault → Type 0
-  FormsSay n ds fs rest o = ((field : ℕ) × Lowest n ds fs field × (o ≡ some (5, field))) ⊎ (EachSound F ds fs × (o ≡ rest))
+  FormsSay n ds fs rest o = ((field : ℕ) × Lowest n ds fs field × (o ≡ some (ofField fieldMalformed field))) ⊎ (EachSound F ds fs × (o ≡ rest))
 
   forms-say : (n : ℕ) (ds : List Field) (fs : List (List ℕ)) (rest : Option Fault) → FormsSay n ds fs rest (forms F n ds fs rest)
   unfolding forms ask
@@ -91,12 +93,12 @@ module _ (F : Format) where
   forms-say n (d ∷ ds) [] rest = inr (tt, refl)
   forms-say n (d ∷ ds) (f ∷ fs) rest = go (soundField F d f) refl (forms-say (suc n) ds fs rest)
     where
-      go : (c : Bool) → soundField F d f ≡ c → FormsSay (suc n) ds fs rest (forms F (suc n) ds fs rest) → FormsSay n (d ∷ ds) (f ∷ fs) rest (ask c (5, n) (forms F (suc n) ds fs rest))
+      go : (c : Bool) → soundField F d f ≡ c → FormsSay (suc n) ds fs rest (forms F (suc n) ds fs rest) → FormsSay n (d ∷ ds) (f ∷ fs) rest (ask c (ofField fieldMalformed n) (forms F (suc n) ds fs rest))
       go false e s = inl (n, inl (false-no _ e, refl), refl)
       go true e (inl w) = inl (w .0, inr (rw e tt, w .1), w .2)
       go true e (inr w) = inr ((rw e tt, w .0), w .1)
 
-  lowest-forms : (n : ℕ) (ds : List Field) (fs : List (List ℕ)) (rest : Option Fault) (field : ℕ) → Lowest n ds fs field → forms F n ds fs rest ≡ some (5, field)
+  lowest-forms : (n : ℕ) (ds : List Field) (fs : List (List ℕ)) (rest : Option Fault) (field : ℕ) → Lowest n ds fs field → forms F n ds fs rest ≡ some (ofField fieldMalformed field)
   unfolding forms ask
   lowest-forms n [] fs rest field w = absurd w
   lowest-forms n (d ∷ ds) [] rest field w = absurd w
@@ -110,23 +112,23 @@ module _ (F : Format) where
   lowest-within n (d ∷ ds) (f ∷ fs) field (inl w) = (omega (arith, w .1), omega (arith, w .1))
   lowest-within n (d ∷ ds) (f ∷ fs) field (inr w) = let i = lowest-within (suc n) ds fs field (w .1) in (omega (arith, i .0), omega (arith, i .1))
 
-  count-fails : (p : Place) (n : ℕ) (l : Line) (k : Kind) (q : Place) → Stands p l k → Formed n l k → (o : Role) → role k ≡ o
+  count-fails : (p : Stage) (n : ℕ) (l : Line) (k : Kind) (q : Stage) → Stands p l k → Formed n l k → (o : Role) → role k ≡ o
       → JudgedFails p n l (verdict (countFault F o n k (l .text)) k q)
   unfolding countFault ask verdict
   count-fails p n l k q s w headerLine r = tt
   count-fails p n l k q s w metadataLine r = tt
   count-fails p n l k q s w bodyLine r = go (eqb (value (named proOrder (fields k) (fieldsOf (l .text)))) (suc n)) refl
     where
-      go : (c : Bool) → eqb (value (named proOrder (fields k) (fieldsOf (l .text)))) (suc n) ≡ c → JudgedFails p n l (verdict (ask c (7, placeFrom 1 proOrder (fields k)) none) k q)
+      go : (c : Bool) → eqb (value (named proOrder (fields k) (fieldsOf (l .text)))) (suc n) ≡ c → JudgedFails p n l (verdict (ask c (ofField notRunningNumber (fieldNumber 1 proOrder (fields k))) none) k q)
       go true e = tt
       go false e = misnumbered k s w r (λ z. false-no _ e (yes-eqb z)) refl refl
   count-fails p n l k q s w trailerLine r = go (eqb (value (named recordCount (fields k) (fieldsOf (l .text)))) n) refl
     where
-      go : (c : Bool) → eqb (value (named recordCount (fields k) (fieldsOf (l .text)))) n ≡ c → JudgedFails p n l (verdict (ask c (8, placeFrom 1 recordCount (fields k)) none) k q)
+      go : (c : Bool) → eqb (value (named recordCount (fields k) (fieldsOf (l .text)))) n ≡ c → JudgedFails p n l (verdict (ask c (ofField recordCountWrong (fieldNumber 1 recordCount (fields k))) none) k q)
       go true e = tt
       go false e = mistold k s w r (λ z. false-no _ e (yes-eqb z)) refl refl
 
-  form-fails : (p : Place) (n : ℕ) (l : Line) (k : Kind) (q : Place) → Stands p l k → T (hasRoom (role k) n)
+  form-fails : (p : Stage) (n : ℕ) (l : Line) (k : Kind) (q : Stage) → Stands p l k → T (hasRoom (role k) n)
       → JudgedFails p n l (verdict (formFault F k (l .text) (countFault F (role k) n k (l .text))) k q)
   unfolding formFault fieldFault ask
   form-fails p n l k q s r = go (hasFields (length (fields k)) (l .text)) refl
@@ -141,45 +143,45 @@ module _ (F : Format) where
       rest = countFault F (role k) n k t
 
       dates : T (hasFields (length (fields k)) t) → EachSound F (fields k) (fieldsOf t) → (c : Bool) → agree ≡ c
-          → JudgedFails p n l (verdict (ask c (6, placeFrom 1 endDate (fields k)) rest) k q)
+          → JudgedFails p n l (verdict (ask c (ofField endBeforeStart (fieldNumber 1 endDate (fields k))) rest) k q)
       dates h f true e = count-fails p n l k q s (record { room = r; count = h; forms = f; dated = rw e tt }) (role k) refl
       dates h f false e = unfold verdict in misdated k s r h f (false-no agree e) refl refl
 
-      fielded : T (hasFields (length (fields k)) t) → (o : Option Fault) → FormsSay 1 (fields k) (fieldsOf t) (ask agree (6, placeFrom 1 endDate (fields k)) rest) o
+      fielded : T (hasFields (length (fields k)) t) → (o : Option Fault) → FormsSay 1 (fields k) (fieldsOf t) (ask agree (ofField endBeforeStart (fieldNumber 1 endDate (fields k))) rest) o
           → JudgedFails p n l (verdict o k q)
       fielded h o (inl w) = subst (λ x. JudgedFails p n l (verdict x k q)) (sym (w .2)) (unfold verdict in malformed k s r h (w .1) refl)
       fielded h o (inr w) = subst (λ x. JudgedFails p n l (verdict x k q)) (sym (w .1)) (dates h (w .0) agree refl)
 
       go : (c : Bool) → hasFields (length (fields k)) t ≡ c
-          → JudgedFails p n l (verdict (ask c (4, 0) (forms F 1 (fields k) (fieldsOf t) (ask agree (6, placeFrom 1 endDate (fields k)) rest))) k q)
+          → JudgedFails p n l (verdict (ask c (ofLine fieldCountWrong) (forms F 1 (fields k) (fieldsOf t) (ask agree (ofField endBeforeStart (fieldNumber 1 endDate (fields k))) rest))) k q)
       go false e = unfold verdict in miscounted k s r (false-no _ e) refl refl
-      go true e = fielded (rw e tt) (forms F 1 (fields k) (fieldsOf t) (ask agree (6, placeFrom 1 endDate (fields k)) rest)) (forms-say 1 (fields k) (fieldsOf t) (ask agree (6, placeFrom 1 endDate (fields k)) rest))
+      go true e = fielded (rw e tt) (forms F 1 (fields k) (fieldsOf t) (ask agree (ofField endBeforeStart (fieldNumber 1 endDate (fields k))) rest)) (forms-say 1 (fields k) (fieldsOf t) (ask agree (ofField endBeforeStart (fieldNumber 1 endDate (fields k))) rest))
 
   -- a line that is refused fails one of the tests
-  pub judge-fails : (p : Place) (n : ℕ) (l : Line) → JudgedFails p n l (judgeLine F p n l)
+  pub judge-fails : (p : Stage) (n : ℕ) (l : Line) → JudgedFails p n l (judgeLine F p n l)
   unfolding judgeLine judgeText judgeKind lineFault ask
   judge-fails p n l = ended (endsWell l) refl
     where
-      roomed : (k : Kind) (q : Place) → Stands p l k → (c : Bool) → hasRoom (role k) n ≡ c
-          → JudgedFails p n l (verdict (ask c (9, 0) (formFault F k (l .text) (countFault F (role k) n k (l .text)))) k q)
+      roomed : (k : Kind) (q : Stage) → Stands p l k → (c : Bool) → hasRoom (role k) n ≡ c
+          → JudgedFails p n l (verdict (ask c (ofLine tooManyBodyLines) (formFault F k (l .text) (countFault F (role k) n k (l .text)))) k q)
       roomed k q s false e = unfold verdict in tooMany k s (false-no _ e) refl refl
       roomed k q s true e = form-fails p n l k q s (rw e tt)
 
-      placed : (k : Kind) → T (endsWell l) → kindOf F (identifier (l .text)) ≡ some k → (o : Option Place) → next p (role k) ≡ o → JudgedFails p n l (judgeKind F n (l .text) k o)
+      placed : (k : Kind) → T (endsWell l) → kindOf F (identifier (l .text)) ≡ some k → (o : Option Stage) → next p (role k) ≡ o → JudgedFails p n l (judgeKind F n (l .text) k o)
       placed k e i none x = misplaced k e i x refl refl
-      placed k e i (some q) x = roomed k q (record { ending = e; kind = i; place = q; may = x }) (hasRoom (role k) n) refl
+      placed k e i (some q) x = roomed k q (record { ending = e; kind = i; after = q; may = x }) (hasRoom (role k) n) refl
 
       kinded : T (endsWell l) → (o : Option Kind) → kindOf F (identifier (l .text)) ≡ o → JudgedFails p n l (judgeText F p n (l .text) o)
       kinded e none i = unknown e i refl refl
       kinded e (some k) i = placed k e i (next p (role k)) refl
 
-      ended : (c : Bool) → endsWell l ≡ c → JudgedFails p n l (pick c (judgeText F p n (l .text) (kindOf F (identifier (l .text)))) (bad (1, 0)))
+      ended : (c : Bool) → endsWell l ≡ c → JudgedFails p n l (pick c (judgeText F p n (l .text) (kindOf F (identifier (l .text)))) (bad (ofLine endingWrong)))
       ended true e = kinded (rw e tt) (kindOf F (identifier (l .text))) refl
       ended false e = ending (false-no _ e) refl refl
 
   -- ---- and a line that fails so is refused so
 
-  stands-judged : (p : Place) (n : ℕ) (l : Line) (k : Kind) (s : Stands p l k) (f : Fault) → lineFault F k n (l .text) ≡ some f → judgeLine F p n l ≡ bad f
+  stands-judged : (p : Stage) (n : ℕ) (l : Line) (k : Kind) (s : Stands p l k) (f : Fault) → lineFault F k n (l .text) ≡ some f → judgeLine F p n l ≡ bad f
   unfolding judgeLine judgeText judgeKind verdict
   stands-judged p n l k s f e = rw (T-true (endsWell l) (s .ending), s .kind, s .may, e)
 
@@ -194,21 +196,21 @@ module _ (F : Format) where
   no-eqb-false a b n = no-true (eqb a b) (λ t. n (eqb→eq a b t))
 
   -- a line that fails one of the tests is refused with its code and field
-  pub fails-judged : (p : Place) (n : ℕ) (l : Line) (code field : ℕ) → LineFails p n l code field → judgeLine F p n l ≡ bad (code, field)
+  pub fails-judged : (p : Stage) (n : ℕ) (l : Line) (code field : ℕ) → LineFails p n l code field → judgeLine F p n l ≡ bad (ofField code field)
   unfolding lineFault formFault fieldFault countFault ask
   fails-judged p n l code field (ending w c f) = unfold judgeLine in rw (no-true (endsWell l) w, c, f)
   fails-judged p n l code field (unknown w i c f) = unfold judgeLine judgeText in rw (T-true (endsWell l) w, i, c, f)
   fails-judged p n l code field (misplaced k w i x c f) = unfold judgeLine judgeText judgeKind in rw (T-true (endsWell l) w, i, x, c, f)
-  fails-judged p n l code field (tooMany k s r c f) = stands-judged p n l k s (code, field) (rw (no-true (hasRoom (role k) n) r, c, f))
+  fails-judged p n l code field (tooMany k s r c f) = stands-judged p n l k s (ofField code field) (rw (no-true (hasRoom (role k) n) r, c, f))
   fails-judged p n l code field (miscounted k s r h c f) =
-      stands-judged p n l k s (code, field) (rw (T-true (hasRoom (role k) n) r, no-true (hasFields (length (fields k)) (l .text)) h, c, f))
+      stands-judged p n l k s (ofField code field) (rw (T-true (hasRoom (role k) n) r, no-true (hasFields (length (fields k)) (l .text)) h, c, f))
   fails-judged p n l code field (malformed k s r h w c) =
-      stands-judged p n l k s (code, field) (rw (T-true (hasRoom (role k) n) r, T-true (hasFields (length (fields k)) (l .text)) h, c) (lowest-forms 1 (fields k) (fieldsOf (l .text)) _ field w))
+      stands-judged p n l k s (ofField code field) (rw (T-true (hasRoom (role k) n) r, T-true (hasFields (length (fields k)) (l .text)) h, c) (lowest-forms 1 (fields k) (fieldsOf (l .text)) _ field w))
   fails-judged p n l code field (misdated k s r h w d c f) =
       let a = datesAgree (named startDate (fields k) (fieldsOf (l .text))) (named endDate (fields k) (fieldsOf (l .text))) in
-      stands-judged p n l k s (code, field)
+      stands-judged p n l k s (ofField code field)
       (rw (T-true (hasRoom (role k) n) r, T-true (hasFields (length (fields k)) (l .text)) h, c, f) (each-forms F 1 (fields k) (fieldsOf (l .text)) _ w ∙ rw (no-true a d)))
   fails-judged p n l code field (misnumbered k s w r d c f) =
-      stands-judged p n l k s (code, field) (formed-line n l k bodyLine r w ∙ rw (no-eqb-false (value (named proOrder (fields k) (fieldsOf (l .text)))) (suc n) d, c, f))
+      stands-judged p n l k s (ofField code field) (formed-line n l k bodyLine r w ∙ rw (no-eqb-false (value (named proOrder (fields k) (fieldsOf (l .text)))) (suc n) d, c, f))
   fails-judged p n l code field (mistold k s w r d c f) =
-      stands-judged p n l k s (code, field) (formed-line n l k trailerLine r w ∙ rw (no-eqb-false (value (named recordCount (fields k) (fieldsOf (l .text)))) n d, c, f))
+      stands-judged p n l k s (ofField code field) (formed-line n l k trailerLine r w ∙ rw (no-eqb-false (value (named recordCount (fields k) (fieldsOf (l .text)))) n d, c, f))

@@ -8,7 +8,7 @@ use lib.ListN.{length}
 use Rattle.base.specs.Lists.{all, pick}
 use Rattle.base.specs.Tests.{and-in, or-not, T-true}
 use Rattle.meaning.specs.Kinds.{Kind, kinds, trailerLine, role}
-use Rattle.meaning.specs.Format.{Field, Format, opening, knows, placeFrom, recordCount}
+use Rattle.meaning.specs.Format.{Field, Format, opening, knows, fieldNumber, recordCount}
 use Rattle.meaning.specs.Records.{ownFields}
 use Rattle.meaning.specs.Holding.{isHeld}
 use Rattle.laws.specs.Kinds.{every, alike, isRole, role-refl}
@@ -27,7 +27,7 @@ module _ (F : Format) where
     -- of which there is at least one
     pub own-some : (k : Kind) → T (holds k) → 1 ≤ length (ownFields F k)
     -- RECORD_COUNT is a trailer's third field
-    pub count-third : (k : Kind) → T (knows F k) → role k ≡ trailerLine → placeFrom 1 recordCount (fields k) ≡ 3
+    pub count-third : (k : Kind) → T (knows F k) → role k ≡ trailerLine → fieldNumber 1 recordCount (fields k) ≡ 3
 
   -- the first fact as two tables: the fields of a kind that is held, and how they must begin
   unfoldable pub heldFields : Kind → List Field
@@ -42,7 +42,7 @@ module _ (F : Format) where
 
   -- and the third
   unfoldable pub countTest : Kind → Bool
-  countTest k = not (knows F k && isRole trailerLine (role k)) || eqb (placeFrom 1 recordCount (fields k)) 3
+  countTest k = not (knows F k && isRole trailerLine (role k)) || eqb (fieldNumber 1 recordCount (fields k)) 3
 
   -- a table is regular where the two agree of the list of kinds, and all kinds pass the tests
   pub regular-by : map heldFields kinds ≡ map openFields kinds → T (all ownTest kinds) → T (all countTest kinds) → Regular
@@ -50,6 +50,6 @@ module _ (F : Format) where
   regular-by o s c = record {
     opens = λ k h. rw (T-true (holds k) h) at (alike heldFields openFields o k);
     own-some = λ k h. leb→le 1 (length (ownFields F k)) (or-not (holds k) (leb 1 (length (ownFields F k))) (every ownTest s k) h);
-    count-third = λ k h e. eqb→eq (placeFrom 1 recordCount (fields k)) 3
-        (or-not (knows F k && isRole trailerLine (role k)) (eqb (placeFrom 1 recordCount (fields k)) 3) (every countTest c k) (and-in (knows F k) (isRole trailerLine (role k)) h (rw e (role-refl trailerLine))));
+    count-third = λ k h e. eqb→eq (fieldNumber 1 recordCount (fields k)) 3
+        (or-not (knows F k && isRole trailerLine (role k)) (eqb (fieldNumber 1 recordCount (fields k)) 3) (every countTest c k) (and-in (knows F k) (isRole trailerLine (role k)) h (rw e (role-refl trailerLine))));
   }

@@ -7,7 +7,7 @@ use lib.Dec.{T, leb, eqb, leb→le, eqb→eq}
 use Rattle.base.specs.Lists.{bytes, same}
 use Rattle.base.specs.Tests.{and-l, and-r, or-out, same-test}
 use Rattle.meaning.specs.Kinds.{Kind, kinds, ident, role, kindAmong}
-use Rattle.meaning.specs.Format.{kindOf, knows, placeFrom, endDate}
+use Rattle.meaning.specs.Format.{kindOf, knows, fieldNumber, endDate}
 use Rattle.meaning.specs.Table.{fields, scottish}
 use Rattle.meaning.specs.Records.{ownFields}
 use Rattle.meaning.specs.Holding.{isHeld}
@@ -22,16 +22,16 @@ scottish-knows k = every (knows scottish) tt k
 
 -- its table is regular
 pub scottish-regular : Regular scottish
-unfolding kinds ident bytes holds knows kindOf kindAmong same isHeld isRole role fields ownFields placeFrom heldFields openFields ownTest countTest
+unfolding kinds ident bytes holds knows kindOf kindAmong same isHeld isRole role fields ownFields fieldNumber heldFields openFields ownTest countTest
 scottish-regular = regular-by scottish refl tt tt
 
 -- END_DATE's own number
 abbrev endAt : Kind → ℕ
-endAt k = placeFrom 1 endDate (fields k)
+endAt k = fieldNumber 1 endDate (fields k)
 
 -- it is a street's field 13, a BLPU's 14, and 9 of the other three
 pub scottish-ends : (f : ℕ) → endNumber scottish f ≡ (eqb f 9 || (eqb f 13 || eqb f 14))
-unfolding kinds fields placeFrom endNumber any
+unfolding kinds fields fieldNumber endNumber any
 scottish-ends f = same-test (endNumber scottish f) (one f) there (or-out (eqb f 9) (eqb f 13 || eqb f 14) (endNumber scottish f) (here 9 tt) (or-out (eqb f 13) (eqb f 14) (endNumber scottish f) (here 13 tt) (here 14 tt)))
   where
     one : ℕ → Bool

@@ -15,7 +15,7 @@ use Rattle.meaning.specs.Lines.{fieldsOf, Line, linesOf}
 use Rattle.meaning.specs.Kinds.{Kind, Role, headerLine, bodyLine, metadataLine, trailerLine, role}
 use Rattle.meaning.specs.Format.{Format, named, proOrder, recordCount}
 use Rattle.meaning.specs.Records.{Rec, changeOf}
-use Rattle.meaning.specs.File.{Place, next, hasRoom, countFault, Judged, bad, good, judgeLine, Frame, Sheet, adds, bodyAfter, atStart, inBody, afterMetadata, afterTrailer, atEnd, onLine, readFrom, readFile, mostBody, blank, addLine}
+use Rattle.meaning.specs.File.{Stage, next, hasRoom, countFault, Judged, bad, good, judgeLine, Frame, Sheet, adds, bodyAfter, atStart, inBody, afterMetadata, afterTrailer, atEnd, onLine, readFrom, readFile, mostBody, blank, addLine}
 use Rattle.meaning.specs.Answers.{Read}
 use Rattle.laws.specs.LinesAndFields.{ends, endsAll}
 use Rattle.laws.specs.SoundLine.{SoundLine}
@@ -100,7 +100,7 @@ module _ (F : Format) where
   -- ---- the check takes every sound file
 
   -- an accepted line in front of lines that are read
-  read-line : (i : ℕ) (p : Place) (n : ℕ) (l : Line) (ls : List Line) (k : Kind) (q : Place) (o : Role) (s : Sheet) → judgeLine F p n l ≡ good k q → role k ≡ o
+  read-line : (i : ℕ) (p : Stage) (n : ℕ) (l : Line) (ls : List Line) (k : Kind) (q : Stage) (o : Role) (s : Sheet) → judgeLine F p n l ≡ good k q → role k ≡ o
       → readFrom F (suc i) q (bodyAfter o n) ls ≡ file s → readFrom F i p n (l ∷ ls) ≡ file (addLine o k (l .text) s)
   unfolding readFrom onLine adds
   read-line i p n l ls k q o s e r h = rw (e, r, h)
@@ -147,14 +147,14 @@ module _ (F : Format) where
     pub closing : Counts (n + length (s .1)) (s .0 .trailerText)
 
   -- the same from any place on
-  abbrev ReadAt : Place → ℕ → List Line → Sheet → Type 0
+  abbrev ReadAt : Stage → ℕ → List Line → Sheet → Type 0
   ReadAt atStart n ls s = (rest : List Line) × (ls ≡ ends (s .0 .headerText) ∷ rest) × RoleLine headerLine (s .0 .headerText) × InBody n rest s
   ReadAt inBody n ls s = InBody n ls s
   ReadAt afterMetadata n ls s = (ls ≡ ends (s .0 .trailerText) ∷ []) × Counts n (s .0 .trailerText) × (s .1 ≡ [])
   ReadAt afterTrailer n ls s = (ls ≡ []) × (s .1 ≡ [])
 
   -- the same of what is read, where that may be a fault
-  abbrev ReadsAt : Place → ℕ → List Line → Read Sheet → Type 0
+  abbrev ReadsAt : Stage → ℕ → List Line → Read Sheet → Type 0
   ReadsAt p n ls (fault r) = Unit {0}
   ReadsAt p n ls (file s) = ReadAt p n ls s
 
@@ -163,7 +163,7 @@ module _ (F : Format) where
   unfolding addLine
   behind-header n ls k t s v = record { texts = v .texts; lines = v .lines; body = v .body; few = v .few; describing = v .describing; closing = v .closing }
 
-  reads-file : (p q : Place) (n : ℕ) (l : Line) (ls : List Line) (k : Kind) (o : Role) → n ≤ mostBody → (l ≡ ends (l .text)) → SoundLine F k (l .text)
+  reads-file : (p q : Stage) (n : ℕ) (l : Line) (ls : List Line) (k : Kind) (o : Role) → n ≤ mostBody → (l ≡ ends (l .text)) → SoundLine F k (l .text)
       → Numbers F o n k (l .text) → role k ≡ o → next p o ≡ some q → (s : Sheet) → ReadAt q (bodyAfter o n) ls s → ReadAt p n (l ∷ ls) (addLine o k (l .text) s)
   unfolding next bodyAfter addLine hasRoom
   reads-file atStart q n l ls k headerLine h d sl nu r x s w =
@@ -216,20 +216,20 @@ module _ (F : Format) where
   few-after metadataLine n k t h nu = h
   few-after trailerLine n k t h nu = h
 
-  reads-adds : (p q : Place) (n : ℕ) (l : Line) (ls : List Line) (k : Kind) → n ≤ mostBody → Judges F p n l k q
+  reads-adds : (p q : Stage) (n : ℕ) (l : Line) (ls : List Line) (k : Kind) → n ≤ mostBody → Judges F p n l k q
       → (s : Read Sheet) → ReadsAt q (bodyAfter (role k) n) ls s → ReadsAt p n (l ∷ ls) (adds (role k) k (l .text) s)
   unfolding adds
   reads-adds p q n l ls k h j (fault r) w = tt
   reads-adds p q n l ls k h j (file s) w = let a = line-sound F p n l k q j in reads-file p q n l ls k (role k) h (a .0) (a .1) (a .2) refl (j .place) s w
 
-  reads-line : (i : ℕ) (p : Place) (n : ℕ) (l : Line) (ls : List Line) (go : Kind → Place → Read Sheet) → n ≤ mostBody
-      → ((k : Kind) (q : Place) → Judges F p n l k q → ReadsAt q (bodyAfter (role k) n) ls (go k q))
+  reads-line : (i : ℕ) (p : Stage) (n : ℕ) (l : Line) (ls : List Line) (go : Kind → Stage → Read Sheet) → n ≤ mostBody
+      → ((k : Kind) (q : Stage) → Judges F p n l k q → ReadsAt q (bodyAfter (role k) n) ls (go k q))
       → (j : Judged) → JudgedIs F p n l j → ReadsAt p n (l ∷ ls) (onLine i (l .text) j go)
   unfolding onLine
   reads-line i p n l ls go h w (bad f) e = tt
   reads-line i p n l ls go h w (good k q) e = reads-adds p q n l ls k h e (go k q) (w k q e)
 
-  reads-from : (i : ℕ) (p : Place) (n : ℕ) (ls : List Line) → n ≤ mostBody → ReadsAt p n ls (readFrom F i p n ls)
+  reads-from : (i : ℕ) (p : Stage) (n : ℕ) (ls : List Line) → n ≤ mostBody → ReadsAt p n ls (readFrom F i p n ls)
   unfolding readFrom atEnd
   reads-from i atStart n [] h = tt
   reads-from i inBody n [] h = tt

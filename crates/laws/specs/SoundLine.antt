@@ -11,7 +11,7 @@ use Rattle.base.specs.Lists.{all}
 use Rattle.base.specs.Tests.{and-in, and-l, and-r, T-false, ask-ok, ok-ask}
 use Rattle.meaning.specs.Lines.{plain, fieldsOf, oddQuotes, hasFields, identifier}
 use Rattle.meaning.specs.Kinds.{Kind}
-use Rattle.meaning.specs.Format.{Format, Field, kindOf, named, placeFrom, startDate, endDate}
+use Rattle.meaning.specs.Format.{Format, Field, kindOf, named, fieldNumber, startDate, endDate}
 use Rattle.meaning.specs.Sound.{soundField, forms, fieldFault, formFault, datesAgree}
 use Rattle.meaning.specs.Answers.{Fault, ofLine, ofField}
 use Rattle.meaning.specs.Codes.{fieldMalformed, fieldCountWrong, endBeforeStart}
@@ -57,7 +57,7 @@ module _ (F : Format) where
   form-sound k t rest p i e =
       let a = ok-ask _ (ofLine fieldCountWrong) _ e in
       let f = forms-each 1 (fields k) (fieldsOf t) _ (a .1) in
-      let d = ok-ask _ (ofField endBeforeStart (placeFrom 1 endDate (fields k))) rest (f .1) in (
+      let d = ok-ask _ (ofField endBeforeStart (fieldNumber 1 endDate (fields k))) rest (f .1) in (
         record {
           plains = p;
           identified = i;
@@ -75,4 +75,4 @@ module _ (F : Format) where
   sound-form k t rest s =
       let o : T (not (oddQuotes t)) = rw (s .evenQuotes) tt in
       let c : T (not (oddQuotes t) && eqb (length (fieldsOf t)) (length (fields k))) = and-in (not (oddQuotes t)) _ o (yes-eqb (s .counted)) in
-      ask-ok _ (ofLine fieldCountWrong) _ c ∙ each-forms 1 (fields k) (fieldsOf t) _ (s .formed) ∙ ask-ok _ (ofField endBeforeStart (placeFrom 1 endDate (fields k))) rest (s .dated)
+      ask-ok _ (ofLine fieldCountWrong) _ c ∙ each-forms 1 (fields k) (fieldsOf t) _ (s .formed) ∙ ask-ok _ (ofField endBeforeStart (fieldNumber 1 endDate (fields k))) rest (s .dated)

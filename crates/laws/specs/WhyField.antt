@@ -9,12 +9,13 @@ use lib.ListN.{length, getD, take, drop}
 use Rattle.base.specs.Lists.{pick}
 use Rattle.base.specs.Tests.{and-in, and-l, and-r}
 use Rattle.meaning.specs.Lines.{linesOf, fieldsOf, oddQuotes}
-use Rattle.meaning.specs.Load.{three}
 use Rattle.meaning.specs.Enquiries.{Found, first, refusal, spanned, fieldsSpanned, fieldPart, fieldIn, fieldOf}
+use Rattle.meaning.specs.Answers.{noFault, alone}
 use Rattle.laws.specs.FieldPart.{field-is}
 use Rattle.laws.specs.StepFails.{false-no}
 use Rattle.laws.specs.WhyLoad.{Numbered}
 use Rattle.laws.specs.WhyFile.{lineAt}
+use Rattle.meaning.specs.Codes.{noSuchPart}
 
 -- an enquiry answers these numbers
 abbrev pub Answers : Found → ℕ → ℕ → ℕ → Type 0
@@ -46,7 +47,7 @@ field-answers b l f = lined (leb 1 l && leb l (length (linesOf b))) refl
     t = lineAt b l .text
 
     fielded : T (leb 1 l && leb l (length (linesOf b))) → oddQuotes t ≡ false → (c : Bool) → (leb 1 f && leb f (length (fieldsOf t))) ≡ c
-        → FieldAnswers b l f (pick c (record { answer = three 0 0 0; slice = first; start = spanned (take (l - 1) (linesOf b)) + fieldsSpanned (take (f - 1) (fieldsOf t)); size = length (getD (fieldsOf t) (f - 1) []) }) (refusal 19 0 0))
+        → FieldAnswers b l f (pick c (record { answer = noFault; slice = first; start = spanned (take (l - 1) (linesOf b)) + fieldsSpanned (take (f - 1) (fieldsOf t)); size = length (getD (fieldsOf t) (f - 1) []) }) (refusal (alone noSuchPart)))
     fielded h q true e =
         let l1 = leb→le 1 l (and-l (leb 1 l) _ h) in
         let l2 = leb→le l (length (linesOf b)) (and-r (leb 1 l) _ h) in
@@ -57,10 +58,10 @@ field-answers b l f = lined (leb 1 l && leb l (length (linesOf b))) refl
     fielded h q false e =
         noField (λ w. false-no _ e (and-in (leb 1 f) _ (le→leb 1 f (w .fieldFrom)) (le→leb f (length (fieldsOf t)) (w .fieldTo)))) (refl, refl, refl)
 
-    quoted : T (leb 1 l && leb l (length (linesOf b))) → (c : Bool) → oddQuotes t ≡ c → FieldAnswers b l f (pick c (refusal 19 0 0) (fieldPart (spanned (take (l - 1) (linesOf b))) (fieldsOf t) f))
+    quoted : T (leb 1 l && leb l (length (linesOf b))) → (c : Bool) → oddQuotes t ≡ c → FieldAnswers b l f (pick c (refusal (alone noSuchPart)) (fieldPart (spanned (take (l - 1) (linesOf b))) (fieldsOf t) f))
     quoted h true e = noField (λ w. false-no (oddQuotes t) (w .evenQuotes) (rw e tt)) (refl, refl, refl)
     quoted h false e = fielded h e (leb 1 f && leb f (length (fieldsOf t))) refl
 
-    lined : (c : Bool) → (leb 1 l && leb l (length (linesOf b))) ≡ c → FieldAnswers b l f (pick c (fieldIn (spanned (take (l - 1) (linesOf b))) t f) (refusal 19 0 0))
+    lined : (c : Bool) → (leb 1 l && leb l (length (linesOf b))) ≡ c → FieldAnswers b l f (pick c (fieldIn (spanned (take (l - 1) (linesOf b))) t f) (refusal (alone noSuchPart)))
     lined true e = quoted (rw e tt) (oddQuotes t) refl
     lined false e = noField (λ w. false-no _ e (and-in (leb 1 l) _ (le→leb 1 l (w .lineFrom)) (le→leb l (length (linesOf b)) (w .lineTo)))) (refl, refl, refl)

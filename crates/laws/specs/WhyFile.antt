@@ -1,4 +1,4 @@
--- Why a file is refused: its lowest faulty line fails a test in its place, or the file ends before its trailer; and it is refused just so.
+-- Why a file is refused: its lowest faulty line fails a test at its stage, or the file ends before its trailer; and it is refused just so.
 use mathlib.Core.Path.{_≡_, refl, sym, ap, _∙_, subst}
 use mathlib.Core.Option.{Option, none, some}
 use mathlib.Core.List.{List, [], _∷_, _++_}
@@ -9,39 +9,41 @@ use lib.Dec.{T, ltb→lt, lt→ltb}
 use lib.ListN.{length, getD}
 use native.Mathlib.Decide.{decLe}
 use Rattle.base.specs.Tests.{some≢none}
-use Rattle.theory.specs.Answer.{Read, fault, file}
+use Rattle.theory.specs.Answer.{fault, file}
 use Rattle.meaning.specs.Lines.{Line, linesOf, identifier}
 use Rattle.meaning.specs.Kinds.{Kind, Role, headerLine, bodyLine, metadataLine, trailerLine, role}
-use Rattle.meaning.specs.Format.{Format, kindOf, placeFrom, recordCount, endDate}
-use Rattle.meaning.specs.File.{Place, next, hasRoom, Judged, bad, good, judgeLine, Sheet, adds, bodyAfter, atStart, inBody, afterMetadata, afterTrailer, atEnd, onLine, readFrom, readFile, mostBody}
+use Rattle.meaning.specs.Format.{Format, kindOf, fieldNumber, recordCount, endDate}
+use Rattle.meaning.specs.File.{Stage, next, hasRoom, Judged, bad, good, judgeLine, Sheet, adds, bodyAfter, atStart, inBody, afterMetadata, afterTrailer, atEnd, onLine, readFrom, readFile, mostBody}
 use Rattle.meaning.specs.Load.{checked, checkFile}
+use Rattle.meaning.specs.Answers.{Read, ofLine, ofField, atLine}
 use Rattle.laws.specs.FileRefusals.{among}
 use Rattle.laws.specs.LinePart.{noLine}
 use Rattle.laws.specs.Judgement.{Judges, JudgedIs, judged, line-sound}
 use Rattle.laws.specs.WhyLoad.{Numbered}
 use Rattle.laws.specs.LineFails.{LineFails, ending, unknown, misplaced, tooMany, miscounted, malformed, misdated, misnumbered, mistold, JudgedFails, judge-fails, fails-judged, lowest-within}
+use Rattle.meaning.specs.Codes.{outOfPlace, fieldMalformed, endBeforeStart, recordCountWrong, tooManyBodyLines}
 
 -- ---- the place after the trailer
 
-abbrev IsLast : Place → Type 0
+abbrev IsLast : Stage → Type 0
 IsLast atStart = ⊥
 IsLast inBody = ⊥
 IsLast afterMetadata = ⊥
 IsLast afterTrailer = Unit {0}
 
 -- so many lines, n of them body lines, stand before a place
-abbrev Behind : Place → ℕ → ℕ → Type 0
+abbrev Behind : Stage → ℕ → ℕ → Type 0
 Behind atStart n i = (i ≡ 0) × (n ≡ 0)
 Behind inBody n i = (i ≡ 1 + n) × (n ≤ mostBody)
 Behind afterMetadata n i = (i ≡ 2 + n) × (n ≤ mostBody)
 Behind afterTrailer n i = (i ≡ 3 + n) × (n ≤ mostBody)
 
 -- the same after one line more, where it may stand
-abbrev NextBehind : Role → ℕ → ℕ → Option Place → Type 0
+abbrev NextBehind : Role → ℕ → ℕ → Option Stage → Type 0
 NextBehind o n i none = Unit {0}
 NextBehind o n i (some q) = Behind q (bodyAfter o n) (suc i)
 
-next-behind : (p : Place) (o : Role) (n i : ℕ) → T (hasRoom o n) → Behind p n i → NextBehind o n i (next p o)
+next-behind : (p : Stage) (o : Role) (n i : ℕ) → T (hasRoom o n) → Behind p n i → NextBehind o n i (next p o)
 unfolding next bodyAfter hasRoom
 next-behind atStart headerLine n i r b = (omega (arith, b .0, b .1), omega (arith, b .1))
 next-behind atStart bodyLine n i r b = tt
@@ -61,7 +63,7 @@ next-behind afterTrailer metadataLine n i r b = tt
 next-behind afterTrailer trailerLine n i r b = tt
 
 -- a body line without room is the one after the most that a file may have, and stands two lines further on
-no-room : (p : Place) (o : Role) (q : Place) (n i : ℕ) → next p o ≡ some q → (T (hasRoom o n) → ⊥) → Behind p n i → suc i ≡ 2 + mostBody
+no-room : (p : Stage) (o : Role) (q : Stage) (n i : ℕ) → next p o ≡ some q → (T (hasRoom o n) → ⊥) → Behind p n i → suc i ≡ 2 + mostBody
 unfolding next hasRoom
 no-room p headerLine q n i x r b = absurd (r tt)
 no-room p metadataLine q n i x r b = absurd (r tt)
@@ -89,26 +91,26 @@ module _ (F : Format) where
   -- ---- where a file is refused
 
   -- each of the lines is accepted in its place, from place p after n body lines on, and they lead to place q after m
-  abbrev pub Leads : Place → ℕ → List Line → Place → ℕ → Type 0
+  abbrev pub Leads : Stage → ℕ → List Line → Stage → ℕ → Type 0
   Leads p n [] q m = (p ≡ q) × (n ≡ m)
-  Leads p n (l ∷ ls) q m = (k : Kind) × (r : Place) × (judgeLine F p n l ≡ good k r) × Leads r (bodyAfter (role k) n) ls q m
+  Leads p n (l ∷ ls) q m = (k : Kind) × (r : Stage) × (judgeLine F p n l ≡ good k r) × Leads r (bodyAfter (role k) n) ls q m
 
   -- the lines before one are accepted and lead to its place, where it fails a test with that code and field; the first line is number i
-  pub record FaultyLine (i : ℕ) (p : Place) (n : ℕ) (ls : List Line) (code line field : ℕ) : Type 0 where
+  pub record FaultyLine (i : ℕ) (p : Stage) (n : ℕ) (ls : List Line) (code line field : ℕ) : Type 0 where
     pub before : List Line
     pub here : Line
     pub rest : List Line
     pub whole : ls ≡ before ++ (here ∷ rest)
     pub own : line ≡ i + length before
-    pub place : Place
+    pub stage : Stage
     pub body : ℕ
-    pub leads : Leads p n before place body
-    pub fails : LineFails F place body here code field
+    pub leads : Leads p n before stage body
+    pub fails : LineFails F stage body here code field
 
   -- why lines are refused: at a faulty line, or with 3 at the line after the last, where they end before the trailer
-  pub data Refused (i : ℕ) (p : Place) (n : ℕ) (ls : List Line) (code line field : ℕ) : Type 0 where
-    atLine : FaultyLine i p n ls code line field → Refused i p n ls code line field
-    atItsEnd : (q : Place) (m : ℕ) → Leads p n ls q m → (q ≡ afterTrailer → ⊥) → Numbered code line field 3 (i + length ls) 0 → Refused i p n ls code line field
+  pub data Refused (i : ℕ) (p : Stage) (n : ℕ) (ls : List Line) (code line field : ℕ) : Type 0 where
+    faultAt : FaultyLine i p n ls code line field → Refused i p n ls code line field
+    atItsEnd : (q : Stage) (m : ℕ) → Leads p n ls q m → (q ≡ afterTrailer → ⊥) → Numbered code line field outOfPlace (i + length ls) 0 → Refused i p n ls code line field
 
   -- the same of a file
   abbrev pub FileFails : List ℕ → ℕ → ℕ → ℕ → Type 0
@@ -116,40 +118,40 @@ module _ (F : Format) where
 
   -- ---- a file that is refused is refused so
 
-  abbrev ReadFails : ℕ → Place → ℕ → List Line → Read Sheet → Type 0
-  ReadFails i p n ls (fault c l f) = Refused i p n ls c l f
+  abbrev ReadFails : ℕ → Stage → ℕ → List Line → Read Sheet → Type 0
+  ReadFails i p n ls (fault r) = Refused i p n ls (r .code) (r .line) (r .field)
   ReadFails i p n ls (file s) = Unit {0}
 
-  refused-more : (i : ℕ) (p : Place) (n : ℕ) (x : Line) (ls : List Line) (k : Kind) (q : Place) (c l f : ℕ) → judgeLine F p n x ≡ good k q
+  refused-more : (i : ℕ) (p : Stage) (n : ℕ) (x : Line) (ls : List Line) (k : Kind) (q : Stage) (c l f : ℕ) → judgeLine F p n x ≡ good k q
       → Refused (suc i) q (bodyAfter (role k) n) ls c l f → Refused i p n (x ∷ ls) c l f
-  refused-more i p n x ls k q c l f e (atLine w) =
-      atLine (record {
+  refused-more i p n x ls k q c l f e (faultAt w) =
+      faultAt (record {
         before = x ∷ w .before;
         here = w .here;
         rest = w .rest;
         whole = ap (λ y. x ∷ y) (w .whole);
         own = omega (arith, w .own);
-        place = w .place;
+        stage = w .stage;
         body = w .body;
         leads = (k, q, e, w .leads);
         fails = w .fails;
       })
   refused-more i p n x ls k q c l f e (atItsEnd r m w u d) = atItsEnd r m (k, q, e, w) u (d .0, omega (arith, d .1), d .2)
 
-  adds-fails : (i : ℕ) (p : Place) (n : ℕ) (x : Line) (ls : List Line) (k : Kind) (q : Place) → judgeLine F p n x ≡ good k q
+  adds-fails : (i : ℕ) (p : Stage) (n : ℕ) (x : Line) (ls : List Line) (k : Kind) (q : Stage) → judgeLine F p n x ≡ good k q
       → (r : Read Sheet) → ReadFails (suc i) q (bodyAfter (role k) n) ls r → ReadFails i p n (x ∷ ls) (adds (role k) k (x .text) r)
   unfolding adds
-  adds-fails i p n x ls k q e (fault c l f) w = refused-more i p n x ls k q c l f e w
+  adds-fails i p n x ls k q e (fault r) w = refused-more i p n x ls k q (r .code) (r .line) (r .field) e w
   adds-fails i p n x ls k q e (file s) w = tt
 
-  line-fails : (i : ℕ) (p : Place) (n : ℕ) (x : Line) (ls : List Line) (go : Kind → Place → Read Sheet) → ((k : Kind) (q : Place) → ReadFails (suc i) q (bodyAfter (role k) n) ls (go k q))
+  line-fails : (i : ℕ) (p : Stage) (n : ℕ) (x : Line) (ls : List Line) (go : Kind → Stage → Read Sheet) → ((k : Kind) (q : Stage) → ReadFails (suc i) q (bodyAfter (role k) n) ls (go k q))
       → (j : Judged) → judgeLine F p n x ≡ j → JudgedFails F p n x j → ReadFails i p n (x ∷ ls) (onLine i (x .text) j go)
   unfolding onLine
   line-fails i p n x ls go w (bad f) e d =
-      atLine (record { before = []; here = x; rest = ls; whole = refl; own = omega arith; place = p; body = n; leads = (refl, refl); fails = d })
+      faultAt (record { before = []; here = x; rest = ls; whole = refl; own = omega arith; stage = p; body = n; leads = (refl, refl); fails = d })
   line-fails i p n x ls go w (good k q) e d = adds-fails i p n x ls k q e (go k q) (w k q)
 
-  read-fails : (i : ℕ) (p : Place) (n : ℕ) (ls : List Line) → ReadFails i p n ls (readFrom F i p n ls)
+  read-fails : (i : ℕ) (p : Stage) (n : ℕ) (ls : List Line) → ReadFails i p n ls (readFrom F i p n ls)
   unfolding readFrom atEnd
   read-fails i atStart n [] = atItsEnd atStart n (refl, refl) (λ e. subst IsLast (sym e) tt) (refl, omega arith, refl)
   read-fails i inBody n [] = atItsEnd inBody n (refl, refl) (λ e. subst IsLast (sym e) tt) (refl, omega arith, refl)
@@ -165,24 +167,24 @@ module _ (F : Format) where
   check-why b n = go (readFrom F 1 atStart 0 (linesOf b)) (read-fails 1 atStart 0 (linesOf b)) n
     where
       go : (r : Read Sheet) → ReadFails 1 atStart 0 (linesOf b) r → (checked r .code ≡ 0 → ⊥) → FileFails b (checked r .code) (checked r .line) (checked r .field)
-      go (fault c l f) w n = w
+      go (fault r) w n = w
       go (file s) w n = absurd (n refl)
 
   -- ---- and a file with such a fault gets its numbers
 
-  at-fault : (i : ℕ) (p : Place) (n : ℕ) (before : List Line) (here : Line) (rest : List Line) (q : Place) (m c f : ℕ) → Leads p n before q m → LineFails F q m here c f
-      → readFrom F i p n (before ++ (here ∷ rest)) ≡ fault c (i + length before) f
+  at-fault : (i : ℕ) (p : Stage) (n : ℕ) (before : List Line) (here : Line) (rest : List Line) (q : Stage) (m c f : ℕ) → Leads p n before q m → LineFails F q m here c f
+      → readFrom F i p n (before ++ (here ∷ rest)) ≡ fault (atLine (i + length before) (ofField c f))
   unfolding readFrom onLine adds
   at-fault i p n [] here rest q m c f w d = rw (w .0, w .1, fails-judged F q m here c f d, add-zero i)
   at-fault i p n (x ∷ before) here rest q m c f w d =
       let e : suc i + length before ≡ i + length (x ∷ before) = omega arith in
       rw (w .2, at-fault (suc i) (w .1) (bodyAfter (role (w .0)) n) before here rest q m c f (w .3) d, e)
 
-  at-the-end : (i : ℕ) (p : Place) (n : ℕ) (ls : List Line) (q : Place) (m : ℕ) → Leads p n ls q m → (q ≡ afterTrailer → ⊥) → readFrom F i p n ls ≡ fault 3 (i + length ls) 0
+  at-the-end : (i : ℕ) (p : Stage) (n : ℕ) (ls : List Line) (q : Stage) (m : ℕ) → Leads p n ls q m → (q ≡ afterTrailer → ⊥) → readFrom F i p n ls ≡ fault (atLine (i + length ls) (ofLine outOfPlace))
   unfolding readFrom onLine adds atEnd
   at-the-end i p n [] q m w u = rw (w .0, add-zero i) (go q u)
     where
-      go : (q : Place) → (q ≡ afterTrailer → ⊥) → atEnd i q ≡ fault 3 i 0
+      go : (q : Stage) → (q ≡ afterTrailer → ⊥) → atEnd i q ≡ fault (atLine i (ofLine outOfPlace))
       go atStart u = refl
       go inBody u = refl
       go afterMetadata u = refl
@@ -194,12 +196,12 @@ module _ (F : Format) where
   -- the numbers of a file with such a fault are the fault's
   pub why-check : (b : List ℕ) (c l f : ℕ) → FileFails b c l f → Numbered (checkFile F b .code) (checkFile F b .line) (checkFile F b .field) c l f
   unfolding checkFile checked readFile
-  why-check b c l f (atLine w) = rw (w .whole, at-fault 1 atStart 0 (w .before) (w .here) (w .rest) (w .place) (w .body) c f (w .leads) (w .fails), w .own) (refl, refl, refl)
+  why-check b c l f (faultAt w) = rw (w .whole, at-fault 1 atStart 0 (w .before) (w .here) (w .rest) (w .stage) (w .body) c f (w .leads) (w .fails), w .own) (refl, refl, refl)
   why-check b c l f (atItsEnd q m w u d) = rw (at-the-end 1 atStart 0 (linesOf b) q m w u, d .0, d .1, d .2) (refl, refl, refl)
 
   -- ---- lines and fields by the code
 
-  leads-behind : (p : Place) (n : ℕ) (ls : List Line) (q : Place) (m i : ℕ) → Leads p n ls q m → Behind p n i → Behind q m (i + length ls)
+  leads-behind : (p : Stage) (n : ℕ) (ls : List Line) (q : Stage) (m i : ℕ) → Leads p n ls q m → Behind p n i → Behind q m (i + length ls)
   leads-behind p n [] q m i w b = rw (add-zero i, ← w .0, ← w .1) b
   leads-behind p n (l ∷ ls) q m i w b =
       let e : suc i + length ls ≡ i + length (l ∷ ls) = omega arith in
@@ -210,10 +212,10 @@ module _ (F : Format) where
 
   -- what the code of a faulty line says of it, with i lines before it
   record Says (i : ℕ) (l : Line) (code field : ℕ) : Type 0 where
-    five : code ≡ 5 → (k : Kind) × (kindOf F (identifier (l .text)) ≡ some k) × (1 ≤ field) × (field ≤ length (fields k))
-    six : code ≡ 6 → (k : Kind) × (kindOf F (identifier (l .text)) ≡ some k) × (field ≡ placeFrom 1 endDate (fields k))
-    eight : code ≡ 8 → (k : Kind) × (kindOf F (identifier (l .text)) ≡ some k) × (role k ≡ trailerLine) × (field ≡ placeFrom 1 recordCount (fields k))
-    nine : code ≡ 9 → suc i ≡ 2 + mostBody
+    five : code ≡ fieldMalformed → (k : Kind) × (kindOf F (identifier (l .text)) ≡ some k) × (1 ≤ field) × (field ≤ length (fields k))
+    six : code ≡ endBeforeStart → (k : Kind) × (kindOf F (identifier (l .text)) ≡ some k) × (field ≡ fieldNumber 1 endDate (fields k))
+    eight : code ≡ recordCountWrong → (k : Kind) × (kindOf F (identifier (l .text)) ≡ some k) × (role k ≡ trailerLine) × (field ≡ fieldNumber 1 recordCount (fields k))
+    nine : code ≡ tooManyBodyLines → suc i ≡ 2 + mostBody
 
   -- the code is another
   other : (i : ℕ) (l : Line) (code field w : ℕ) → code ≡ w → T (among w (1 ∷ 2 ∷ 3 ∷ 4 ∷ 7 ∷ [])) → Says i l code field
@@ -225,7 +227,7 @@ module _ (F : Format) where
     nine = λ z. absurd (rw (sym e ∙ z) at t);
   }
 
-  fails-say : (p : Place) (n i : ℕ) (l : Line) (code field : ℕ) → Behind p n i → LineFails F p n l code field → Says i l code field
+  fails-say : (p : Stage) (n i : ℕ) (l : Line) (code field : ℕ) → Behind p n i → LineFails F p n l code field → Says i l code field
   unfolding among
   fails-say p n i l code field b (ending w c f) = other i l code field 1 c tt
   fails-say p n i l code field b (unknown w k c f) = other i l code field 2 c tt
@@ -236,7 +238,7 @@ module _ (F : Format) where
     five = λ z. absurd (omega (arith, c, z));
     six = λ z. absurd (omega (arith, c, z));
     eight = λ z. absurd (omega (arith, c, z));
-    nine = λ z. no-room p (role k) (s .place) n i (s .may) r b;
+    nine = λ z. no-room p (role k) (s .after) n i (s .may) r b;
   }
   fails-say p n i l code field b (malformed k s r h w c) = record {
     five = λ z. let v = lowest-within F 1 (fields k) _ field w in (k, s .kind, v .0, omega (arith, v .1));
@@ -257,27 +259,27 @@ module _ (F : Format) where
     nine = λ z. absurd (omega (arith, c, z));
   }
 
-  file-says : (b : List ℕ) (c l f : ℕ) → FileFails b c l f → (c ≡ 3 → ⊥) → Says (l - 1) (lineAt b l) c f
+  file-says : (b : List ℕ) (c l f : ℕ) → FileFails b c l f → (c ≡ outOfPlace → ⊥) → Says (l - 1) (lineAt b l) c f
   file-says b c l f (atItsEnd q m w u d) n = absurd (n (d .0))
-  file-says b c l f (atLine w) n =
+  file-says b c l f (faultAt w) n =
       let e : l - 1 ≡ length (w .before) = omega (arith, w .own) in
       let h : lineAt b l ≡ w .here = ap (λ i. getD (linesOf b) i noLine) e ∙ ap (λ ls. getD ls (length (w .before)) noLine) (w .whole) ∙ at-append (w .before) (w .here) (w .rest) in
-      let s = leads-behind atStart 0 (w .before) (w .place) (w .body) 0 (w .leads) (refl, refl) in
-      rw (h, e) (fails-say (w .place) (w .body) (length (w .before)) (w .here) c f (rw (zero-add (length (w .before))) at s) (w .fails))
+      let s = leads-behind atStart 0 (w .before) (w .stage) (w .body) 0 (w .leads) (refl, refl) in
+      rw (h, e) (fails-say (w .stage) (w .body) (length (w .before)) (w .here) c f (rw (zero-add (length (w .before))) at s) (w .fails))
 
   -- 5 names a field that the line's kind has
-  pub five-field : (b : List ℕ) (l f : ℕ) → FileFails b 5 l f → (k : Kind) × (kindOf F (identifier (lineAt b l .text)) ≡ some k) × (1 ≤ f) × (f ≤ length (fields k))
-  five-field b l f w = file-says b 5 l f w (λ z. omega (arith, z)) .five refl
+  pub five-field : (b : List ℕ) (l f : ℕ) → FileFails b fieldMalformed l f → (k : Kind) × (kindOf F (identifier (lineAt b l .text)) ≡ some k) × (1 ≤ f) × (f ≤ length (fields k))
+  five-field b l f w = file-says b fieldMalformed l f w (λ z. omega (arith, z)) .five refl
 
   -- 6 names that kind's END_DATE
-  pub six-field : (b : List ℕ) (l f : ℕ) → FileFails b 6 l f → (k : Kind) × (kindOf F (identifier (lineAt b l .text)) ≡ some k) × (f ≡ placeFrom 1 endDate (fields k))
-  six-field b l f w = file-says b 6 l f w (λ z. omega (arith, z)) .six refl
+  pub six-field : (b : List ℕ) (l f : ℕ) → FileFails b endBeforeStart l f → (k : Kind) × (kindOf F (identifier (lineAt b l .text)) ≡ some k) × (f ≡ fieldNumber 1 endDate (fields k))
+  six-field b l f w = file-says b endBeforeStart l f w (λ z. omega (arith, z)) .six refl
 
   -- 8 is given to a trailer, and names its RECORD_COUNT
-  pub eight-line : (b : List ℕ) (l f : ℕ) → FileFails b 8 l f
-      → (k : Kind) × (kindOf F (identifier (lineAt b l .text)) ≡ some k) × (role k ≡ trailerLine) × (f ≡ placeFrom 1 recordCount (fields k))
-  eight-line b l f w = file-says b 8 l f w (λ z. omega (arith, z)) .eight refl
+  pub eight-line : (b : List ℕ) (l f : ℕ) → FileFails b recordCountWrong l f
+      → (k : Kind) × (kindOf F (identifier (lineAt b l .text)) ≡ some k) × (role k ≡ trailerLine) × (f ≡ fieldNumber 1 recordCount (fields k))
+  eight-line b l f w = file-says b recordCountWrong l f w (λ z. omega (arith, z)) .eight refl
 
   -- 9 stands on line 4,098 only
-  pub nine-line : (b : List ℕ) (l f : ℕ) → FileFails b 9 l f → l ≡ 4098
-  nine-line b l f w = let e = file-says b 9 l f w (λ z. omega (arith, z)) .nine refl in omega (arith, e)
+  pub nine-line : (b : List ℕ) (l f : ℕ) → FileFails b tooManyBodyLines l f → l ≡ 4098
+  nine-line b l f w = let e = file-says b tooManyBodyLines l f w (λ z. omega (arith, z)) .nine refl in omega (arith, e)

@@ -19,6 +19,8 @@ use Rattle.laws.specs.Checks.{held-only}
 use Rattle.laws.specs.Find.{EnquiredIs, enquired-is, FoundIt, find-finds, finds-find}
 use Rattle.laws.specs.WhyLoad.{Unsound, unsound-is}
 use Rattle.laws.specs.WhyField.{Answers}
+use Rattle.meaning.specs.Codes.{keyAbsent}
+use Rattle.meaning.specs.Answers.{alone}
 
 module _ (F : Format) where
   open Format F using (enquiries)
@@ -35,7 +37,7 @@ module _ (F : Format) where
     -- 0: one has, and the part is that record's line in the holding
     found : (k : Kind) → numberedAmong enquiries kind ≡ some k → FoundIt F old kind n x → x .slice ≡ first → Answers x 0 0 0 → FindAnswers old kind n x
 
-  held-or-11 : (old : List ℕ) (o : Option ℕ) → (heldPart old o .answer .code ≡ 0) ⊎ (heldPart old o ≡ refusal 11 0 0)
+  held-or-11 : (old : List ℕ) (o : Option ℕ) → (heldPart old o .answer .code ≡ 0) ⊎ (heldPart old o ≡ refusal (alone keyAbsent))
   unfolding heldPart partOf
   held-or-11 old none = inr refl
   held-or-11 old (some i) = inl refl
@@ -78,7 +80,7 @@ module _ (F : Format) where
     find-answers old kind n = asked (numberedAmong enquiries kind) refl
       where
         none-held : (k : Kind) (st : List Rec) → numberedAmong enquiries kind ≡ some k → readHolding F old ≡ sound st → get (keyed F) (kind ∷ n ∷ []) st ≡ none
-            → (find F old kind n .answer .code ≡ 0) ⊎ (find F old kind n ≡ refusal 11 0 0) → FindAnswers old kind n (find F old kind n)
+            → (find F old kind n .answer .code ≡ 0) ⊎ (find F old kind n ≡ refusal (alone keyAbsent)) → FindAnswers old kind n (find F old kind n)
         none-held k st e r g (inl z) =
             let w = find-finds F regular old kind n z in
             let q = held-only F regular old (w .st) st (w .held) (held-is-sound F regular old st r) in
@@ -88,7 +90,7 @@ module _ (F : Format) where
         looked : (k : Kind) (st : List Rec) → numberedAmong enquiries kind ≡ some k → readHolding F old ≡ sound st → (o : Option Rec) → get (keyed F) (kind ∷ n ∷ []) st ≡ o
             → FindAnswers old kind n (find F old kind n)
         looked k st e r none g =
-            none-held k st e r g (subst (λ x. (x .answer .code ≡ 0) ⊎ (x ≡ refusal 11 0 0)) (sym (find-sound old kind n k st e r)) (held-or-11 old (heldAt F (kind ∷ n ∷ []) 0 st)))
+            none-held k st e r g (subst (λ x. (x .answer .code ≡ 0) ⊎ (x ≡ refusal (alone keyAbsent))) (sym (find-sound old kind n k st e r)) (held-or-11 old (heldAt F (kind ∷ n ∷ []) 0 st)))
         looked k st e r (some x) g =
             let a = finds-find F regular old k kind n st x e (held-is-sound F regular old st r) g in
             found k e (find-finds F regular old kind n (ap (λ t. t .code) a)) (find-first old kind n) (ap (λ t. t .code) a, ap (λ t. t .line) a, ap (λ t. t .field) a)

@@ -16,7 +16,7 @@ use Rattle.theory.specs.Refs.{apart}
 use Rattle.theory.specs.RefsLaws.{by-key}
 use Rattle.theory.specs.Step.{Op, ins, upd, del, Change}
 use Rattle.theory.specs.Run.{free}
-use Rattle.theory.specs.Answer.{Read, fault, file}
+use Rattle.theory.specs.Answer.{fault, file}
 use Rattle.meaning.specs.Lines.{linesOf}
 use Rattle.meaning.specs.Kinds.{Kind, ident, numberedAmong}
 use Rattle.meaning.specs.Format.{Format}
@@ -24,7 +24,8 @@ use Rattle.meaning.specs.Records.{Rec, keyed, keyOf}
 use Rattle.meaning.specs.File.{Sheet, readFile}
 use Rattle.meaning.specs.Holding.{Held, sound, unsound, readHolding}
 use Rattle.meaning.specs.Load.{checked, checkFile, heldNumbers, checkHolding}
-use Rattle.meaning.specs.Enquiries.{Found, second, refusal, partOf, lastNaming, named, inForcePart, inForceFile, inForceHeld, inForceKind, inForce}
+use Rattle.meaning.specs.Enquiries.{Found, second, refusal, partOf, lastNaming, unlessDeleted, inForcePart, inForceFile, inForceHeld, inForceKind, inForce}
+use Rattle.meaning.specs.Answers.{Read, Refusal}
 use Rattle.laws.specs.Regular.{Regular}
 use Rattle.laws.specs.LinesAndFields.{endsAll}
 use Rattle.laws.specs.LinePart.{noLine, part-is}
@@ -146,10 +147,10 @@ module _ (F : Format) where
   unfolding inForce inForceKind inForceHeld refusal checkHolding heldNumbers
   force-14 old b kind n k l e r = rw (e, r) (refl, refl, refl)
 
-  force-file : (old b : List ℕ) (kind n : ℕ) (k : Kind) (st : List Rec) (c l f : ℕ) → numberedAmong enquiries kind ≡ some k → readHolding F old ≡ sound st → readFile F b ≡ fault c l f
+  force-file : (old b : List ℕ) (kind n : ℕ) (k : Kind) (st : List Rec) (r : Refusal) → numberedAmong enquiries kind ≡ some k → readHolding F old ≡ sound st → readFile F b ≡ fault r
       → Answers (inForce F old b kind n) (checkFile F b .code) (checkFile F b .line) (checkFile F b .field)
   unfolding inForce inForceKind inForceHeld inForceFile refusal checkFile checked
-  force-file old b kind n k st c l f e r q = rw (e, r, q) (refl, refl, refl)
+  force-file old b kind n k st x e r q = rw (e, r, q) (refl, refl, refl)
 
   -- the record in force of a sound holding and a sound file
   force-sound : (old b : List ℕ) (kind n : ℕ) (k : Kind) (st : List Rec) (s : Sheet) → numberedAmong enquiries kind ≡ some k → readHolding F old ≡ sound st → readFile F b ≡ file s
@@ -161,8 +162,8 @@ module _ (F : Format) where
 
   -- what the last naming line does decides
   force-named : (old b : List ℕ) (kind n : ℕ) (k : Kind) (m : BothSound F old b) → numberedAmong enquiries kind ≡ some k → (w : LastNames (kind ∷ n ∷ []) (m .cs))
-      → (i : ℕ) → i ≡ suc (length (w .before)) → (o : Op) → o ≡ w .change .op → ForceAnswers old b kind n (named o (partOf second (linesOf b) i))
-  unfolding named refusal
+      → (i : ℕ) → i ≡ suc (length (w .before)) → (o : Op) → o ≡ w .change .op → ForceAnswers old b kind n (unlessDeleted o (partOf second (linesOf b) i))
+  unfolding unlessDeleted refusal
   force-named old b kind n k m e w i d o z = go o z
     where
       there : (w .change .op ≡ del → ⊥) → ForceAnswers old b kind n (partOf second (linesOf b) i)
@@ -173,7 +174,7 @@ module _ (F : Format) where
           let v : 2 + length (w .before) - 1 ≡ suc (length (w .before)) = omega arith in
           inFile k m e w u (rw v (s .1)) (rw v p) (unfold partOf in refl) (unfold partOf in (refl, refl, refl))
 
-      go : (o : Op) → o ≡ w .change .op → ForceAnswers old b kind n (named o (partOf second (linesOf b) i))
+      go : (o : Op) → o ≡ w .change .op → ForceAnswers old b kind n (unlessDeleted o (partOf second (linesOf b) i))
       go ins z = there (λ v. subst IsDel (sym (z ∙ v)) tt)
       go upd z = there (λ v. subst IsDel (sym (z ∙ v)) tt)
       go del z = deleted k m e w (sym z) (refl, refl, refl)
@@ -193,8 +194,8 @@ module _ (F : Format) where
 
         files : (k : Kind) (st : List Rec) → numberedAmong enquiries kind ≡ some k → readHolding F old ≡ sound st → (r : Read Sheet) → readFile F b ≡ r
             → ForceAnswers old b kind n (inForce F old b kind n)
-        files k st e h (fault c l f) r =
-            faultyFile k e (record { state = st; sounds = held-is-sound F regular old st h }) (fault-faulty F b c l f r) (force-file old b kind n k st c l f e h r)
+        files k st e h (fault x) r =
+            faultyFile k e (record { state = st; sounds = held-is-sound F regular old st h }) (fault-faulty F b x r) (force-file old b kind n k st x e h r)
         files k st e h (file s) r =
             let m : BothSound F old b = record { st = st; fr = s .0; cs = s .1; held = held-is-sound F regular old st h; lines = read-sound F b (s .0) (s .1) r } in
             rw (force-sound old b kind n k st s e h r) (placed k m e h (lastNaming F q 1 (s .1) none) (naming-says q [] (s .1) 1 none refl tt))

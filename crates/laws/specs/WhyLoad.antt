@@ -11,15 +11,18 @@ use lib.Dec.{T, leb, leb→le, le→leb}
 use lib.ListN.{length}
 use Rattle.base.specs.Lists.{pick}
 use Rattle.base.specs.Tests.{T-true}
-use Rattle.theory.specs.Step.{Op, ins, upd, del, Change, codeOf, after}
+use Rattle.theory.specs.Step.{Op, ins, upd, del, Change, after}
 use Rattle.theory.specs.Trail.{final, Each, Through}
 use Rattle.theory.specs.Run.{Out, done, stop, run}
-use Rattle.theory.specs.Answer.{Read, fault, file, Answer, took, refused}
+use Rattle.theory.specs.Answer.{fault, file, took, refused}
 use Rattle.meaning.specs.Format.{Format}
 use Rattle.meaning.specs.Records.{Rec, keyed}
 use Rattle.meaning.specs.File.{Frame, Sheet, readFile}
 use Rattle.meaning.specs.Holding.{Held, sound, unsound, readHolding}
-use Rattle.meaning.specs.Load.{fits, stepTests, outcome, fromStart, onFile, onHolding, load, checked, checkFile, heldNumbers, checkHolding, applied, apply, undoBytes, Undone, undone, undoFile}
+use Rattle.meaning.specs.Load.{outcome, fromStart, onFile, onHolding, load, checked, checkFile, heldNumbers, checkHolding, applied, apply, Undone, undone, undoFile}
+use Rattle.meaning.specs.Steps.{keyCode, fits, steps}
+use Rattle.meaning.specs.Answers.{Read, Answer, ofField, Refusal, atLine, alone}
+use Rattle.meaning.specs.Undo.{undoBytes}
 use Rattle.laws.specs.Regular.{Regular}
 use Rattle.laws.specs.SoundHolding.{SoundHolding, sound-held, held-is-sound}
 use Rattle.laws.specs.SoundFile.{SoundFile, sound-read, read-sound}
@@ -29,6 +32,7 @@ use Rattle.laws.specs.Checks.{SomeFile, SomeHolding, held-only}
 use Rattle.laws.specs.Demand2.{StepLawful, StepsAllowed, Allowed, Lawful, Roomy, allowed-takes, done-allowed, lawful-exactly}
 use Rattle.laws.specs.Demand3.{undo-only-17}
 use Rattle.laws.specs.StepFails.{no-true, false-no, FailsWith, atKey, tooMany, unmet, noRoom, FirstRefused, RunSays, run-says, refused-stops}
+use Rattle.meaning.specs.Codes.{holdingTooLong, holdingUnsound, undoTooLong, allDone}
 
 -- ---- numbers
 
@@ -43,12 +47,12 @@ IsSound (sound st) = Unit {0}
 IsSound (unsound n) = ⊥
 
 abbrev IsFile : Read Sheet → Type 0
-IsFile (fault c l f) = ⊥
+IsFile (fault r) = ⊥
 IsFile (file s) = Unit {0}
 
 -- the changes that a file says
 abbrev changes : Read Sheet → List (Change Rec)
-changes (fault c l f) = []
+changes (fault r) = []
 changes (file s) = s .1
 
 module _ (F : Format) where
@@ -71,29 +75,29 @@ module _ (F : Format) where
   -- why a file is refused over a holding with those numbers, where the holding may take `room` bytes: the four exclude one another
   pub data Reason (room : ℕ) (old b : List ℕ) (code line field : ℕ) : Type 0 where
     -- 14: the holding is unsound, and its check names the line
-    badHolding : Unsound old → Numbered code line field 14 (checkHolding F old .line) 0 → Reason room old b code line field
+    badHolding : Unsound old → Numbered code line field holdingUnsound (checkHolding F old .line) 0 → Reason room old b code line field
     -- the holding is sound and the file isn't: the numbers of its check
     badFile : SomeHolding F old → Faulty b → Numbered code line field (checkFile F b .code) (checkFile F b .line) (checkFile F b .field) → Reason room old b code line field
     -- 13 at line 0: both are sound, and the holding is longer than its room before the first step
-    noStart : (m : BothSound old b) → (T (fits room (m .st)) → ⊥) → Numbered code line field 13 0 0 → Reason room old b code line field
+    noStart : (m : BothSound old b) → (T (fits room (m .st)) → ⊥) → Numbered code line field holdingTooLong 0 0 → Reason room old b code line field
     -- there is room at the start, and a step is the first that is refused; the first body line stands on line 2
     badStep : (m : BothSound old b) → T (fits room (m .st)) → FirstRefused F 2 room (m .st) (m .cs) line code → field ≡ 0 → Reason room old b code line field
 
   -- what the end of a load says
   abbrev LoadSays : ℕ → List ℕ → List ℕ → Answer → Type 0
-  LoadSays room old b (took new i u d) = Allowed F old b room
-  LoadSays room old b (refused c l f) = Reason room old b c l f
+  LoadSays room old b (took new n) = Allowed F old b room
+  LoadSays room old b (refused r) = Reason room old b (r .code) (r .line) (r .field)
 
   -- a sound file is no fault, so a fault is no sound file
-  pub fault-faulty : (b : List ℕ) (c l f : ℕ) → readFile F b ≡ fault c l f → Faulty b
-  fault-faulty b c l f e s = subst IsFile (sym (sound-read F b (s .frame) (s .changes) (s .sounds)) ∙ e) tt
+  pub fault-faulty : (b : List ℕ) (r : Refusal) → readFile F b ≡ fault r → Faulty b
+  fault-faulty b r e s = subst IsFile (sym (sound-read F b (s .frame) (s .changes) (s .sounds)) ∙ e) tt
 
   -- a step's code is one of the steps'
   step-code : (room : ℕ) (st : List Rec) (c : Change Rec) (w : ℕ) → FailsWith F room st c w → T (among w stepCodes)
   unfolding among
   step-code room st c w (atKey n e) = rw e (go (c .op))
     where
-      go : (o : Op) → T (among (codeOf o) stepCodes)
+      go : (o : Op) → T (among (keyCode o) stepCodes)
       go ins = tt
       go upd = tt
       go del = tt
@@ -108,7 +112,7 @@ module _ (F : Format) where
   each-at st [] c rest l = l .0
   each-at st (b ∷ before) c rest l = each-at (after (keyed F) st b) before c rest (l .1)
 
-  lawful-13 : (room : ℕ) (st : List Rec) (c : Change Rec) (w : ℕ) → StepLawful F st c → FailsWith F room st c w → w ≡ 13
+  lawful-13 : (room : ℕ) (st : List Rec) (c : Change Rec) (w : ℕ) → StepLawful F st c → FailsWith F room st c w → w ≡ holdingTooLong
   lawful-13 room st c w l (atKey n e) = absurd (n (l .keyed?))
   lawful-13 room st c w l (tooMany k n e) = absurd (n (l .fewRecords))
   lawful-13 room st c w l (unmet k f n e) = absurd (n (l .references))
@@ -142,12 +146,12 @@ module _ (F : Format) where
         ran m t (stop l w) r = badStep m t r refl
 
         starts : (m : BothSound old b) (c : Bool) → fits room (m .st) ≡ c
-            → LoadSays room old b (pick c (outcome (m .cs) (run (keyed F) (stepTests F room) 2 (m .st) (m .cs))) (refused 13 0 0))
-        starts m true e = ran m (rw e tt) (run (keyed F) (stepTests F room) 2 (m .st) (m .cs)) (run-says F 2 room (m .st) (m .cs))
+            → LoadSays room old b (pick c (outcome (m .cs) (steps F room (m .st) (m .cs))) (refused (alone holdingTooLong)))
+        starts m true e = ran m (rw e tt) (steps F room (m .st) (m .cs)) (run-says F 2 room (m .st) (m .cs))
         starts m false e = noStart m (false-no _ e) (refl, refl, refl)
 
         files : (st : List Rec) → SoundHolding F old st → (r : Read Sheet) → readFile F b ≡ r → LoadSays room old b (onFile F room st r)
-        files st h (fault c l f) e = badFile (record { state = st; sounds = h }) (fault-faulty b c l f e) (rw e, rw e, rw e)
+        files st h (fault r) e = badFile (record { state = st; sounds = h }) (fault-faulty b r e) (rw e, rw e, rw e)
         files st h (file s) e = starts (record { st = st; fr = s .0; cs = s .1; held = h; lines = read-sound F b (s .0) (s .1) e }) (fits room st) refl
 
         holds : (h : Held) → readHolding F old ≡ h → LoadSays room old b (onHolding F room b h)
@@ -155,17 +159,17 @@ module _ (F : Format) where
         holds (sound st) e = files st (held-is-sound F regular old st e) (readFile F b) refl
 
     -- for such a reason it refuses, with the reason's numbers
-    why-load : (room : ℕ) (old b : List ℕ) (c l f : ℕ) → Reason room old b c l f → load F room old b ≡ refused c l f
+    why-load : (room : ℕ) (old b : List ℕ) (c l f : ℕ) → Reason room old b c l f → load F room old b ≡ refused (atLine l (ofField c f))
     unfolding load onHolding onFile fromStart outcome checkHolding heldNumbers checkFile checked
     why-load room old b c l f (badHolding n e) = go (readHolding F old) refl (e .1)
       where
-        go : (h : Held) → readHolding F old ≡ h → l ≡ heldNumbers (readHolding F old) .line → onHolding F room b h ≡ refused c l f
+        go : (h : Held) → readHolding F old ≡ h → l ≡ heldNumbers (readHolding F old) .line → onHolding F room b h ≡ refused (atLine l (ofField c f))
         go (sound st) q d = absurd (n (record { state = st; sounds = held-is-sound F regular old st q }))
         go (unsound m) q d = rw (e .0, e .2, d, q)
     why-load room old b c l f (badFile s n e) = rw (sound-held F regular old (s .state) (s .sounds)) (go (readFile F b) refl)
       where
-        go : (r : Read Sheet) → readFile F b ≡ r → onFile F room (s .state) r ≡ refused c l f
-        go (fault x y z) q = rw (e .0, e .1, e .2, q)
+        go : (r : Read Sheet) → readFile F b ≡ r → onFile F room (s .state) r ≡ refused (atLine l (ofField c f))
+        go (fault r) q = rw (e .0, e .1, e .2, q)
         go (file x) q = absurd (n (record { frame = x .0; changes = x .1; sounds = read-sound F b (x .0) (x .1) q }))
     why-load room old b c l f (noStart m n e) =
         rw (sound-held F regular old (m .st) (m .held), sound-read F b (m .fr) (m .cs) (m .lines), no-true (fits room (m .st)) n, e .0, e .1, e .2)
@@ -174,16 +178,16 @@ module _ (F : Format) where
 
     -- ---- what each code says of its reason
 
-    check-code : (b : List ℕ) → checkFile F b .code ≡ 14 → ⊥
+    check-code : (b : List ℕ) → checkFile F b .code ≡ holdingUnsound → ⊥
     unfolding checkFile checked among
     check-code b = go (readFile F b) (file-codes F regular b)
       where
-        go : (r : Read Sheet) → ReadIn r → checked r .code ≡ 14 → ⊥
-        go (fault c l f) i e = rw e at i
+        go : (r : Read Sheet) → ReadIn r → checked r .code ≡ holdingUnsound → ⊥
+        go (fault r) i e = rw e at i
         go (file s) i e = omega (arith, e)
 
     -- 14: the holding is unsound
-    reason-14 : (room : ℕ) (old b : List ℕ) (c l f : ℕ) → Reason room old b c l f → c ≡ 14 → Unsound old
+    reason-14 : (room : ℕ) (old b : List ℕ) (c l f : ℕ) → Reason room old b c l f → c ≡ holdingUnsound → Unsound old
     unfolding among
     reason-14 room old b c l f (badHolding n d) e = n
     reason-14 room old b c l f (badFile s n d) e = absurd (check-code b (sym (d .0) ∙ e))
@@ -198,7 +202,7 @@ module _ (F : Format) where
     reason-start room old b c l f (badStep w u r d) z m t = omega (arith, r .own, z)
 
     -- where all is lawful: 13
-    reason-13 : (room : ℕ) (old b : List ℕ) (c l f : ℕ) → Reason room old b c l f → (st : List Rec) → SoundHolding F old st → Lawful F st b → c ≡ 13
+    reason-13 : (room : ℕ) (old b : List ℕ) (c l f : ℕ) → Reason room old b c l f → (st : List Rec) → SoundHolding F old st → Lawful F st b → c ≡ holdingTooLong
     reason-13 room old b c l f (badHolding n d) st h w = absurd (n (record { state = st; sounds = h }))
     reason-13 room old b c l f (badFile s n d) st h w = absurd (n (record { frame = w .fr; changes = w .cs; sounds = w .lines }))
     reason-13 room old b c l f (noStart m n d) st h w = d .0
@@ -221,8 +225,8 @@ module _ (F : Format) where
       apply-why n = go (load F room old b) (load-says room old b) n
         where
           go : (x : Answer) → LoadSays room old b x → (applied room x .answer .code ≡ 0 → ⊥) → Reason room old b (applied room x .answer .code) (applied room x .answer .line) (applied room x .answer .field)
-          go (took new i u d) a n = absurd (n refl)
-          go (refused c l f) r n = r
+          go (took new m) a n = absurd (n refl)
+          go (refused x) r n = r
 
       -- and where there is one, the numbers are its
       pub why-apply : (c l f : ℕ) → Reason room old b c l f → Numbered (apply F old b room .answer .code) (apply F old b room .answer .line) (apply F old b room .answer .field) c l f
@@ -230,18 +234,18 @@ module _ (F : Format) where
       why-apply c l f r = rw (why-load room old b c l f r) (refl, refl, refl)
 
       -- 14 exactly if the holding is unsound
-      pub apply-14 : (apply F old b room .answer .code ≡ 14) ↔ Unsound old
-      apply-14 = (λ e. reason-14 room old b _ _ _ (apply-why (λ z. omega (arith, e, z))) e, λ u. why-apply 14 (checkHolding F old .line) 0 (badHolding u (refl, refl, refl)) .0)
+      pub apply-14 : (apply F old b room .answer .code ≡ holdingUnsound) ↔ Unsound old
+      apply-14 = (λ e. reason-14 room old b _ _ _ (apply-why (λ z. omega (arith, e, z))) e, λ u. why-apply holdingUnsound (checkHolding F old .line) 0 (badHolding u (refl, refl, refl)) .0)
 
       -- 13 at line 0 exactly if a sound holding is longer than its room before the first step of a sound file
-      pub apply-start : (m : BothSound old b) → ((apply F old b room .answer .code ≡ 13) × (apply F old b room .answer .line ≡ 0)) ↔ (T (fits room (m .st)) → ⊥)
+      pub apply-start : (m : BothSound old b) → ((apply F old b room .answer .code ≡ holdingTooLong) × (apply F old b room .answer .line ≡ 0)) ↔ (T (fits room (m .st)) → ⊥)
       apply-start m = (
         λ e. reason-start room old b _ _ _ (apply-why (λ z. omega (arith, e .0, z))) (e .1) m,
-        λ n. let w = why-apply 13 0 0 (noStart m n (refl, refl, refl)) in (w .0, w .1),
+        λ n. let w = why-apply holdingTooLong 0 0 (noStart m n (refl, refl, refl)) in (w .0, w .1),
       )
 
       -- where all is lawful, 13 exactly if there isn't room at every step
-      pub apply-13 : (st : List Rec) → SoundHolding F old st → Lawful F st b → (apply F old b room .answer .code ≡ 13) ↔ (Roomy F room st b → ⊥)
+      pub apply-13 : (st : List Rec) → SoundHolding F old st → Lawful F st b → (apply F old b room .answer .code ≡ holdingTooLong) ↔ (Roomy F room st b → ⊥)
       apply-13 st h l = (
         λ e w. omega (arith, e, lawful-exactly F regular old b room st h w .1 l),
         λ n. reason-13 room old b _ _ _ (apply-why (λ z. n (allowed-roomy room old b st h (done-allowed F regular old b room z)))) st h l,
@@ -251,21 +255,21 @@ module _ (F : Format) where
 
     module _ (old b : List ℕ) (room space : ℕ) where
       -- but for 17, a refusal has a load's reason
-      pub undo-why : (undoFile F old b room space .answer .code ≡ 0 → ⊥) → (undoFile F old b room space .answer .code ≡ 17 → ⊥)
+      pub undo-why : (undoFile F old b room space .answer .code ≡ 0 → ⊥) → (undoFile F old b room space .answer .code ≡ undoTooLong → ⊥)
           → Reason space old b (undoFile F old b room space .answer .code) (undoFile F old b room space .answer .line) (undoFile F old b room space .answer .field)
       unfolding undoFile undone
       undo-why n k = go (load F space old b) (load-says space old b) n k
         where
           Why : Undone → Type 0
-          Why x = (x .answer .code ≡ 0 → ⊥) → (x .answer .code ≡ 17 → ⊥) → Reason space old b (x .answer .code) (x .answer .line) (x .answer .field)
+          Why x = (x .answer .code ≡ 0 → ⊥) → (x .answer .code ≡ undoTooLong → ⊥) → Reason space old b (x .answer .code) (x .answer .line) (x .answer .field)
 
-          either : (c : Bool) (x y : Undone) → x .answer .code ≡ 0 → y .answer .code ≡ 17 → Why (pick c x y)
+          either : (c : Bool) (x y : Undone) → x .answer .code ≡ 0 → y .answer .code ≡ undoTooLong → Why (pick c x y)
           either true x y p q = λ n k. absurd (n p)
           either false x y p q = λ n k. absurd (k q)
 
           go : (x : Answer) → LoadSays space old b x → Why (undone room space (undoBytes F old b) x)
-          go (took new i u d) a = either (leb (length (undoBytes F old b)) room) _ _ refl refl
-          go (refused c l f) r = λ n k. r
+          go (took new n) a = either (leb (length (undoBytes F old b)) room) _ _ refl refl
+          go (refused x) r = λ n k. r
 
       -- and where there is one, the numbers are its
       pub why-undo : (c l f : ℕ) → Reason space old b c l f
@@ -279,12 +283,12 @@ module _ (F : Format) where
       undo-allowed w un e = go (load F space old b) (load-says space old b) (load-in F regular space old b) e
         where
           go : (x : Answer) → LoadSays space old b x → AnswerIn x → undone room space (undoBytes F old b) x .answer .code ≡ w → Allowed F old b space
-          go (took new i u d) a n e = a
-          go (refused c l f) r n e = absurd (un (subst (λ z. T (among z loadCodes)) e n))
+          go (took new m) a n e = a
+          go (refused x) r n e = absurd (un (subst (λ z. T (among z loadCodes)) e n))
 
       -- the code of undo where all is allowed
       undo-long : ℕ
-      undo-long = pick (leb (length (undoBytes F old b)) room) 0 17
+      undo-long = pick (leb (length (undoBytes F old b)) room) allDone undoTooLong
 
       undo-code : Allowed F old b space → undoFile F old b room space .answer .code ≡ undo-long
       unfolding undo-long
@@ -294,7 +298,7 @@ module _ (F : Format) where
       unfolding undo-long
       short-0 h = rw (T-true (leb (length (undoBytes F old b)) room) (le→leb (length (undoBytes F old b)) room h))
 
-      long-17 : room < length (undoBytes F old b) → undo-long ≡ 17
+      long-17 : room < length (undoBytes F old b) → undo-long ≡ undoTooLong
       unfolding undo-long
       long-17 h = rw (no-true (leb (length (undoBytes F old b)) room) (λ t. omega (arith, h, leb→le (length (undoBytes F old b)) room t)))
 
@@ -312,7 +316,7 @@ module _ (F : Format) where
           go (no h) e = absurd (omega (arith, e, long-17 (omega arith)))
 
       -- 17 exactly if all is allowed with the room of the work buffer, and the undo is longer than its output
-      pub undo-17 : (undoFile F old b room space .answer .code ≡ 17) ↔ (Allowed F old b space × (room < length (undoBytes F old b)))
+      pub undo-17 : (undoFile F old b room space .answer .code ≡ undoTooLong) ↔ (Allowed F old b space × (room < length (undoBytes F old b)))
       undo-17 = (
         λ e.
             let a = undo-allowed 17 (λ t. unfold among in t) e in
@@ -320,31 +324,31 @@ module _ (F : Format) where
         λ w. undo-code (w .0) ∙ long-17 (w .1),
       )
         where
-          go : Dec (length (undoBytes F old b) ≤ room) → undo-long ≡ 17 → room < length (undoBytes F old b)
+          go : Dec (length (undoBytes F old b) ≤ room) → undo-long ≡ undoTooLong → room < length (undoBytes F old b)
           go (yes h) e = absurd (omega (arith, e, short-0 h))
           go (no h) e = omega arith
 
       -- 14 exactly if the holding is unsound
-      pub undo-14 : (undoFile F old b room space .answer .code ≡ 14) ↔ Unsound old
+      pub undo-14 : (undoFile F old b room space .answer .code ≡ holdingUnsound) ↔ Unsound old
       undo-14 = (
         λ e. reason-14 space old b _ _ _ (undo-why (λ z. omega (arith, e, z)) (λ z. omega (arith, e, z))) e,
-        λ u. why-undo 14 (checkHolding F old .line) 0 (badHolding u (refl, refl, refl)) .0,
+        λ u. why-undo holdingUnsound (checkHolding F old .line) 0 (badHolding u (refl, refl, refl)) .0,
       )
 
       -- 13 at line 0 exactly if a sound holding is longer than the work buffer before the first step of a sound file
-      pub undo-start : (m : BothSound old b) → ((undoFile F old b room space .answer .code ≡ 13) × (undoFile F old b room space .answer .line ≡ 0)) ↔ (T (fits space (m .st)) → ⊥)
+      pub undo-start : (m : BothSound old b) → ((undoFile F old b room space .answer .code ≡ holdingTooLong) × (undoFile F old b room space .answer .line ≡ 0)) ↔ (T (fits space (m .st)) → ⊥)
       undo-start m = (
         λ e. reason-start space old b _ _ _ (undo-why (λ z. omega (arith, e .0, z)) (λ z. omega (arith, e .0, z))) (e .1) m,
-        λ n. let w = why-undo 13 0 0 (noStart m n (refl, refl, refl)) in (w .0, w .1),
+        λ n. let w = why-undo holdingTooLong 0 0 (noStart m n (refl, refl, refl)) in (w .0, w .1),
       )
 
       -- where all is lawful, 13 exactly if the work buffer hasn't room at every step
-      pub undo-13 : (st : List Rec) → SoundHolding F old st → Lawful F st b → (undoFile F old b room space .answer .code ≡ 13) ↔ (Roomy F space st b → ⊥)
+      pub undo-13 : (st : List Rec) → SoundHolding F old st → Lawful F st b → (undoFile F old b room space .answer .code ≡ holdingTooLong) ↔ (Roomy F space st b → ⊥)
       undo-13 st h l = (
         λ e w. neither (decLe (length (undoBytes F old b)) room) (sym (undo-code (done-allowed F regular old b space (lawful-exactly F regular old b space st h w .1 l))) ∙ e),
         λ n. reason-13 space old b _ _ _ (undo-why (λ z. n (allowed-roomy space old b st h (undo-0 .0 z .0))) (λ z. n (allowed-roomy space old b st h (undo-17 .0 z .0)))) st h l,
       )
         where
-          neither : Dec (length (undoBytes F old b) ≤ room) → undo-long ≡ 13 → ⊥
+          neither : Dec (length (undoBytes F old b) ≤ room) → undo-long ≡ holdingTooLong → ⊥
           neither (yes h) e = omega (arith, e, short-0 h)
           neither (no h) e = omega (arith, e, long-17 (omega arith))

@@ -18,7 +18,7 @@ use Rattle.base.specs.Tests.{and-l, and-r}
 use Rattle.meaning.specs.Forms.{Form, soundAs}
 use Rattle.meaning.specs.Lines.{fieldsFrom, fieldsOf, hasFields}
 use Rattle.meaning.specs.Kinds.{Kind, kinds}
-use Rattle.meaning.specs.Format.{Field, named, placeFrom, startDate, endDate}
+use Rattle.meaning.specs.Format.{Field, named, fieldNumber, startDate, endDate}
 use Rattle.meaning.specs.Table.{fields, scottish}
 use Rattle.meaning.specs.Codes.{fieldCountWrong, fieldMalformed, endBeforeStart}
 use Rattle.meaning.specs.Answers as meant
@@ -162,22 +162,22 @@ dates-told (y ∷ s) (x ∷ e) o p b m n t q h = rw (← t, q) h
 pub ruleset dates = (needs, dates-no-end, dates-no-start, dates-told)
 
 -- a place is one of those counted
-pub place-from : (n : ℕ) (s : String) (ds : List Field) → (placeFrom n s ds ≡ 0 → ⊥) → n ≤ placeFrom n s ds
-unfolding placeFrom
+pub place-from : (n : ℕ) (s : String) (ds : List Field) → (fieldNumber n s ds ≡ 0 → ⊥) → n ≤ fieldNumber n s ds
+unfolding fieldNumber
 place-from n s [] h = absurd (h refl)
 place-from n s (d ∷ ds) h = go (eqt s (d .name)) h (place-from (suc n) s ds)
   where
-    go : (b : Bool) → (pick b n (placeFrom (suc n) s ds) ≡ 0 → ⊥) → ((placeFrom (suc n) s ds ≡ 0 → ⊥) → suc n ≤ placeFrom (suc n) s ds) → n ≤ pick b n (placeFrom (suc n) s ds)
+    go : (b : Bool) → (pick b n (fieldNumber (suc n) s ds) ≡ 0 → ⊥) → ((fieldNumber (suc n) s ds ≡ 0 → ⊥) → suc n ≤ fieldNumber (suc n) s ds) → n ≤ pick b n (fieldNumber (suc n) s ds)
     go true h ih = omega arith
     go false h ih = omega (arith, ih h)
 
 -- and none is past the last
-place-to : (n : ℕ) (s : String) (ds : List Field) → placeFrom (suc n) s ds ≤ n + length ds
-unfolding placeFrom
+place-to : (n : ℕ) (s : String) (ds : List Field) → fieldNumber (suc n) s ds ≤ n + length ds
+unfolding fieldNumber
 place-to n s [] = omega arith
 place-to n s (d ∷ ds) = go (eqt s (d .name)) (place-to (suc n) s ds)
   where
-    go : (b : Bool) → placeFrom (suc (suc n)) s ds ≤ suc n + length ds → pick b (suc n) (placeFrom (suc (suc n)) s ds) ≤ n + suc (length ds)
+    go : (b : Bool) → fieldNumber (suc (suc n)) s ds ≤ suc n + length ds → pick b (suc n) (fieldNumber (suc (suc n)) s ds) ≤ n + suc (length ds)
     go true h = omega arith
     go false h = omega arith
 
@@ -193,30 +193,30 @@ pub fields-high : (kd : Kind) → length (fields kd) ≤ 32
 fields-high kd = leb→le (length (fields kd)) 32 (and-r (leb 1 (length (fields kd))) (leb (length (fields kd)) 32) (fields-few kd))
 
 -- the field of a name is the one at its place
-pub named-at : (n : ℕ) (s : String) (ds : List Field) (fs : List (List ℕ)) → (placeFrom (suc n) s ds ≡ 0 → ⊥) → named s ds fs ≡ getD fs (placeFrom (suc n) s ds - suc n) []
-unfolding named placeFrom
+pub named-at : (n : ℕ) (s : String) (ds : List Field) (fs : List (List ℕ)) → (fieldNumber (suc n) s ds ≡ 0 → ⊥) → named s ds fs ≡ getD fs (fieldNumber (suc n) s ds - suc n) []
+unfolding named fieldNumber
 named-at n s [] fs h = absurd (h refl)
 named-at n s (d ∷ ds) [] h = refl
 named-at n s (d ∷ ds) (f ∷ fs) h = go (eqt s (d .name)) h (place-from (suc (suc n)) s ds) (named-at (suc n) s ds fs)
   where
-    go : (b : Bool) → (pick b (suc n) (placeFrom (suc (suc n)) s ds) ≡ 0 → ⊥) → ((placeFrom (suc (suc n)) s ds ≡ 0 → ⊥) → suc (suc n) ≤ placeFrom (suc (suc n)) s ds)
-        → ((placeFrom (suc (suc n)) s ds ≡ 0 → ⊥) → named s ds fs ≡ getD fs (placeFrom (suc (suc n)) s ds - suc (suc n)) [])
-        → pick b f (named s ds fs) ≡ getD (f ∷ fs) (pick b (suc n) (placeFrom (suc (suc n)) s ds) - suc n) []
+    go : (b : Bool) → (pick b (suc n) (fieldNumber (suc (suc n)) s ds) ≡ 0 → ⊥) → ((fieldNumber (suc (suc n)) s ds ≡ 0 → ⊥) → suc (suc n) ≤ fieldNumber (suc (suc n)) s ds)
+        → ((fieldNumber (suc (suc n)) s ds ≡ 0 → ⊥) → named s ds fs ≡ getD fs (fieldNumber (suc (suc n)) s ds - suc (suc n)) [])
+        → pick b f (named s ds fs) ≡ getD (f ∷ fs) (pick b (suc n) (fieldNumber (suc (suc n)) s ds) - suc n) []
     go true h l ih = let z : suc n - suc n ≡ 0 = omega arith in rw z
     go false h l ih =
         let m = l h in
-        let z : placeFrom (suc (suc n)) s ds - suc n ≡ suc (placeFrom (suc (suc n)) s ds - suc (suc n)) = omega arith in
+        let z : fieldNumber (suc (suc n)) s ds - suc n ≡ suc (fieldNumber (suc (suc n)) s ds - suc (suc n)) = omega arith in
         rw z (ih h)
 
 module _ (kd : Kind) (t a : List ℕ) (l : Layout) (e : l ≡ laidOut kd) (p : Parted kd t a) where
   -- a place in the table is one of the line's fields
   pub start-there : (l .start ≡ 0 → ⊥) → l .start - 1 < length (fieldsOf t)
   unfolding laidOut
-  start-there n = let v : l .start ≡ placeFrom 1 startDate (fields kd) = ap (λ x. x .start) e in omega (arith, v, place-to 0 startDate (fields kd), fields-many t (length (fields kd)) (p .many))
+  start-there n = let v : l .start ≡ fieldNumber 1 startDate (fields kd) = ap (λ x. x .start) e in omega (arith, v, place-to 0 startDate (fields kd), fields-many t (length (fields kd)) (p .many))
 
   pub end-there : (l .end ≡ 0 → ⊥) → l .end - 1 < length (fieldsOf t)
   unfolding laidOut
-  end-there n = let v : l .end ≡ placeFrom 1 endDate (fields kd) = ap (λ x. x .end) e in omega (arith, v, place-to 0 endDate (fields kd), fields-many t (length (fields kd)) (p .many))
+  end-there n = let v : l .end ≡ fieldNumber 1 endDate (fields kd) = ap (λ x. x .end) e in omega (arith, v, place-to 0 endDate (fields kd), fields-many t (length (fields kd)) (p .many))
 
   -- and its end is noted
   pub noted-there : (k : ℕ) → k < length (fieldsOf t) → k < length a
@@ -241,7 +241,7 @@ module _ (kd : Kind) (t : List ℕ) (l : Layout) (e : l ≡ laidOut kd) where
   pub kind-end-empty : (f : List ℕ) → (l .end ≡ 0 → ⊥) → f ≡ getD (fieldsOf t) (l .end - 1) [] → length f ≡ 0 → true ≡ kindDates kd (fieldsOf t)
   unfolding laidOut kindDates
   kind-end-empty f n q h =
-      let v : l .end ≡ placeFrom 1 endDate (fields kd) = ap (λ x. x .end) e in
+      let v : l .end ≡ fieldNumber 1 endDate (fields kd) = ap (λ x. x .end) e in
       rw (named-at 0 endDate (fields kd) (fieldsOf t) (λ z. n (v ∙ z)), ← v, ← q) (dates-no-end _ f h)
 
   -- else the two fields say it
@@ -249,8 +249,8 @@ module _ (kd : Kind) (t : List ℕ) (l : Layout) (e : l ≡ laidOut kd) where
       → b ≡ kindDates kd (fieldsOf t)
   unfolding laidOut kindDates
   kind-dates b s f m n p q h =
-      let u : l .start ≡ placeFrom 1 startDate (fields kd) = ap (λ x. x .start) e in
-      let v : l .end ≡ placeFrom 1 endDate (fields kd) = ap (λ x. x .end) e in
+      let u : l .start ≡ fieldNumber 1 startDate (fields kd) = ap (λ x. x .start) e in
+      let v : l .end ≡ fieldNumber 1 endDate (fields kd) = ap (λ x. x .end) e in
       rw (named-at 0 startDate (fields kd) (fieldsOf t) (λ z. m (u ∙ z)), named-at 0 endDate (fields kd) (fieldsOf t) (λ z. n (v ∙ z)), ← u, ← v, ← p, ← q) h
 
 pub ruleset kinddates = (needs, start-there, end-there, noted-there, kind-no-start, kind-no-end, kind-end-empty, kind-dates)
@@ -260,10 +260,10 @@ pub ruleset kinddates = (needs, start-there, end-there, noted-there, kind-no-sta
 -- the meaning's questions, by what is answered
 pub fault-is : (kd : Kind) (t : List ℕ) (rest : Option meant.Fault) → formFault scottish kd t rest
     ≡ ask (hasFields (length (fields kd)) t) (ofLine fieldCountWrong)
-    (pick (eqb (lowestBad 1 (map bare (fields kd)) (fieldsOf t)) 0) (ask (kindDates kd (fieldsOf t)) (ofField endBeforeStart (placeFrom 1 endDate (fields kd))) rest)
+    (pick (eqb (lowestBad 1 (map bare (fields kd)) (fieldsOf t)) 0) (ask (kindDates kd (fieldsOf t)) (ofField endBeforeStart (fieldNumber 1 endDate (fields kd))) rest)
     (some (ofField fieldMalformed (lowestBad 1 (map bare (fields kd)) (fieldsOf t)))))
 unfolding formFault fieldFault kindDates
-fault-is kd t rest = rw (forms-is 0 (fields kd) (fieldsOf t) (ask (datesAgree (named startDate (fields kd) (fieldsOf t)) (named endDate (fields kd) (fieldsOf t))) (ofField endBeforeStart (placeFrom 1 endDate (fields kd))) rest))
+fault-is kd t rest = rw (forms-is 0 (fields kd) (fieldsOf t) (ask (datesAgree (named startDate (fields kd) (fieldsOf t)) (named endDate (fields kd) (fieldsOf t))) (ofField endBeforeStart (fieldNumber 1 endDate (fields kd))) rest))
 
 module _ (kd : Kind) (t : List ℕ) (l : Layout) (e : l ≡ laidOut kd) where
   -- as many fields as the kind has
@@ -294,7 +294,7 @@ module _ (kd : Kind) (t : List ℕ) (l : Layout) (e : l ≡ laidOut kd) where
       -- 6 for END_DATE before START_DATE
       pub fault-dates : b ≡ false → (x : Fault) → x ≡ faultOf (ofField endBeforeStart (l .end)) → x ≡ told (formFault scottish kd t none)
       unfolding ask laidOut
-      fault-dates g x m = let v : l .end ≡ placeFrom 1 endDate (fields kd) = ap (λ x. x .end) e in m ∙ rw (fault-is kd t none, ← right-count c p f, ← q, eq-eqb n 0 z, sym r ∙ g, v)
+      fault-dates g x m = let v : l .end ≡ fieldNumber 1 endDate (fields kd) = ap (λ x. x .end) e in m ∙ rw (fault-is kd t none, ← right-count c p f, ← q, eq-eqb n 0 z, sym r ∙ g, v)
 
       -- else none
       pub fault-none : b ≡ true → (x : Fault) → x ≡ noFaultAt → x ≡ told (formFault scottish kd t none)

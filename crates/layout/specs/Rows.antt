@@ -9,7 +9,7 @@ use Rattle.base.specs.Lists.{pick, zeros}
 use Rattle.theory.specs.Decimal.{value}
 use Rattle.meaning.specs.Forms.{Form, number, atLeast1, decimal, date, time, text, changeType, xrefType, fileType, keyText}
 use Rattle.meaning.specs.Kinds.{Kind, ident}
-use Rattle.meaning.specs.Format.{Field, placeFrom, startDate, endDate}
+use Rattle.meaning.specs.Format.{Field, fieldNumber, startDate, endDate}
 use Rattle.meaning.specs.Table.{fields, keyNames, refersTo}
 use Rattle.layout.specs.declared.records.Layout.{Layout}
 
@@ -55,7 +55,7 @@ decoded c = (formDecoded c, filledDecoded c)
 -- the places of the fields of these names
 unfoldable pub placesOf : Kind → List String → List ℕ
 placesOf k [] = []
-placesOf k (s ∷ ss) = placeFrom 1 s (fields k) ∷ placesOf k ss
+placesOf k (s ∷ ss) = fieldNumber 1 s (fields k) ∷ placesOf k ss
 
 -- so many numbers: those given, then zeros
 unfoldable pub padded : ℕ → List ℕ → List ℕ
@@ -78,8 +78,8 @@ unfoldable pub laidOut : Kind → Layout
 laidOut k = record {
   number = value (ident k);
   count = length (fields k);
-  start = placeFrom 1 startDate (fields k);
-  end = placeFrom 1 endDate (fields k);
+  start = fieldNumber 1 startDate (fields k);
+  end = fieldNumber 1 endDate (fields k);
   key = padded 3 (placesOf k (keyNames k));
   to = padded 2 (targets (refersTo k));
   by = padded 2 (placesOf k (sources (refersTo k)));

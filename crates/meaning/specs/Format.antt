@@ -47,9 +47,9 @@ abbrev pub recordCount : String
 recordCount = "RECORD_COUNT"
 
 -- the number of the field of that name, counted from n; 0 where there is none
-unfoldable pub placeFrom : ℕ → String → List Field → ℕ
-placeFrom n s [] = 0
-placeFrom n s (d ∷ ds) = pick (eqt s (d .name)) n (placeFrom (suc n) s ds)
+unfoldable pub fieldNumber : ℕ → String → List Field → ℕ
+fieldNumber n s [] = 0
+fieldNumber n s (d ∷ ds) = pick (eqt s (d .name)) n (fieldNumber (suc n) s ds)
 
 -- the bytes of the field of that name; none where there is none
 unfoldable pub named : String → List Field → List (List ℕ) → List ℕ

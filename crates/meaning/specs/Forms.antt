@@ -26,8 +26,8 @@ unfoldable pub isNumber : ℕ → List ℕ → Bool
 isNumber w f = leb 1 (length f) && (leb (length f) w && all isDigit f)
 
 -- so many digits
-unfoldable pub digits : ℕ → List ℕ → Bool
-digits d f = eqb (length f) d && all isDigit f
+unfoldable pub isDigits : ℕ → List ℕ → Bool
+isDigits d f = eqb (length f) d && all isDigit f
 
 -- without a minus in front
 unfoldable pub unsigned : List ℕ → List ℕ
@@ -36,7 +36,7 @@ unsigned (x ∷ r) = pick (eqb x 45) r (x ∷ r)
 
 -- N w.d: an optional minus, 1 to w digits, a point, d digits (d is 1 or more)
 unfoldable pub isDecimal : ℕ → ℕ → List ℕ → Bool
-isDecimal w d f = isNumber w (upTo 46 (unsigned f)) && digits d (past 46 (unsigned f))
+isDecimal w d f = isNumber w (upTo 46 (unsigned f)) && isDigits d (past 46 (unsigned f))
 
 -- a year with a 29 February
 unfoldable pub isLeap : ℕ → Bool
@@ -54,12 +54,12 @@ isDay y m d = leb 1583 y && (leb 1 m && (leb m 12 && (leb 1 d && leb d (daysIn y
 unfoldable pub isDate : List ℕ → Bool
 isDate f =
     eqb (length f) 10
-    && ((digits 4 (part f 0 4) && (same (part f 4 5) (45 ∷ []) && (digits 2 (part f 5 7) && (same (part f 7 8) (45 ∷ []) && digits 2 (part f 8 10)))))
+    && ((isDigits 4 (part f 0 4) && (same (part f 4 5) (45 ∷ []) && (isDigits 2 (part f 5 7) && (same (part f 7 8) (45 ∷ []) && isDigits 2 (part f 8 10)))))
     && isDay (value (part f 0 4)) (value (part f 5 7)) (value (part f 8 10)))
 
 -- HHMMSS, 000000 to 235959
 unfoldable pub isTime : List ℕ → Bool
-isTime f = digits 6 f && (leb (value (part f 0 2)) 23 && (leb (value (part f 2 4)) 59 && leb (value (part f 4 6)) 59))
+isTime f = isDigits 6 f && (leb (value (part f 0 2)) 23 && (leb (value (part f 2 4)) 59 && leb (value (part f 4 6)) 59))
 
 -- each byte of a text is 0x20 or more and neither 0x22 nor 0x7F
 unfoldable pub isTextByte : ℕ → Bool
@@ -116,7 +116,7 @@ module _ (rule : TextRule) where
 
   -- four digits, a letter, nine digits, in quotes
   unfoldable pub isKey : ℕ → List ℕ → Bool
-  isKey letter f = isText 14 f && (eqb (length f) 16 && (digits 4 (part f 1 5) && (same (part f 5 6) (letter ∷ []) && digits 9 (part f 6 15))))
+  isKey letter f = isText 14 f && (eqb (length f) 16 && (isDigits 4 (part f 1 5) && (same (part f 5 6) (letter ∷ []) && isDigits 9 (part f 6 15))))
 
   -- a filled field has the form
   unfoldable pub hasForm : Form → List ℕ → Bool

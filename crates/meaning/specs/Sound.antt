@@ -10,7 +10,7 @@ use Rattle.base.specs.Lists.{ask}
 use Rattle.meaning.specs.Lines.{fieldsOf, hasFields}
 use Rattle.meaning.specs.Forms.{soundAs}
 use Rattle.meaning.specs.Kinds.{Kind}
-use Rattle.meaning.specs.Format.{Format, Field, named, placeFrom, startDate, endDate}
+use Rattle.meaning.specs.Format.{Format, Field, named, fieldNumber, startDate, endDate}
 use Rattle.meaning.specs.Codes.{fieldCountWrong, fieldMalformed, endBeforeStart}
 use Rattle.meaning.specs.Answers.{Fault, ofLine, ofField}
 
@@ -35,7 +35,7 @@ module _ (F : Format) where
 
   -- 5, then 6, of the fields of a line from number n on
   unfoldable pub fieldFault : ℕ → List Field → List (List ℕ) → Option Fault → Option Fault
-  fieldFault n ds fs rest = forms n ds fs (ask (datesAgree (named startDate ds fs) (named endDate ds fs)) (ofField endBeforeStart (placeFrom n endDate ds)) rest)
+  fieldFault n ds fs rest = forms n ds fs (ask (datesAgree (named startDate ds fs) (named endDate ds fs)) (ofField endBeforeStart (fieldNumber n endDate ds)) rest)
 
   -- 4, then 5, then 6; else the rest is asked
   unfoldable pub formFault : Kind → List ℕ → Option Fault → Option Fault

@@ -13,7 +13,7 @@ use lib.Seq.{take-all}
 use Rattle.base.specs.Lists.{pick, upTo, past}
 use Rattle.base.proofs.Walk.{at-cons, at-end}
 use Rattle.theory.specs.Decimal.{value, valueF}
-use Rattle.meaning.specs.Forms.{isNumber, digits, unsigned, isDecimal}
+use Rattle.meaning.specs.Forms.{isNumber, isDigits, unsigned, isDecimal}
 
 -- ---- digits worth 1 or more
 
@@ -102,12 +102,12 @@ module _ (g : List ℕ) (w d p : ℕ) (b : Bool) (e : p ≡ length (upTo 46 g)) 
   whole = let z : p - 0 ≡ length (upTo 46 g) = omega arith in q ∙ rw (z, before 46 g)
 
   -- what stands before the point is no number
-  pub pointed-stop : b ≡ false → false ≡ (isNumber w (upTo 46 g) && digits d (past 46 g))
+  pub pointed-stop : b ≡ false → false ≡ (isNumber w (upTo 46 g) && isDigits d (past 46 g))
   pointed-stop t = rw (sym whole ∙ t)
 
   -- there is no point, and no digit after it
-  pub pointed-none : b ≡ true → p ≡ length g → eqb d 0 ≡ (isNumber w (upTo 46 g) && digits d (past 46 g))
-  unfolding digits
+  pub pointed-none : b ≡ true → p ≡ length g → eqb d 0 ≡ (isNumber w (upTo 46 g) && isDigits d (past 46 g))
+  unfolding isDigits
   pointed-none t h = rw (sym whole ∙ t, sym (after 46 g), sym e, at-end g (suc p) (omega arith)) (turned d)
     where
       turned : (d : ℕ) → eqb d 0 ≡ (eqb 0 d && true)
@@ -115,7 +115,7 @@ module _ (g : List ℕ) (w d p : ℕ) (b : Bool) (e : p ≡ length (upTo 46 g)) 
       turned (suc d) = rw (eqb·suc-zero d, eqb·zero-suc d)
 
   -- the digits after the point decide
-  pub pointed-done : (r : Bool) → b ≡ true → r ≡ digits d (take (length g - (p + 1)) (drop (p + 1) g)) → r ≡ (isNumber w (upTo 46 g) && digits d (past 46 g))
+  pub pointed-done : (r : Bool) → b ≡ true → r ≡ isDigits d (take (length g - (p + 1)) (drop (p + 1) g)) → r ≡ (isNumber w (upTo 46 g) && isDigits d (past 46 g))
   pointed-done r t k = rw (sym whole ∙ t, sym (after 46 g), sym e) (rw (take-all (length g - (p + 1)) (drop (p + 1) g) (simp length-drop (omega arith)), add-one) at k)
 
 pub ruleset pointed = (needs, not-true, not-false, pointed-stop, pointed-none, pointed-done)

@@ -8,7 +8,7 @@ ghost use lib.Dec.{leb};
 ghost use lib.ListN.{length};
 ghost use Rattle.base.specs.Lists.{all, upTo, past};
 ghost use Rattle.theory.specs.Decimal.{value};
-ghost use Rattle.meaning.specs.Forms.{isDigit, isNumber, digits, isDecimal};
+ghost use Rattle.meaning.specs.Forms.{isDigit, isNumber, isDigits, isDecimal};
 
 pub mod calendar; // dates and times
 
@@ -38,7 +38,7 @@ pub fn is_digits(f: &[u8]) -> bool
 
 // Whether a field is just so many digits.
 pub fn has_digits(f: &[u8], n: usize) -> bool
-    ensures { λ r. ⌜ r ≡ digits n (now (f .entry)) ⌝ }
+    ensures { λ r. ⌜ r ≡ isDigits n (now (f .entry)) ⌝ }
 {
     if f.len() != n {
         return false;
@@ -99,7 +99,7 @@ pub fn point_at(g: &[u8]) -> usize
 
 // Whether a field with no minus is 1 to w digits, a point and d digits.
 pub fn is_pointed(g: &[u8], w: usize, d: usize) -> bool
-    ensures { λ r. ⌜ r ≡ (isNumber w (upTo 46 (now (g .entry))) && digits d (past 46 (now (g .entry)))) ⌝ }
+    ensures { λ r. ⌜ r ≡ (isNumber w (upTo 46 (now (g .entry))) && isDigits d (past 46 (now (g .entry)))) ⌝ }
 {
     let p = point_at(g);
     if !is_number(&g[0..p], w) {

@@ -20,8 +20,8 @@ use Rattle.theory.specs.Fold.{sum?}
 use Rattle.theory.specs.FoldLaws.{sum-put}
 use Rattle.theory.specs.Store.{cons?, put, puts, get, gets, Low, Asc}
 use Rattle.theory.specs.StoreLaws.{low-down, low-same}
-use Rattle.theory.specs.Place.{rank, ranks}
-use Rattle.theory.specs.PlaceLaws.{put-at}
+use Rattle.theory.specs.Rank.{rank, ranks}
+use Rattle.theory.specs.RankLaws.{put-at}
 use Rattle.theory.specs.Refs.{apart, has, meets, clear}
 use Rattle.theory.specs.RefsLaws.{by-key}
 use Rattle.meaning.specs.Records.{Rec}

@@ -11,7 +11,7 @@ use Rattle.base.specs.Lists.{all}
 use Rattle.theory.specs.FoldLaws.{length-put, get-all?}
 use Rattle.theory.specs.Store.{put, get, Asc}
 use Rattle.theory.specs.StoreLaws.{asc-put}
-use Rattle.theory.specs.Place.{rank}
+use Rattle.theory.specs.Rank.{rank}
 use Rattle.theory.specs.Refs.{meets}
 use Rattle.meaning.specs.Records.{Rec}
 use Rattle.meaning.specs.Holding.{mostRecords}

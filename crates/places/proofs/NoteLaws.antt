@@ -18,7 +18,7 @@ use Rattle.base.specs.Tests.{and-r}
 use Rattle.theory.specs.Tri.{isEq}
 use Rattle.theory.specs.Lex.{lex}
 use Rattle.theory.specs.Store.{cons?, get}
-use Rattle.theory.specs.Place.{rank}
+use Rattle.theory.specs.Rank.{rank}
 use Rattle.theory.specs.Refs.{apart, has}
 use Rattle.meaning.specs.Records.{Rec}
 use Rattle.keys.specs.declared.Key.{Key}

@@ -12,8 +12,8 @@ use lib.Seq.{drop-cons, length-take-le, getD-take, take-take, set-split, take-at
 use Rattle.base.specs.Lists.{all}
 use Rattle.base.specs.Tests.{and-l, and-r}
 use Rattle.theory.specs.Store.{get, put}
-use Rattle.theory.specs.Place.{rank}
-use Rattle.theory.specs.PlaceLaws.{put-at}
+use Rattle.theory.specs.Rank.{rank}
+use Rattle.theory.specs.RankLaws.{put-at}
 use Rattle.meaning.specs.Records.{Rec}
 use Rattle.keys.specs.Numbers.{numbered}
 use Rattle.entries.specs.Entries.{recordOf}

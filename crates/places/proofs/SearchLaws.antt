@@ -16,8 +16,8 @@ use Rattle.theory.specs.Tri.{Tri, lt, eq, gt, isEq, isGt}
 use Rattle.theory.specs.Lex.{lex}
 use Rattle.theory.specs.Keyed.{Keyed}
 use Rattle.theory.specs.Store.{get, gets, Asc}
-use Rattle.theory.specs.Place.{ahead, rank, ranks}
-use Rattle.theory.specs.PlaceLaws.{rank-scan, rank-stop, ahead-before}
+use Rattle.theory.specs.Rank.{ahead, rank, ranks}
+use Rattle.theory.specs.RankLaws.{rank-scan, rank-stop, ahead-before}
 use Rattle.text.specs.declared.order.Order.{Order}
 use Rattle.text.specs.Order.{triOf}
 use Rattle.keys.specs.Numbers.{keyNumbers, numbered}

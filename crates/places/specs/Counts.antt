@@ -9,7 +9,7 @@ use lib.ListN.{getD, set}
 use Rattle.base.specs.Lists.{pick}
 use Rattle.theory.specs.Fold.{sum}
 use Rattle.theory.specs.Store.{cons?}
-use Rattle.theory.specs.Place.{rank}
+use Rattle.theory.specs.Rank.{rank}
 use Rattle.theory.specs.Refs.{apart, has, meets}
 use Rattle.meaning.specs.Records.{Rec}
 use Rattle.keys.specs.Numbers.{keyNumbers, refNumbers, numbered}

@@ -3,7 +3,7 @@ ghost use mathlib.Core.Path.{_≡_};
 ghost use Prim.Native.Nat.{_≤_};
 ghost use Rattle.base.specs.Lists.{some?};
 ghost use Rattle.theory.specs.Store.{get};
-ghost use Rattle.theory.specs.Place.{rank};
+ghost use Rattle.theory.specs.Rank.{rank};
 ghost use Rattle.theory.specs.Lex.{lex};
 ghost use Rattle.text.specs.Order.{triOf};
 ghost use Rattle.keys.specs.Numbers.{keyList, keyNumbers, numbered};

@@ -9,7 +9,7 @@ use Rattle.base.specs.Tests.{and-l, and-r}
 use Rattle.theory.specs.Tri.{Tri, lt, eq, gt}
 use Rattle.theory.specs.Keyed.{Order, Keyed}
 use Rattle.theory.specs.Store.{put, puts, get, gets, Low, Asc}
-use Rattle.theory.specs.Place.{rank, ranks}
+use Rattle.theory.specs.Rank.{rank, ranks}
 
 -- the same records by another key
 abbrev pub rekeyed : (K : Keyed) (J : Type 0) (cmp : J → J → Tri) → Order J cmp → (K .Rec → J) → Keyed

@@ -15,10 +15,10 @@ use Rattle.theory.specs.Step.{Op, ins, upd, del}
 use Rattle.theory.specs.Answer.{fault, file, isOp, count}
 use Rattle.meaning.specs.Lines.{linesOf, identifier, fieldsOf, hasFields}
 use Rattle.meaning.specs.Kinds.{Kind, Role, headerLine, bodyLine, metadataLine, trailerLine, role}
-use Rattle.meaning.specs.Format.{kindOf, named, placeFrom, endDate, proOrder, recordCount}
+use Rattle.meaning.specs.Format.{kindOf, named, fieldNumber, endDate, proOrder, recordCount}
 use Rattle.meaning.specs.Table.{fields, scottish}
 use Rattle.meaning.specs.Records.{opOf, changeOf}
-use Rattle.meaning.specs.File.{Place, atStart, next, hasRoom, countFault, Judged, bad, good, lineFault, verdict, judgeKind, judgeText, judgeLine, Sheet, addLine, adds, bodyAfter, onLine, readFrom, readFile}
+use Rattle.meaning.specs.File.{Stage, atStart, next, hasRoom, countFault, Judged, bad, good, lineFault, verdict, judgeKind, judgeText, judgeLine, Sheet, addLine, adds, bodyAfter, onLine, readFrom, readFile}
 use Rattle.meaning.specs.Load.{checked, checkFile}
 use Rattle.meaning.specs.Answers.{Read, Fault, ofLine, ofField, atLine, refusedWith}
 use Rattle.text.specs.Places.{endsHere, lineLen, plainEnd}
@@ -28,13 +28,13 @@ use Rattle.answers.specs.declared.refusal.Fault.{Fault as FaultTold}
 use Rattle.layout.specs.Meant.{kindMeant}
 use Rattle.layout.specs.Check.{kindDates, told}
 use Rattle.layout.proofs.CheckLaws.{fault-is}
-use Rattle.volume.specs.declared.places.Place.{Place as PlaceNamed}
+use Rattle.volume.specs.declared.stages.Stage.{Stage as StageNamed}
 use Rattle.volume.specs.declared.lines.Opened.{Opened}
 use Rattle.volume.specs.declared.lines.Opened.the-variants.{Good, Bad}
 use Rattle.volume.specs.declared.walk.Walk.{Walk}
 use Rattle.answers.specs.declared.refusal.Refusal.{Refusal}
 use Rattle.answers.specs.declared.numbers.Answer.{Answer}
-use Rattle.volume.specs.Meant.{placeMeant}
+use Rattle.volume.specs.Meant.{stageMeant}
 use Rattle.volume.specs.Judged.{opensAt, opensAs, opens, closes, judgedAs}
 use Rattle.volume.specs.Walk.{unwalked, tally, walkedOn, checkedFrom, leftOf, Within}
 use Rattle.answers.specs.Meant.{faultMeant, refusalOf, refusalMeant, answerOf}
@@ -50,25 +50,25 @@ fully n t (bad f) = bad f
 fully n t (good k q) = verdict (pick (eqb (lowest k t) 0) (closes n k t) (some (ofField fieldMalformed (lowest k t)))) k q
 
 -- that is the meaning's judgement
-judge-is : (p : Place) (n : ℕ) (b : Bool) (t : List ℕ) → pick b (judgeText scottish p n t (kindOf scottish (identifier t))) (bad (ofLine endingWrong)) ≡ fully n t (opens p n b t)
+judge-is : (p : Stage) (n : ℕ) (b : Bool) (t : List ℕ) → pick b (judgeText scottish p n t (kindOf scottish (identifier t))) (bad (ofLine endingWrong)) ≡ fully n t (opens p n b t)
 unfolding opens opensAs opensAt judgeText judgeKind verdict lineFault closes ask
 judge-is p n false t = refl
 judge-is p n true t = kinded (kindOf scottish (identifier t))
   where
-    asked : (k : Kind) (q : Place) (r f : Bool) (rest : Option Fault)
+    asked : (k : Kind) (q : Stage) (r f : Bool) (rest : Option Fault)
         → verdict (ask r (ofLine tooManyBodyLines) (ask f (ofLine fieldCountWrong) rest)) k q ≡ pick r (pick f (verdict rest k q) (bad (ofLine fieldCountWrong))) (bad (ofLine tooManyBodyLines))
     asked k q true true rest = refl
     asked k q true false rest = refl
     asked k q false f rest = refl
 
-    opened : (k : Kind) (q : Place) (r f : Bool)
+    opened : (k : Kind) (q : Stage) (r f : Bool)
         → pick r (pick f (verdict (pick (eqb (lowest k t) 0) (closes n k t) (some (ofField fieldMalformed (lowest k t)))) k q) (bad (ofLine fieldCountWrong))) (bad (ofLine tooManyBodyLines))
         ≡ fully n t (verdict (ask r (ofLine tooManyBodyLines) (ask f (ofLine fieldCountWrong) none)) k q)
     opened k q true true = refl
     opened k q true false = refl
     opened k q false f = refl
 
-    placed : (k : Kind) (o : Option Place) → judgeKind scottish n t k o ≡ fully n t (opensAt n t k o)
+    placed : (k : Kind) (o : Option Stage) → judgeKind scottish n t k o ≡ fully n t (opensAt n t k o)
     placed k none = refl
     placed k (some q) =
         rw (fault-is k t (countFault scottish (role k) n k t))
@@ -80,17 +80,17 @@ judge-is p n true t = kinded (kindOf scottish (identifier t))
     kinded (some k) = placed k (next p (role k))
 
 -- a line that was opened has as many fields as its kind
-opened-fields : (p : Place) (n : ℕ) (b : Bool) (t : List ℕ) (k : Kind) (q : Place) → good k q ≡ opens p n b t → hasFields (length (fields k)) t ≡ true
+opened-fields : (p : Stage) (n : ℕ) (b : Bool) (t : List ℕ) (k : Kind) (q : Stage) → good k q ≡ opens p n b t → hasFields (length (fields k)) t ≡ true
 unfolding opens opensAs opensAt verdict ask
 opened-fields p n false t k q e = let z : good k q ≡ bad (ofLine endingWrong) = e in cc
 opened-fields p n true t k q e = kinded (kindOf scottish (identifier t)) e
   where
-    asked : (k′ : Kind) (q′ : Place) (r f : Bool) → good k q ≡ verdict (ask {A = Fault} r (ofLine tooManyBodyLines) (ask {A = Fault} f (ofLine fieldCountWrong) none)) k′ q′ → f ≡ hasFields (length (fields k′)) t → hasFields (length (fields k)) t ≡ true
+    asked : (k′ : Kind) (q′ : Stage) (r f : Bool) → good k q ≡ verdict (ask {A = Fault} r (ofLine tooManyBodyLines) (ask {A = Fault} f (ofLine fieldCountWrong) none)) k′ q′ → f ≡ hasFields (length (fields k′)) t → hasFields (length (fields k)) t ≡ true
     asked k′ q′ true true e h = let z : good k q ≡ good k′ q′ = e in cc
     asked k′ q′ true false e h = let z : good k q ≡ bad (ofLine fieldCountWrong) = e in cc
     asked k′ q′ false f e h = let z : good k q ≡ bad (ofLine tooManyBodyLines) = e in cc
 
-    placed : (k′ : Kind) (o : Option Place) → good k q ≡ opensAt n t k′ o → hasFields (length (fields k)) t ≡ true
+    placed : (k′ : Kind) (o : Option Stage) → good k q ≡ opensAt n t k′ o → hasFields (length (fields k)) t ≡ true
     placed k′ none e = let z : good k q ≡ bad (ofLine outOfPlace) = e in cc
     placed k′ (some q′) e = asked k′ q′ (hasRoom (role k′) n) (hasFields (length (fields k′)) t) e refl
 
@@ -99,7 +99,7 @@ opened-fields p n true t k q e = kinded (kindOf scottish (identifier t)) e
     kinded (some k′) e = placed k′ (next p (role k′)) e
 
 -- a fault found before a line's fields has a code
-opens-coded : (p : Place) (n : ℕ) (b : Bool) (t : List ℕ) (f : Fault) → bad f ≡ opens p n b t → f .code ≡ 0 → ⊥
+opens-coded : (p : Stage) (n : ℕ) (b : Bool) (t : List ℕ) (f : Fault) → bad f ≡ opens p n b t → f .code ≡ 0 → ⊥
 unfolding opens opensAs opensAt verdict ask
 opens-coded p n b t f e z = go b e
   where
@@ -111,12 +111,12 @@ opens-coded p n b t f e z = go b e
     none-of : (c : ℕ) → 1 ≤ c → f .code ≡ c → ⊥
     none-of c l h = omega (arith, z)
 
-    asked : (k : Kind) (q : Place) (r s : Bool) → bad f ≡ verdict (ask {A = Fault} r (ofLine tooManyBodyLines) (ask {A = Fault} s (ofLine fieldCountWrong) none)) k q → ⊥
+    asked : (k : Kind) (q : Stage) (r s : Bool) → bad f ≡ verdict (ask {A = Fault} r (ofLine tooManyBodyLines) (ask {A = Fault} s (ofLine fieldCountWrong) none)) k q → ⊥
     asked k q true true e = none-of 1 (omega arith) (ap coded e)
     asked k q true false e = none-of fieldCountWrong (omega arith) (ap coded e)
     asked k q false s e = none-of tooManyBodyLines (omega arith) (ap coded e)
 
-    placed : (k : Kind) (o : Option Place) → bad f ≡ opensAt n t k o → ⊥
+    placed : (k : Kind) (o : Option Stage) → bad f ≡ opensAt n t k o → ⊥
     placed k none e = none-of outOfPlace (omega arith) (ap coded e)
     placed k (some q) e = asked k q (hasRoom (role k) n) (hasFields (length (fields k)) t) e
 
@@ -143,12 +143,12 @@ closes-told n k t z = dated (kindDates k (fieldsOf t)) (role k) z
     asked true c f z = refl
     asked false c f z = absurd (omega (arith, z))
 
-    dated : (b : Bool) (r : Role) → told (ask {A = Fault} b (ofField endBeforeStart (placeFrom 1 endDate (fields k))) (countFault scottish r n k t)) .code ≡ 0 → ask {A = Fault} b (ofField endBeforeStart (placeFrom 1 endDate (fields k))) (countFault scottish r n k t) ≡ none
+    dated : (b : Bool) (r : Role) → told (ask {A = Fault} b (ofField endBeforeStart (fieldNumber 1 endDate (fields k))) (countFault scottish r n k t)) .code ≡ 0 → ask {A = Fault} b (ofField endBeforeStart (fieldNumber 1 endDate (fields k))) (countFault scottish r n k t) ≡ none
     dated false r z = absurd (omega (arith, z))
     dated true headerLine z = refl
-    dated true bodyLine z = asked (eqb (value (named proOrder (fields k) (fieldsOf t))) (suc n)) 6 (placeFrom 1 proOrder (fields k)) z
+    dated true bodyLine z = asked (eqb (value (named proOrder (fields k) (fieldsOf t))) (suc n)) 6 (fieldNumber 1 proOrder (fields k)) z
     dated true metadataLine z = refl
-    dated true trailerLine z = asked (eqb (value (named recordCount (fields k) (fieldsOf t))) n) 7 (placeFrom 1 recordCount (fields k)) z
+    dated true trailerLine z = asked (eqb (value (named recordCount (fields k) (fieldsOf t))) n) 7 (fieldNumber 1 recordCount (fields k)) z
 
 -- no code, no fault
 told-none : (n : ℕ) (k : Kind) (t : List ℕ) (f : FaultTold) → f ≡ told (closes n k t) → f .code ≡ 0 → closes n k t ≡ none
@@ -162,7 +162,7 @@ told-some (some w) f g z = rw g
 -- ---- what is counted of a line
 
 -- a line that is put in front of what the lines after it say is counted before them
-counted-on : (w : Walk) (k : Kind) (t : List ℕ) (p : PlaceNamed) (r : Role) (s : Read Sheet)
+counted-on : (w : Walk) (k : Kind) (t : List ℕ) (p : StageNamed) (r : Role) (s : Read Sheet)
     → checkedFrom w (adds r k t s) ≡ checkedFrom (walkedOn w r (opOf (getD (fieldsOf t) 1 [])) p) s
 unfolding checkedFrom adds addLine walkedOn tally count changeOf
 counted-on w k t p r (fault x) = refl
@@ -213,23 +213,23 @@ read-done s w at r v h e = e ∙ ap answerOf (rw (lines-end s at h) at (v .left)
 
 module _ (s : List ℕ) (w : Walk) (at e : ℕ) (h : at < length s) (q : e ≡ plainEnd s at) where
   -- the lines after this one
-  abbrev rest : Kind → Place → Read Sheet
+  abbrev rest : Kind → Stage → Read Sheet
   rest k p = readFrom scottish (suc (w .line)) p (bodyAfter (role k) (w .body)) (linesOf (drop (e + 2) s))
 
   -- the line, as its bytes and its ending say
   line-left : leftOf w (linesOf (drop at s))
       ≡ checkedFrom w
-      (onLine (w .line) (take (e - at) (drop at s)) (fully (w .body) (take (e - at) (drop at s)) (opens (placeMeant (w .place)) (w .body) (endsHere (drop e s)) (take (e - at) (drop at s)))) rest)
+      (onLine (w .line) (take (e - at) (drop at s)) (fully (w .body) (take (e - at) (drop at s)) (opens (stageMeant (w .stage)) (w .body) (endsHere (drop e s)) (take (e - at) (drop at s)))) rest)
   unfolding leftOf readFrom judgeLine onLine
   line-left =
-      rw (← judge-is (placeMeant (w .place)) (w .body) (endsHere (drop e s)) (take (e - at) (drop at s)), lines-at s at h, ends-well-at s at e q)
+      rw (← judge-is (stageMeant (w .stage)) (w .body) (endsHere (drop e s)) (take (e - at) (drop at s)), lines-at s at h, ends-well-at s at e q)
       (go (endsHere (drop e s)) refl)
     where
       n : ℕ
       n = lineLen (drop at s)
 
       after : List ℕ → Judged
-      after t = judgeText scottish (placeMeant (w .place)) (w .body) t (kindOf scottish (identifier t))
+      after t = judgeText scottish (stageMeant (w .stage)) (w .body) t (kindOf scottish (identifier t))
 
       go : (b : Bool) → endsHere (drop e s) ≡ b
           → checkedFrom w (onLine (w .line) (take n (drop at s)) (pick b (after (take n (drop at s))) (bad (ofLine endingWrong))) (λ k p. readFrom scottish (suc (w .line)) p (bodyAfter (role k) (w .body)) (linesOf (drop (at + (n + 2)) s))))
@@ -241,7 +241,7 @@ module _ (s : List ℕ) (w : Walk) (at e : ℕ) (h : at < length s) (q : e ≡ p
           rw (next, size)
 
   module _ (v : Reading s w at) (b : Bool) (i : b ≡ endsHere (drop e s)) (o : Opened)
-      (j : judgedAs o ≡ opens (placeMeant (w .place)) (w .body) b (take (e - at) (drop at s))) where
+      (j : judgedAs o ≡ opens (stageMeant (w .stage)) (w .body) b (take (e - at) (drop at s))) where
     -- the line, as it was opened
     line-opened : checkFile scottish s ≡ checkedFrom w (onLine (w .line) (take (e - at) (drop at s)) (fully (w .body) (take (e - at) (drop at s)) (judgedAs o)) rest)
     line-opened = sym (v .left) ∙ line-left ∙ rw (j, i)
@@ -253,18 +253,18 @@ module _ (s : List ℕ) (w : Walk) (at e : ℕ) (h : at < length s) (q : e ≡ p
 
     -- which has a code
     pub opened-coded : (f : FaultTold) → o ≡ Bad f → f .code ≡ 0 → ⊥
-    opened-coded f d z = opens-coded (placeMeant (w .place)) (w .body) b (take (e - at) (drop at s)) (faultMeant f) (rw d at j) z
+    opened-coded f d z = opens-coded (stageMeant (w .stage)) (w .body) b (take (e - at) (drop at s)) (faultMeant f) (rw d at j) z
 
-    module _ (kind : Named) (place : PlaceNamed) (z : o ≡ Good kind place) where
+    module _ (kind : Named) (stage : StageNamed) (z : o ≡ Good kind stage) where
       -- a line without a fault so far
       line-good : checkFile scottish s
-          ≡ checkedFrom w (onLine (w .line) (take (e - at) (drop at s)) (fully (w .body) (take (e - at) (drop at s)) (good (kindMeant kind) (placeMeant place))) rest)
+          ≡ checkedFrom w (onLine (w .line) (take (e - at) (drop at s)) (fully (w .body) (take (e - at) (drop at s)) (good (kindMeant kind) (stageMeant stage))) rest)
       line-good = line-opened ∙ rw z
 
       -- it has as many fields as its kind
       pub read-fields : true ≡ hasFields (length (fields (kindMeant kind))) (take (e - at) (drop at s))
       read-fields =
-          sym (opened-fields (placeMeant (w .place)) (w .body) b (take (e - at) (drop at s)) (kindMeant kind) (placeMeant place) (rw z at j))
+          sym (opened-fields (stageMeant (w .stage)) (w .body) b (take (e - at) (drop at s)) (kindMeant kind) (stageMeant stage) (rw z at j))
 
       -- 5 is the file's fault
       pub read-malformed : (k : ℕ) → k + 1 ≡ lowest (kindMeant kind) (take (e - at) (drop at s)) → checkFile scottish s ≡ refusedWith (atLine (w .line) (ofField fieldMalformed (k + 1)))
@@ -281,17 +281,17 @@ module _ (s : List ℕ) (w : Walk) (at e : ℕ) (h : at < length s) (q : e ≡ p
         -- a good line is passed
         passed : f .code ≡ 0
             → checkFile scottish s
-            ≡ leftOf (walkedOn w (role (kindMeant kind)) (opOf (getD (fieldsOf (take (e - at) (drop at s))) 1 [])) place) (linesOf (drop (e + 2) s))
+            ≡ leftOf (walkedOn w (role (kindMeant kind)) (opOf (getD (fieldsOf (take (e - at) (drop at s))) 1 [])) stage) (linesOf (drop (e + 2) s))
         unfolding onLine verdict leftOf walkedOn
         passed m =
             line-good
             ∙ rw (eq-eqb (lowest (kindMeant kind) (take (e - at) (drop at s))) 0 (sym y), told-none (w .body) (kindMeant kind) (take (e - at) (drop at s)) f g m)
-            (counted-on w (kindMeant kind) (take (e - at) (drop at s)) place (role (kindMeant kind)) (rest (kindMeant kind) (placeMeant place)))
+            (counted-on w (kindMeant kind) (take (e - at) (drop at s)) stage (role (kindMeant kind)) (rest (kindMeant kind) (stageMeant stage)))
 
         -- and the walk goes on after it
-        pub read-turn : f .code ≡ 0 → (u : Walk) → u ≡ walkedOn w (role (kindMeant kind)) (opOf (getD (fieldsOf (take (e - at) (drop at s))) 1 [])) place → at ≤ e → e ≤ length s → Reading s u (e + 2)
+        pub read-turn : f .code ≡ 0 → (u : Walk) → u ≡ walkedOn w (role (kindMeant kind)) (opOf (getD (fieldsOf (take (e - at) (drop at s))) 1 [])) stage → at ≤ e → e ≤ length s → Reading s u (e + 2)
         read-turn m u x a d = rw x (record {
           left = sym (passed m);
-          within = within-on w (role (kindMeant kind)) (opOf (getD (fieldsOf (take (e - at) (drop at s))) 1 [])) place at (e + 2) (v .within) (omega arith);
+          within = within-on w (role (kindMeant kind)) (opOf (getD (fieldsOf (take (e - at) (drop at s))) 1 [])) stage at (e + 2) (v .within) (omega arith);
           stands = omega arith;
         })

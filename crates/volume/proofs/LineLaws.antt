@@ -1,4 +1,4 @@
--- The laws of one line in its place: before its fields, and after them.
+-- The laws of one line at its stage: before its fields, and after them.
 use mathlib.Core.Path.{_≡_, refl, sym, ap, _∙_}
 use mathlib.Core.Bool.{Bool, true, false, _&&_}
 use mathlib.Core.Option.{Option, none}
@@ -18,10 +18,10 @@ use Rattle.theory.specs.Decimal.{value}
 use Rattle.meaning.specs.Forms.{Form, number, atLeast1, decimal, date, time, text, changeType, xrefType, fileType, keyText, isNumber, hasForm, isTextual, isEmpty, isDigit, soundAs}
 use Rattle.meaning.specs.Lines.{identifier, fieldsOf}
 use Rattle.meaning.specs.Kinds.{Kind, kinds, Role, headerLine, bodyLine, metadataLine, trailerLine, role}
-use Rattle.meaning.specs.Format.{kindOf, named, placeFrom, proOrder, recordCount}
+use Rattle.meaning.specs.Format.{kindOf, named, fieldNumber, proOrder, recordCount}
 use Rattle.meaning.specs.Table.{fields, scottish}
 use Rattle.meaning.specs.Records.{letter, opOf}
-use Rattle.meaning.specs.File.{Place, afterTrailer, next, mostBody, hasRoom, countFault, bad, good, verdict}
+use Rattle.meaning.specs.File.{Stage, afterTrailer, next, mostBody, hasRoom, countFault, bad, good, verdict}
 use Rattle.laws.specs.Kinds.{every}
 use Rattle.text.specs.Places.{fieldCount}
 use Rattle.text.proofs.FieldLaws.{fields-wrong}
@@ -40,17 +40,17 @@ use Rattle.layout.specs.Rows.{Row, bare, noRow, rowOf, laidOut}
 use Rattle.layout.specs.Check.{lowestBad, kindDates, told}
 use Rattle.layout.proofs.KindLaws.{roleOf, role-of}
 use Rattle.layout.proofs.CheckLaws.{named-at, right-count}
-use Rattle.volume.specs.declared.places.Place.{Place as PlaceNamed}
-use Rattle.volume.specs.declared.places.Place.the-variants.{AfterTrailer}
-use Rattle.volume.specs.declared.places.PlaceFound.{PlaceFound}
-use Rattle.volume.specs.declared.places.PlaceFound.the-variants.{At, Nowhere}
-use Rattle.volume.specs.Meant.{placeMeant, placeFound}
+use Rattle.volume.specs.declared.stages.Stage.{Stage as StageNamed}
+use Rattle.volume.specs.declared.stages.Stage.the-variants.{AfterTrailer}
+use Rattle.volume.specs.declared.stages.StageFound.{StageFound}
+use Rattle.volume.specs.declared.stages.StageFound.the-variants.{At, Nowhere}
+use Rattle.volume.specs.Meant.{stageMeant, stageFound}
 use Rattle.volume.specs.Judged.{opensAt, opensAs, opens, closes}
 
--- ---- the place, the kind, the change and the number of a line
+-- ---- the stage, the kind, the change and the number of a line
 
 -- after the trailer nothing may stand
-pub next-last : (p : PlaceNamed) (r : Role) → p ≡ AfterTrailer → none ≡ next (placeMeant p) r
+pub next-last : (p : StageNamed) (r : Role) → p ≡ AfterTrailer → none ≡ next (stageMeant p) r
 next-last p r e = rw e (go r)
   where
     go : (r : Role) → none ≡ next afterTrailer r
@@ -59,8 +59,8 @@ next-last p r e = rw e (go r)
     go metadataLine = unfold next in refl
     go trailerLine = unfold next in refl
 
--- the place after a line, in the arms of its place and kind
-pub next-arm : (p q : PlaceNamed) (k c : Named) (o : Option Place) → p ≡ q → k ≡ c → o ≡ next (placeMeant q) (roleOf c) → o ≡ next (placeMeant p) (role (kindMeant k))
+-- the stage after a line, in the arms of its stage and kind
+pub next-arm : (p q : StageNamed) (k c : Named) (o : Option Stage) → p ≡ q → k ≡ c → o ≡ next (stageMeant q) (roleOf c) → o ≡ next (stageMeant p) (role (kindMeant k))
 next-arm p q k c o e i h = h ∙ rw (e, role-of k c i)
 
 pub ruleset nexts = (needs, next-last, next-arm)
@@ -104,7 +104,7 @@ narrow (keyText c) = false
 
 -- the field of that name is the third, a number of at most 16 digits
 abbrev thirdIs : String → Kind → Bool
-thirdIs s k = eqb (placeFrom 1 s (fields k)) 3 && (ltb 2 (length (map bare (fields k))) && narrow (rowOf k 2 .0))
+thirdIs s k = eqb (fieldNumber 1 s (fields k)) 3 && (ltb 2 (length (map bare (fields k))) && narrow (rowOf k 2 .0))
 
 -- PRO_ORDER of a body line, RECORD_COUNT of the trailer
 abbrev numbered : Role → Kind → Bool
@@ -115,7 +115,7 @@ numbered trailerLine k = thirdIs recordCount k
 
 -- so it is in every kind
 third : (k : Kind) → T (numbered (role k) k)
-unfolding kinds role fields placeFrom rowOf
+unfolding kinds role fields fieldNumber rowOf
 third k = every (λ k. numbered (role k) k) tt k
 
 -- a sound number of at most 16 digits is no longer
@@ -149,16 +149,16 @@ sound-short n (d ∷ ds) (f ∷ fs) i z h w = go (soundAs (scottish .textRule) (
     go true s zero h w z ih = narrow-short (d .0) (d .1) f w s
     go true s (suc i) h w z ih = ih i z (omega arith) w
 
--- the field of that name, its place, and its length
-third-is : (s : String) (k : Kind) (t : List ℕ) → T (thirdIs s k) → (placeFrom 1 s (fields k) ≡ 3) × (named s (fields k) (fieldsOf t) ≡ getD (fieldsOf t) 2 [])
+-- the field of that name, its number, and its length
+third-is : (s : String) (k : Kind) (t : List ℕ) → T (thirdIs s k) → (fieldNumber 1 s (fields k) ≡ 3) × (named s (fields k) (fieldsOf t) ≡ getD (fieldsOf t) 2 [])
 third-is s k t h =
-    let p : placeFrom 1 s (fields k) ≡ 3 = eqb→eq (placeFrom 1 s (fields k)) 3 (and-l (eqb (placeFrom 1 s (fields k)) 3) _ h) in
+    let p : fieldNumber 1 s (fields k) ≡ 3 = eqb→eq (fieldNumber 1 s (fields k)) 3 (and-l (eqb (fieldNumber 1 s (fields k)) 3) _ h) in
     (p, named-at 0 s (fields k) (fieldsOf t) (λ z. omega (arith, p, z)) ∙ rw p)
 
 third-short : (s : String) (k : Kind) (t : List ℕ) → T (thirdIs s k) → 0 ≡ lowestBad 1 (map bare (fields k)) (fieldsOf t) → length (getD (fieldsOf t) 2 []) ≤ 16
 unfolding rowOf
 third-short s k t h z =
-    let r = and-r (eqb (placeFrom 1 s (fields k)) 3) _ h in
+    let r = and-r (eqb (fieldNumber 1 s (fields k)) 3) _ h in
     sound-short 0 (map bare (fields k)) (fieldsOf t) 2 z (ltb→lt 2 (length (map bare (fields k))) (and-l (ltb 2 (length (map bare (fields k)))) _ r)) (and-r (ltb 2 (length (map bare (fields k)))) _ r)
 
 -- ---- a line before its fields
@@ -178,7 +178,7 @@ count-is : (k : Kind) (l : Layout) → l ≡ laidOut k → l .count ≡ length (
 unfolding laidOut
 count-is k l e = rw e
 
-module _ (p : Place) (n : ℕ) (t : List ℕ) (b : Bool) where
+module _ (p : Stage) (n : ℕ) (t : List ℕ) (b : Bool) where
   -- 1
   pub open-unended : b ≡ false → (x : FaultTold) → x ≡ faultOf (ofLine endingWrong) → bad (faultMeant x) ≡ opens p n b t
   unfolding opens
@@ -190,9 +190,9 @@ module _ (p : Place) (n : ℕ) (t : List ℕ) (b : Bool) where
     unfolding opens opensAs
     open-unknown u x m = ap (λ y. bad (faultMeant y)) m ∙ rw (e, ← g, u)
 
-    module _ (kind : Named) (h : kf ≡ Known kind) (pf : PlaceFound) (y : placeFound pf ≡ next p (role (kindMeant kind))) where
-      -- a known kind is judged in its place
-      known : opens p n b t ≡ opensAt n t (kindMeant kind) (placeFound pf)
+    module _ (kind : Named) (h : kf ≡ Known kind) (pf : StageFound) (y : stageFound pf ≡ next p (role (kindMeant kind))) where
+      -- a known kind is judged at its stage
+      known : opens p n b t ≡ opensAt n t (kindMeant kind) (stageFound pf)
       unfolding opens opensAs
       known = rw (e, ← g, h, y)
 
@@ -201,7 +201,7 @@ module _ (p : Place) (n : ℕ) (t : List ℕ) (b : Bool) where
       unfolding opensAt
       open-nowhere u x m = ap (λ y. bad (faultMeant y)) m ∙ rw (known, u)
 
-      module _ (q : PlaceNamed) (z : pf ≡ At q) (r : Bool) (m : r ≡ hasRoom (role (kindMeant kind)) n) where
+      module _ (q : StageNamed) (z : pf ≡ At q) (r : Bool) (m : r ≡ hasRoom (role (kindMeant kind)) n) where
         -- 9
         pub open-full : r ≡ false → (x : FaultTold) → x ≡ faultOf (ofLine tooManyBodyLines) → bad (faultMeant x) ≡ opens p n b t
         unfolding opensAt ask verdict
@@ -214,7 +214,7 @@ module _ (p : Place) (n : ℕ) (t : List ℕ) (b : Bool) where
           open-count u x o = ap (λ y. bad (faultMeant y)) o ∙ rw (known, z, sym m ∙ w, ← count-is (kindMeant kind) l d, ← fields-wrong t (l .count) a i u)
 
           -- else its fields are to be judged
-          pub open-good : a ≡ l .count → good (kindMeant kind) (placeMeant q) ≡ opens p n b t
+          pub open-good : a ≡ l .count → good (kindMeant kind) (stageMeant q) ≡ opens p n b t
           unfolding opensAt ask verdict
           open-good u = rw (known, z, sym m ∙ w, ← right-count (kindMeant kind) t l d a i u)
 

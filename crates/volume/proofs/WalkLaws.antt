@@ -17,8 +17,8 @@ use Rattle.layout.specs.declared.kinds.Kind.{Kind as Named}
 use Rattle.layout.specs.declared.kinds.Kind.the-variants.{Header, Held, Metadata, Trailer}
 use Rattle.layout.specs.Meant.{kindMeant}
 use Rattle.layout.proofs.KindLaws.{role-of}
-use Rattle.volume.specs.declared.places.Place.{Place}
-use Rattle.volume.specs.declared.places.Place.the-variants.{AtStart, InBody, AfterMetadata, AfterTrailer}
+use Rattle.volume.specs.declared.stages.Stage.{Stage}
+use Rattle.volume.specs.declared.stages.Stage.the-variants.{AtStart, InBody, AfterMetadata, AfterTrailer}
 use Rattle.volume.specs.declared.lines.Change.{Change}
 use Rattle.volume.specs.declared.lines.Change.the-variants.{Insert, Update, Delete}
 use Rattle.volume.specs.declared.walk.Walk.{Walk}
@@ -31,17 +31,17 @@ use Rattle.answers.specs.Meant.{countsOf, answerOf}
 
 module _ (w : Walk) (c : Change) where
   -- an insert
-  pub count-insert : c ≡ Insert → record { place = w .place; line = w .line; body = w .body + 1; inserts = w .inserts + 1; updates = w .updates; deletes = w .deletes } ≡ countedIn w (changeMeant c)
+  pub count-insert : c ≡ Insert → record { stage = w .stage; line = w .line; body = w .body + 1; inserts = w .inserts + 1; updates = w .updates; deletes = w .deletes } ≡ countedIn w (changeMeant c)
   unfolding countedIn
   count-insert e = rw (e, add-one (w .body), add-zero (w .updates), add-zero (w .deletes))
 
   -- an update
-  pub count-update : c ≡ Update → record { place = w .place; line = w .line; body = w .body + 1; inserts = w .inserts; updates = w .updates + 1; deletes = w .deletes } ≡ countedIn w (changeMeant c)
+  pub count-update : c ≡ Update → record { stage = w .stage; line = w .line; body = w .body + 1; inserts = w .inserts; updates = w .updates + 1; deletes = w .deletes } ≡ countedIn w (changeMeant c)
   unfolding countedIn
   count-update e = rw (e, add-one (w .body), add-zero (w .inserts), add-zero (w .deletes))
 
   -- a delete
-  pub count-delete : c ≡ Delete → record { place = w .place; line = w .line; body = w .body + 1; inserts = w .inserts; updates = w .updates; deletes = w .deletes + 1 } ≡ countedIn w (changeMeant c)
+  pub count-delete : c ≡ Delete → record { stage = w .stage; line = w .line; body = w .body + 1; inserts = w .inserts; updates = w .updates; deletes = w .deletes + 1 } ≡ countedIn w (changeMeant c)
   unfolding countedIn
   count-delete e = rw (e, add-one (w .body), add-zero (w .inserts), add-zero (w .updates))
 
@@ -50,8 +50,8 @@ pub ruleset counts = (needs, count-insert, count-update, count-delete)
 -- ---- one line more
 
 -- the walk at the next line, before the line is counted
-abbrev pub stepped : Walk → Place → Walk
-stepped w p = record { place = p; line = w .line + 1; body = w .body; inserts = w .inserts; updates = w .updates; deletes = w .deletes }
+abbrev pub stepped : Walk → Stage → Walk
+stepped w p = record { stage = p; line = w .line + 1; body = w .body; inserts = w .inserts; updates = w .updates; deletes = w .deletes }
 
 -- within fewer bytes is within more
 pub within-more : (w : Walk) (n m : ℕ) → Within w n → n ≤ m → Within w m
@@ -64,7 +64,7 @@ within-more w n m h l = record {
 }
 
 -- a line takes a byte or more
-pub within-stepped : (w : Walk) (p : Place) (n : ℕ) → Within w n → Within (stepped w p) (n + 1)
+pub within-stepped : (w : Walk) (p : Stage) (n : ℕ) → Within w n → Within (stepped w p) (n + 1)
 within-stepped w p n h = let v = within-more w n (n + 1) h (omega arith) in record {
   lines = let q = h .lines in omega arith;
   bodies = v .bodies;
@@ -98,7 +98,7 @@ body-one metadataLine n = omega arith
 body-one trailerLine n = omega arith
 
 -- after a line the walk is within the bytes up to the next
-pub within-on : (w : Walk) (r : Role) (c : Op) (p : Place) (n m : ℕ) → Within w n → n + 1 ≤ m → Within (walkedOn w r c p) m
+pub within-on : (w : Walk) (r : Role) (c : Op) (p : Stage) (n m : ℕ) → Within w n → n + 1 ≤ m → Within (walkedOn w r c p) m
 unfolding walkedOn
 within-on w r c p n m h l = record {
   lines = let q = h .lines in omega arith;
@@ -108,7 +108,7 @@ within-on w r c p n m h l = record {
   deletesIn = let q = h .deletesIn in omega (arith, tally-one r del c);
 }
 
-module _ (w : Walk) (p : Place) (c : Op) (kind : Named) where
+module _ (w : Walk) (p : Stage) (c : Op) (kind : Named) where
   -- a header is not counted
   pub after-header : kind ≡ Header → stepped w p ≡ walkedOn w (role (kindMeant kind)) c p
   unfolding walkedOn tally bodyAfter
@@ -135,22 +135,22 @@ pub ruleset after = (needs, after-header, after-metadata, after-trailer, after-b
 
 module _ (w : Walk) (r : Answer) where
   -- before the header
-  pub end-start : w .place ≡ AtStart → r ≡ answerOf (refusedWith (atLine (w .line) (ofLine outOfPlace))) → r ≡ answerOf (leftOf w [])
+  pub end-start : w .stage ≡ AtStart → r ≡ answerOf (refusedWith (atLine (w .line) (ofLine outOfPlace))) → r ≡ answerOf (leftOf w [])
   unfolding leftOf readFrom atEnd checkedFrom
   end-start e q = q ∙ rw e
 
   -- in the body
-  pub end-body : w .place ≡ InBody → r ≡ answerOf (refusedWith (atLine (w .line) (ofLine outOfPlace))) → r ≡ answerOf (leftOf w [])
+  pub end-body : w .stage ≡ InBody → r ≡ answerOf (refusedWith (atLine (w .line) (ofLine outOfPlace))) → r ≡ answerOf (leftOf w [])
   unfolding leftOf readFrom atEnd checkedFrom
   end-body e q = q ∙ rw e
 
   -- before the trailer
-  pub end-metadata : w .place ≡ AfterMetadata → r ≡ answerOf (refusedWith (atLine (w .line) (ofLine outOfPlace))) → r ≡ answerOf (leftOf w [])
+  pub end-metadata : w .stage ≡ AfterMetadata → r ≡ answerOf (refusedWith (atLine (w .line) (ofLine outOfPlace))) → r ≡ answerOf (leftOf w [])
   unfolding leftOf readFrom atEnd checkedFrom
   end-metadata e q = q ∙ rw e
 
 -- after it
-pub end-trailer : (w : Walk) (r : Answer) → w .place ≡ AfterTrailer → r ≡ answerOf (takenWith (countsOf (w .inserts) (w .updates) (w .deletes))) → r ≡ answerOf (leftOf w [])
+pub end-trailer : (w : Walk) (r : Answer) → w .stage ≡ AfterTrailer → r ≡ answerOf (takenWith (countsOf (w .inserts) (w .updates) (w .deletes))) → r ≡ answerOf (leftOf w [])
 unfolding leftOf readFrom atEnd checkedFrom count
 end-trailer w r e q = q ∙ rw (e, add-zero (w .inserts), add-zero (w .updates), add-zero (w .deletes))
 

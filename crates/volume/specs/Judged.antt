@@ -7,9 +7,9 @@ use lib.ListN.{length}
 use Rattle.base.specs.Lists.{pick, ask}
 use Rattle.meaning.specs.Lines.{identifier, fieldsOf, hasFields}
 use Rattle.meaning.specs.Kinds.{Kind, role}
-use Rattle.meaning.specs.Format.{kindOf, placeFrom, endDate}
+use Rattle.meaning.specs.Format.{kindOf, fieldNumber, endDate}
 use Rattle.meaning.specs.Table.{fields, scottish}
-use Rattle.meaning.specs.File.{Place, next, hasRoom, countFault, Judged, bad, good, verdict}
+use Rattle.meaning.specs.File.{Stage, next, hasRoom, countFault, Judged, bad, good, verdict}
 use Rattle.meaning.specs.Answers.{Fault, ofLine, ofField}
 use Rattle.meaning.specs.Codes.{endingWrong, identifierUnknown, outOfPlace, fieldCountWrong, endBeforeStart, tooManyBodyLines}
 use Rattle.answers.specs.Meant.{faultMeant}
@@ -17,27 +17,27 @@ use Rattle.layout.specs.Meant.{kindMeant}
 use Rattle.layout.specs.Check.{kindDates}
 use Rattle.volume.specs.declared.lines.Opened.{Opened}
 use Rattle.volume.specs.declared.lines.Opened.the-variants.{Good, Bad}
-use Rattle.volume.specs.Meant.{placeMeant}
+use Rattle.volume.specs.Meant.{stageMeant}
 
 -- then 3, then 9, then 4
-unfoldable pub opensAt : ℕ → List ℕ → Kind → Option Place → Judged
+unfoldable pub opensAt : ℕ → List ℕ → Kind → Option Stage → Judged
 opensAt n t k none = bad (ofLine outOfPlace)
 opensAt n t k (some q) = verdict (ask (hasRoom (role k) n) (ofLine tooManyBodyLines) (ask (hasFields (length (fields k)) t) (ofLine fieldCountWrong) none)) k q
 
 -- then 2
-unfoldable pub opensAs : Place → ℕ → List ℕ → Option Kind → Judged
+unfoldable pub opensAs : Stage → ℕ → List ℕ → Option Kind → Judged
 opensAs p n t none = bad (ofField identifierUnknown 1)
 opensAs p n t (some k) = opensAt n t k (next p (role k))
 
 -- a line before its fields are judged: 1 where it does not end well
-unfoldable pub opens : Place → ℕ → Bool → List ℕ → Judged
+unfoldable pub opens : Stage → ℕ → Bool → List ℕ → Judged
 opens p n ended t = pick ended (opensAs p n t (kindOf scottish (identifier t))) (bad (ofLine endingWrong))
 
 -- a line after its fields: 6, then 7 or 8
 unfoldable pub closes : ℕ → Kind → List ℕ → Option Fault
-closes n k t = ask (kindDates k (fieldsOf t)) (ofField endBeforeStart (placeFrom 1 endDate (fields k))) (countFault scottish (role k) n k t)
+closes n k t = ask (kindDates k (fieldsOf t)) (ofField endBeforeStart (fieldNumber 1 endDate (fields k))) (countFault scottish (role k) n k t)
 
--- a line that was opened, as the meaning judges it: a fault, or its kind and the place after it
+-- a line that was opened, as the meaning judges it: a fault, or its kind and the stage after it
 abbrev pub judgedAs : Opened → Judged
-judgedAs (Good k q) = good (kindMeant k) (placeMeant q)
+judgedAs (Good k q) = good (kindMeant k) (stageMeant q)
 judgedAs (Bad f) = bad (faultMeant f)

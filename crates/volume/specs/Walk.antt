@@ -8,14 +8,14 @@ use Rattle.meaning.specs.Kinds.{Role, headerLine, bodyLine, metadataLine, trail
 use Rattle.meaning.specs.Table.{scottish}
 use Rattle.meaning.specs.File.{Sheet, bodyAfter, readFrom}
 use Rattle.meaning.specs.Answers.{Read, Numbers, takenWith, refusedWith}
-use Rattle.volume.specs.declared.places.Place.{Place}
-use Rattle.volume.specs.declared.places.Place.the-variants.{AtStart}
+use Rattle.volume.specs.declared.stages.Stage.{Stage}
+use Rattle.volume.specs.declared.stages.Stage.the-variants.{AtStart}
 use Rattle.volume.specs.declared.walk.Walk.{Walk}
-use Rattle.volume.specs.Meant.{placeMeant}
+use Rattle.volume.specs.Meant.{stageMeant}
 
 -- before the first line
 abbrev pub unwalked : Walk
-unwalked = record { place = AtStart; line = 1; body = 0; inserts = 0; updates = 0; deletes = 0 }
+unwalked = record { stage = AtStart; line = 1; body = 0; inserts = 0; updates = 0; deletes = 0 }
 
 -- 1 for a body line with that operation, else 0
 unfoldable pub tally : Role → Op → Op → ℕ
@@ -27,7 +27,7 @@ tally trailerLine o c = 0
 -- the walk with one body line more, with a change
 unfoldable pub countedIn : Walk → Op → Walk
 countedIn w c = record {
-  place = w .place;
+  stage = w .stage;
   line = w .line;
   body = suc (w .body);
   inserts = w .inserts + isOp ins c;
@@ -35,10 +35,10 @@ countedIn w c = record {
   deletes = w .deletes + isOp del c;
 }
 
--- the walk after a line of a role, with a change, before a place
-unfoldable pub walkedOn : Walk → Role → Op → Place → Walk
+-- the walk after a line of a role, with a change, before a stage
+unfoldable pub walkedOn : Walk → Role → Op → Stage → Walk
 walkedOn w r c p = record {
-  place = p;
+  stage = p;
   line = suc (w .line);
   body = bodyAfter r (w .body);
   inserts = w .inserts + tally r ins c;
@@ -53,7 +53,7 @@ checkedFrom w (file s) = takenWith (record { inserts = w .inserts + count ins (s
 
 -- what the walk answers of the lines that are left
 unfoldable pub leftOf : Walk → List meant.Line → Numbers
-leftOf w ls = checkedFrom w (readFrom scottish (w .line) (placeMeant (w .place)) (w .body) ls)
+leftOf w ls = checkedFrom w (readFrom scottish (w .line) (stageMeant (w .stage)) (w .body) ls)
 
 -- no number of the walk has passed the bytes before n
 pub record Within (w : Walk) (n : ℕ) : Type 0 where

@@ -17,7 +17,7 @@ use answers::refusal::Refusal;
 use crate::lines::Opened;
 use crate::lines::close_line;
 use crate::lines::open_line;
-use crate::places::Place;
+use crate::stages::Stage;
 use crate::walk::Walk;
 use crate::walk::after_line;
 use layout::check::sound_at;
@@ -37,12 +37,12 @@ fn unended(line: usize) -> Answer
 fn ended(walk: Walk) -> Answer
     ensures { λ r. ⌜ r ≡ answerOf (leftOf walk []) ⌝ }
 {
-    let place = walk.place;
-    match place {
-        Place::AtStart => unended(walk.line),
-        Place::InBody => unended(walk.line),
-        Place::AfterMetadata => unended(walk.line),
-        Place::AfterTrailer => taken(
+    let stage = walk.stage;
+    match stage {
+        Stage::AtStart => unended(walk.line),
+        Stage::InBody => unended(walk.line),
+        Stage::AfterMetadata => unended(walk.line),
+        Stage::AfterTrailer => taken(
             walk.inserts as u64,
             walk.updates as u64,
             walk.deletes as u64,

@@ -3,7 +3,7 @@
 // `places` is the automaton of header, body, metadata and trailer. `lines` judges one line before its fields (1, 2, 3, 9, 4) and after
 // them (6, 7, 8); `walk` counts lines and changes; `check` walks the lines and, within each, the fields (5), and is left by label at
 // the first malformed one.
-pub mod places; // where a line may stand
-pub mod lines; // one line in its place
+pub mod stages; // where a line may stand
+pub mod lines; // one line at its stage
 pub mod walk; // what is counted
 pub mod check; // the whole file

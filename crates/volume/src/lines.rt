@@ -1,4 +1,4 @@
-// One line in its place: what is judged before its fields, and after them.
+// One line at its stage: what is judged before its fields, and after them.
 ghost use mathlib.Core.Path.{_≡_};
 ghost use mathlib.Core.Option.{none};
 ghost use mathlib.Core.List.{[], map};
@@ -16,7 +16,7 @@ ghost use Rattle.layout.specs.Meant.{kindMeant};
 ghost use Rattle.layout.specs.Rows.{bare};
 ghost use Rattle.text.specs.Places.{fieldCount};
 ghost use Rattle.layout.specs.Check.{lowestBad, Parted, told};
-ghost use Rattle.volume.specs.Meant.{placeMeant, changeMeant};
+ghost use Rattle.volume.specs.Meant.{stageMeant, changeMeant};
 ghost use Rattle.volume.specs.Judged.{opens, closes, judgedAs};
 use answers::codes::END_BEFORE_START;
 use answers::codes::ENDING_WRONG;
@@ -27,9 +27,9 @@ use answers::codes::OUT_OF_PLACE;
 use answers::codes::RECORD_COUNT_WRONG;
 use answers::codes::TOO_MANY_BODY_LINES;
 use answers::refusal::Fault;
-use crate::places::Place;
-use crate::places::PlaceFound;
-use crate::places::next_place;
+use crate::stages::Stage;
+use crate::stages::StageFound;
+use crate::stages::next_stage;
 use crate::walk::Walk;
 use layout::check::dates_agree;
 use layout::check::kind_at;
@@ -57,9 +57,9 @@ pub struct Line {
     pub change: Change,
 }
 
-// A line before its fields are judged: its kind and the place after it, or its first fault.
+// A line before its fields are judged: its kind and the stage after it, or its first fault.
 pub enum Opened {
-    Good(Kind, Place),
+    Good(Kind, Stage),
     Bad(Fault),
 }
 
@@ -75,19 +75,19 @@ pub fn has_room(kind: Kind, body: usize) -> bool
     }
 }
 
-// A line before its fields, which are counted: 1, 2, 3, 9, 4, or its kind and the place after it.
+// A line before its fields, which are counted: 1, 2, 3, 9, 4, or its kind and the stage after it.
 pub fn open_line(walk: Walk, text: &[u8], fields: usize, ended: bool) -> Opened
     requires { ⌜ fields ≡ fieldCount (now text) ⌝ }
-    ensures { λ r. ⌜ judgedAs r ≡ opens (placeMeant (walk .place)) (walk .body) ended (now (text .entry)) ⌝ }
+    ensures { λ r. ⌜ judgedAs r ≡ opens (stageMeant (walk .stage)) (walk .body) ended (now (text .entry)) ⌝ }
 {
-    let place = walk.place;
+    let stage = walk.stage;
     if !ended {
         return Opened::Bad(Fault::of_line(ENDING_WRONG));
     }
     let KindFound::Known(kind) = kind_at(text) else {
         return Opened::Bad(Fault::of_field(IDENTIFIER_UNKNOWN, 1));
     };
-    let PlaceFound::At(after) = next_place(place, kind) else {
+    let StageFound::At(after) = next_stage(stage, kind) else {
         return Opened::Bad(Fault::of_line(OUT_OF_PLACE));
     };
     if !has_room(kind, walk.body) {

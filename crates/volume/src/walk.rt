@@ -12,12 +12,12 @@ ghost use Rattle.volume.specs.Walk.{unwalked, walkedOn, countedIn, Withi
 use crate::lines::Change;
 use crate::lines::Line;
 use crate::lines::known;
-use crate::places::Place;
+use crate::stages::Stage;
 use layout::kinds::Kind;
 
-// The place and number of the next line, and the body lines before it, with I, U and D.
+// The stage and number of the next line, and the body lines before it, with I, U and D.
 pub struct Walk {
-    pub place: Place,
+    pub stage: Stage,
     pub line: usize,
     pub body: usize,
     pub inserts: usize,
@@ -31,7 +31,7 @@ impl Walk {
         ensures { λ r. ⌜ r ≡ unwalked ⌝ }
     {
         Walk {
-            place: Place::AtStart,
+            stage: Stage::AtStart,
             line: 1,
             body: 0,
             inserts: 0,
@@ -65,13 +65,13 @@ fn counted(walk: Walk, line: Line) -> Walk
     }
 }
 
-// The walk after a sound line of a kind, before a place: a body line is counted.
-pub fn after_line(walk: Walk, kind: Kind, text: &[u8], place: Place) -> Walk
+// The walk after a sound line of a kind, before a stage: a body line is counted.
+pub fn after_line(walk: Walk, kind: Kind, text: &[u8], stage: Stage) -> Walk
     requires { ⌜ Within walk (2 ^ 63) ⌝ }
-    ensures { λ r. ⌜ r ≡ walkedOn walk (role (kindMeant kind)) (opOf (getD (fieldsOf (now (text .entry))) 1 [])) place ⌝ }
+    ensures { λ r. ⌜ r ≡ walkedOn walk (role (kindMeant kind)) (opOf (getD (fieldsOf (now (text .entry))) 1 [])) stage ⌝ }
 {
     let after = Walk {
-        place,
+        stage,
         line: walk.line + 1,
         body: walk.body,
         inserts: walk.inserts,

@@ -1,11 +1,11 @@
 -- `number::has_digits` meets its contract.
 use Rattle.base.proofs.Answers.{tests}
-use Rattle.meaning.specs.Forms.{digits}
+use Rattle.meaning.specs.Forms.{isDigits}
 use Rattle.number.proofs.has_digits.Statement.{statement}
 use Rattle.number.proofs.has_digits.Tie as tie
 
 pub has-digits-spec : {M : Type 1} → statement M
-unfolding digits
+unfolding isDigits
 has-digits-spec =
     tie.close
     (tie.spec

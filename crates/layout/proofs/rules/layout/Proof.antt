@@ -1,7 +1,7 @@
 -- `layout::rules::layout` meets its contract.
 use borrow.Author.Needs.{needs}
 use Rattle.meaning.specs.Kinds.{ident}
-use Rattle.meaning.specs.Format.{placeFrom}
+use Rattle.meaning.specs.Format.{fieldNumber}
 use Rattle.meaning.specs.Table.{fields, keyNames, refersTo}
 use Rattle.base.specs.Lists.{bytes, zeros}
 use Rattle.theory.specs.Decimal.{value, valueF}
@@ -10,7 +10,7 @@ use Rattle.layout.proofs.rules.layout.Statement.{statement}
 use Rattle.layout.proofs.rules.layout.Tie as tie
 
 pub layout-spec : {M : Type 1} → statement M
-unfolding laidOut placesOf padded targets sources ident fields keyNames refersTo placeFrom bytes zeros value valueF
+unfolding laidOut placesOf padded targets sources ident fields keyNames refersTo fieldNumber bytes zeros value valueF
 layout-spec =
     tie.close
     (tie.spec

@@ -14,7 +14,7 @@ open-line-spec =
     (λ c. search opening)  -- enum-told
     (λ c κs. search opening)  -- of-field-requires
     (λ c. search opening)  -- returns-2
-    (λ c κs. search opening)  -- next-place-requires
+    (λ c κs. search opening)  -- next-stage-requires
     (λ c. search opening)  -- enum-known-after
     (λ c. search opening)  -- enum-told-2
     (λ c κs. search opening)  -- of-line-requires-2

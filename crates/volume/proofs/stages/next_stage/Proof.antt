@@ -1,12 +1,12 @@
--- `volume::places::next_place` meets its contract.
+-- `volume::places::next_stage` meets its contract.
 use Rattle.meaning.specs.File.{next}
 use Rattle.volume.proofs.LineLaws.{nexts}
-use Rattle.volume.proofs.places.next_place.Statement.{statement}
-use Rattle.volume.proofs.places.next_place.Tie as tie
+use Rattle.volume.proofs.stages.next_stage.Statement.{statement}
+use Rattle.volume.proofs.stages.next_stage.Tie as tie
 
-pub next-place-spec : {M : Type 1} → statement M
+pub next-stage-spec : {M : Type 1} → statement M
 unfolding next
-next-place-spec =
+next-stage-spec =
     tie.close
     (tie.spec
     (λ c. search nexts)  -- enum-told

@@ -14,7 +14,7 @@ use Rattle.theory.specs.Tri.{Tri, lt, eq, gt, flip, isGt}
 use Rattle.theory.specs.TriLaws.{is-gt}
 use Rattle.theory.specs.Keyed.{Keyed}
 use Rattle.theory.specs.Store.{cons?, put, puts, get, gets, Asc}
-use Rattle.theory.specs.Place.{hit, ahead, ranks, rank}
+use Rattle.theory.specs.Rank.{hit, ahead, ranks, rank}
 
 module _ (K : Keyed) where
   open Keyed K using (Key, Rec, cmp, order, key)
