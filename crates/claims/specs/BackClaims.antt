@@ -10,6 +10,7 @@ use Rattle.meaning.specs.Load.{thenZeros}
 use Rattle.meaning.specs.Undo.{undoBytes}
 use Rattle.laws.specs.FileRefusals.{among}
 use Rattle.answers.specs.declared.numbers.Answer.{Answer}
+use Rattle.meaning.specs.Codes.{holdingTooLong, undoTooLong, allDone}
 use Rattle.apply.specs.Outcome.{Outcome}
 use Rattle.undo.specs.Outcome.{UndoOutcome}
 use Rattle.printed.specs.Printed.{bare}
@@ -19,9 +20,9 @@ use Rattle.claims.specs.Demand3.{Night, Undo, refused-for-room, refused-
 -- that undo handed in over what was left with `backRoom`: the three answers, and the bytes that the last leaves
 pub record BackClaims (old file : List ℕ) (room undoRoom space backRoom : ℕ) (taken made back : Answer) (out : List ℕ) : Type 0 where
   -- the undo of a file that was taken is refused only for want of room
-  pub onlyForRoom : taken .code ≡ 0 → T (among (made .code) (0 ∷ 13 ∷ 17 ∷ []))
+  pub onlyForRoom : taken .code ≡ 0 → T (among (made .code) (allDone ∷ holdingTooLong ∷ undoTooLong ∷ []))
   -- with a work buffer as long as the output going forward, exactly if the undo is longer than its output, and then with 17
-  pub onlyIfLong : taken .code ≡ 0 → room ≤ space → made .code ≡ pick (leb (length (undoBytes scottish old file)) undoRoom) 0 17
+  pub onlyIfLong : taken .code ≡ 0 → room ≤ space → made .code ≡ pick (leb (length (undoBytes scottish old file)) undoRoom) allDone undoTooLong
   -- undo counts what apply did
   pub counted : taken .code ≡ 0 → made .code ≡ 0 → made ≡ taken
   -- with a buffer as long as the one used going forward, the undo is taken and gives back, byte for byte, the holding that stood before

@@ -28,6 +28,7 @@ use Rattle.answers.specs.Meant.{answerOf}
 use Rattle.answers.specs.declared.numbers.Answer.{Answer}
 use Rattle.answers.specs.Meant.{verdictOf}
 use Rattle.answers.specs.declared.numbers.Verdict.{Verdict}
+use Rattle.meaning.specs.Codes.{fieldMalformed, endBeforeStart, recordCountWrong, tooManyBodyLines, holdingUnsound}
 use Rattle.claims.specs.Demand1.{InTable, check-refused, check-file-numbers, check-holding-numbers}
 
 -- ---- a file
@@ -49,13 +50,13 @@ pub record FileClaims (file : List ℕ) (r : Answer) : Type 0 where
   -- and a file that fails there is refused so
   pub exactly : (c l f : ℕ) → FileFails scottish file c l f → Numbered (r .code) (r .line) (r .field) c l f
   -- 5 names a field that the line's kind has
-  pub five : r .code ≡ 5 → (k : Kind) × (kindOf scottish (identifier (lineAt file (r .line) .text)) ≡ some k) × (1 ≤ r .field) × (r .field ≤ length (scottish .fields k))
+  pub five : r .code ≡ fieldMalformed → (k : Kind) × (kindOf scottish (identifier (lineAt file (r .line) .text)) ≡ some k) × (1 ≤ r .field) × (r .field ≤ length (scottish .fields k))
   -- 6 names that kind's END_DATE
-  pub six : r .code ≡ 6 → (k : Kind) × (kindOf scottish (identifier (lineAt file (r .line) .text)) ≡ some k) × (r .field ≡ fieldNumber 1 endDate (scottish .fields k))
+  pub six : r .code ≡ endBeforeStart → (k : Kind) × (kindOf scottish (identifier (lineAt file (r .line) .text)) ≡ some k) × (r .field ≡ fieldNumber 1 endDate (scottish .fields k))
   -- 8 is a trailer's, and names its RECORD_COUNT
-  pub eight : r .code ≡ 8 → (k : Kind) × (kindOf scottish (identifier (lineAt file (r .line) .text)) ≡ some k) × (role k ≡ trailerLine) × (r .field ≡ fieldNumber 1 recordCount (scottish .fields k))
+  pub eight : r .code ≡ recordCountWrong → (k : Kind) × (kindOf scottish (identifier (lineAt file (r .line) .text)) ≡ some k) × (role k ≡ trailerLine) × (r .field ≡ fieldNumber 1 recordCount (scottish .fields k))
   -- 9 stands on line 4,098 only
-  pub nine : r .code ≡ 9 → r .line ≡ 4098
+  pub nine : r .code ≡ tooManyBodyLines → r .line ≡ 4098
 
 module _ (file : List ℕ) (r : Answer) (o : r ≡ answerOf (checkFile scottish file)) where
   refused-there : (r .code ≡ 0 → ⊥) → FileFails scottish file (r .code) (r .line) (r .field)
@@ -77,10 +78,10 @@ module _ (file : List ℕ) (r : Answer) (o : r ≡ answerOf (checkFile scottish 
     uncounted = check-refused file r o;
     why = refused-there;
     exactly = λ c l f w. rw o (why-check scottish file c l f w);
-    five = λ e. five-field scottish file (r .line) (r .field) (refused-with 5 e (λ z. omega (arith, z)));
-    six = λ e. six-field scottish file (r .line) (r .field) (refused-with 6 e (λ z. omega (arith, z)));
-    eight = λ e. eight-line scottish file (r .line) (r .field) (refused-with 8 e (λ z. omega (arith, z)));
-    nine = λ e. nine-line scottish file (r .line) (r .field) (refused-with 9 e (λ z. omega (arith, z)));
+    five = λ e. five-field scottish file (r .line) (r .field) (refused-with fieldMalformed e (λ z. omega (arith, z)));
+    six = λ e. six-field scottish file (r .line) (r .field) (refused-with endBeforeStart e (λ z. omega (arith, z)));
+    eight = λ e. eight-line scottish file (r .line) (r .field) (refused-with recordCountWrong e (λ z. omega (arith, z)));
+    nine = λ e. nine-line scottish file (r .line) (r .field) (refused-with tooManyBodyLines e (λ z. omega (arith, z)));
   }
 
 -- ---- a holding
@@ -94,13 +95,13 @@ pub record HoldingClaims (old : List ℕ) (v : Verdict) : Type 0 where
   -- 0 exactly if the holding is sound, line by line
   pub done : (v .code ≡ 0) ↔ SomeHolding scottish old
   -- 14 exactly if it isn't
-  pub unsound : (v .code ≡ 14) ↔ Unsound scottish old
+  pub unsound : (v .code ≡ holdingUnsound) ↔ Unsound scottish old
 
-unsound-14 : (old : List ℕ) → Unsound scottish old → checkHolding scottish old .code ≡ 14
+unsound-14 : (old : List ℕ) → Unsound scottish old → checkHolding scottish old .code ≡ holdingUnsound
 unfolding checkHolding heldNumbers
 unsound-14 old u = go (readHolding scottish old) refl
   where
-    go : (h : Held) → readHolding scottish old ≡ h → heldNumbers h .code ≡ 14
+    go : (h : Held) → readHolding scottish old ≡ h → heldNumbers h .code ≡ holdingUnsound
     go (sound st) e = absurd (u (record { state = st; sounds = held-is-sound scottish scottish-regular old st e }))
     go (unsound n) e = refl
 

@@ -77,5 +77,5 @@ module _ (old file : List ℕ) (room : ℕ) (r : Answer) (out : List ℕ) (o : O
     )
 
     -- the new holding is sound: check_holding answers 0
-    pub new-checks : (v : Verdict) → v ≡ verdictOf (checkHolding scottish (written (afterAll scottish a))) → v ≡ verdictOf (noFault 0 0 0)
+    pub new-checks : (v : Verdict) → v ≡ verdictOf (checkHolding scottish (written (afterAll scottish a))) → v ≡ verdictOf noFault
     new-checks v e = e ∙ ap verdictOf (holding-checked scottish scottish-regular _ (afterAll scottish a) (new-sound scottish scottish-regular old file room a))

@@ -8,13 +8,13 @@ use lib.Dec.{T, leb, eqb}
 use lib.ListN.{length}
 use Rattle.base.specs.Lists.{pick}
 use Rattle.theory.specs.Step.{ins, upd, del, Change}
-use Rattle.theory.specs.Answer.{fault, file, count}
+use Rattle.theory.specs.Answer.{fault, file, count, counts}
 use Rattle.meaning.specs.Table.{scottish}
 use Rattle.meaning.specs.Records.{Rec, joined}
 use Rattle.meaning.specs.File.{Frame, Sheet, writeFile}
 use Rattle.meaning.specs.Holding.{written}
-use Rattle.meaning.specs.Load.{six, thenZeros, checkFile, apply, undoFile}
-use Rattle.meaning.specs.Answers.{Read}
+use Rattle.meaning.specs.Load.{thenZeros, checkFile, apply, undoFile}
+use Rattle.meaning.specs.Answers.{Read, takenWith}
 use Rattle.meaning.specs.Undo.{undoBytes}
 use Rattle.laws.specs.SoundFile.{SoundFile, sound-read, read-sound}
 use Rattle.laws.specs.FileRefusals.{among}
@@ -24,8 +24,9 @@ use Rattle.laws.specs.Demand3.{stepsBack, undo-is, undo-sound, undo-checks, und
 use Rattle.laws.specs.UndoRefusals.{undo-refusals}
 use Rattle.laws.specs.Buffers.{undo-output}
 use Rattle.laws.specs.Scottish.{scottish-regular}
-use Rattle.answers.specs.Meant.{answerOf}
+use Rattle.answers.specs.Meant.{answerOf, countsOf}
 use Rattle.answers.specs.declared.numbers.Answer.{Answer}
+use Rattle.meaning.specs.Codes.{holdingTooLong, undoTooLong, allDone}
 use Rattle.apply.specs.Outcome.{Outcome}
 use Rattle.undo.specs.Outcome.{UndoOutcome}
 use Rattle.printed.specs.Printed.{bare}
@@ -85,7 +86,7 @@ module _ (old : List ℕ) (n : Night old) where
   takes = subst (Takes scottish scottish-regular (n .room) old (n .file)) (sym (left-is allowed)) (allowed-takes scottish scottish-regular old (n .file) (n .room) allowed)
 
   -- an undo is refused only for want of room: 17, or 13 for its work buffer
-  pub refused-for-room : (room space : ℕ) (r : Answer) (out work : List ℕ) → UndoOutcome old (n .file) room space r out work → T (among (r .code) (0 ∷ 13 ∷ 17 ∷ []))
+  pub refused-for-room : (room space : ℕ) (r : Answer) (out work : List ℕ) → UndoOutcome old (n .file) room space r out work → T (among (r .code) (allDone ∷ holdingTooLong ∷ undoTooLong ∷ []))
   unfolding among
   refused-for-room room space r out work o =
       let c = undoFile scottish old (n .file) room space .answer .code in
@@ -110,7 +111,7 @@ module _ (old : List ℕ) (n : Night old) where
         let w = undo-done scottish scottish-regular old (n .file) (u .room) (u .space) (sym (ap (λ x. x .code) (u .outcome .0)) ∙ u .made) in
         let e : w .1 .cs ≡ t .cs = ap changes (sym (w .1 .read) ∙ t .read) in
         let a = n .outcome .0 ∙ ap (λ x. answerOf (x .answer)) (taken scottish scottish-regular (n .room) old (n .file) (left n) t) in
-        u .outcome .0 ∙ ap answerOf (w .2) ∙ ap (λ cs. answerOf (six 0 0 0 (count ins cs) (count upd cs) (count del cs))) e ∙ sym a
+        u .outcome .0 ∙ ap answerOf (w .2) ∙ ap (λ cs. answerOf (takenWith (counts cs))) e ∙ sym a
 
     undo-bytes : undoOf u ≡ undoBytes scottish old (n .file)
     unfolding writeFile
@@ -127,7 +128,7 @@ module _ (old : List ℕ) (n : Night old) where
         (t .fr, t .cs, read-sound scottish (n .file) (t .fr) (t .cs) (t .read), (stepsBack scottish scottish-regular (n .room) old (n .file) (left n) t, rw undo-bytes (undo-sound scottish scottish-regular (n .room) old (n .file) (left n) t)))
 
     -- check_file takes it, and counts the file's deletes as inserts and its inserts as deletes
-    pub undo-checked : (c : Answer) → c ≡ answerOf (checkFile scottish (undoOf u)) → c ≡ answerOf (six 0 0 0 (n .answer .deletes) (n .answer .updates) (n .answer .inserts))
+    pub undo-checked : (c : Answer) → c ≡ answerOf (checkFile scottish (undoOf u)) → c ≡ answerOf (takenWith (countsOf (n .answer .deletes) (n .answer .updates) (n .answer .inserts)))
     undo-checked c e =
         let t = takes in
         let a = n .outcome .0 ∙ ap (λ x. answerOf (x .answer)) (taken scottish scottish-regular (n .room) old (n .file) (left n) t) in

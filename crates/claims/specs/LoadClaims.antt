@@ -24,6 +24,7 @@ use Rattle.laws.specs.Demand2.{Allowed, afterAll, Lawful, Roomy}
 use Rattle.laws.specs.WhyLoad.{Numbered, Unsound, Faulty, BothSound, Reason, badFile, apply-why, why-apply, apply-14, apply-start, apply-13, undo-why, why-undo, undo-14, undo-start, undo-13, undo-0, undo-17}
 use Rattle.laws.specs.Scottish.{scottish-regular}
 use Rattle.answers.specs.declared.numbers.Answer.{Answer}
+use Rattle.meaning.specs.Codes.{holdingTooLong, holdingUnsound, undoTooLong}
 use Rattle.apply.specs.Outcome.{Outcome}
 use Rattle.undo.specs.Outcome.{UndoOutcome}
 use Rattle.claims.specs.Demand1.{Nothing, InTable, apply-refused, undo-refused, undo-filled, work-is-zeros, apply-numbers, undo-numbers}
@@ -36,13 +37,13 @@ pub record WhyRefused (old file : List ℕ) (room : ℕ) (r : Answer) : Type 0 w
   -- where there is a reason, the numbers are its
   pub exactly : (c l f : ℕ) → Reason scottish room old file c l f → Numbered (r .code) (r .line) (r .field) c l f
   -- 14 exactly if the holding is unsound
-  pub unsound : (r .code ≡ 14) ↔ Unsound scottish old
+  pub unsound : (r .code ≡ holdingUnsound) ↔ Unsound scottish old
   -- with a sound holding and a faulty file, the numbers of check_file
   pub faulty : SomeHolding scottish old → Faulty scottish file → Numbered (r .code) (r .line) (r .field) (checkFile scottish file .code) (checkFile scottish file .line) (checkFile scottish file .field)
   -- with both sound, 13 at line 0 exactly if the holding doesn't fit at the start
-  pub start : (m : BothSound scottish old file) → ((r .code ≡ 13) × (r .line ≡ 0)) ↔ (T (fits room (m .st)) → ⊥)
+  pub start : (m : BothSound scottish old file) → ((r .code ≡ holdingTooLong) × (r .line ≡ 0)) ↔ (T (fits room (m .st)) → ⊥)
   -- with every line and every step lawful, 13 exactly if the holding doesn't fit at the start and after every step
-  pub roomless : (st : List Rec) → SoundHolding scottish old st → Lawful scottish st file → (r .code ≡ 13) ↔ (Roomy scottish room st file → ⊥)
+  pub roomless : (st : List Rec) → SoundHolding scottish old st → Lawful scottish st file → (r .code ≡ holdingTooLong) ↔ (Roomy scottish room st file → ⊥)
 
 -- ---- apply
 
@@ -101,13 +102,13 @@ pub record UndoClaims (old file : List ℕ) (room space : ℕ) (r : Answer) (out
   -- 0 exactly if all is allowed with the room of the work buffer, and the undo isn't longer than its output
   pub done : (r .code ≡ 0) ↔ (Allowed scottish old file space × (length (undoBytes scottish old file) ≤ room))
   -- 17 exactly if all is allowed so, and the undo is longer than its output
-  pub long : (r .code ≡ 17) ↔ (Allowed scottish old file space × (room < length (undoBytes scottish old file)))
+  pub long : (r .code ≡ undoTooLong) ↔ (Allowed scottish old file space × (room < length (undoBytes scottish old file)))
   -- on success the output is the undo, and zeros
   pub filledIn : r .code ≡ 0 → (out ≡ thenZeros room (undoBytes scottish old file)) × (length (undoBytes scottish old file) ≤ room)
   -- which is the file's own header, metadata and trailer around the steps taken backwards, numbered from 1
   pub body : (a : Allowed scottish old file space) → undoBytes scottish old file ≡ writeFile (a .fr) (undo (after (keyed scottish)) (back (keyed scottish)) (a .st) (a .cs))
   -- another refusal has a load's reason, with the work buffer's length for 13
-  pub why : (r .code ≡ 0 → ⊥) → (r .code ≡ 17 → ⊥) → Reason scottish space old file (r .code) (r .line) (r .field)
+  pub why : (r .code ≡ 0 → ⊥) → (r .code ≡ undoTooLong → ⊥) → Reason scottish space old file (r .code) (r .line) (r .field)
   pub whys : WhyRefused old file space r
 
 undo-body : (old file : List ℕ) (space : ℕ) (a : Allowed scottish old file space)

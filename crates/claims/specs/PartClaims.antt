@@ -15,6 +15,7 @@ use Rattle.laws.specs.WhyField.{Answers, HasField, fieldBytes, FieldAnswers, gi
 use Rattle.laws.specs.WhyFind.{FindAnswers, find-answers}
 use Rattle.laws.specs.WhyForce.{ForceAnswers, force-answers}
 use Rattle.laws.specs.Scottish.{scottish-regular}
+use Rattle.meaning.specs.Codes.{noSuchPart}
 use Rattle.enquiries.specs.Handed.{Handed, HandedOf}
 use Rattle.claims.specs.Demand1.{Told, find-numbers, in-force-numbers, field-numbers}
 
@@ -80,7 +81,7 @@ pub record FieldClaims (s r : RefT (List ℕ)) (l f : ℕ) (answer : List ℕ) :
   -- where there is such a field: 0, and the field with its quotes
   pub given : HasField (s .now) l f → (answer ≡ 0 ∷ 0 ∷ 0 ∷ []) × (r .now ≡ fieldBytes (s .now) l f)
   -- else 19, and nothing
-  pub missing : (HasField (s .now) l f → ⊥) → (answer ≡ 19 ∷ 0 ∷ 0 ∷ []) × (r .now ≡ [])
+  pub missing : (HasField (s .now) l f → ⊥) → (answer ≡ noSuchPart ∷ 0 ∷ 0 ∷ []) × (r .now ≡ [])
 
 numbers-are : (x : Found) (answer : List ℕ) (c l f : ℕ) → answer ≡ threeList (x .answer) → Answers x c l f → answer ≡ c ∷ l ∷ f ∷ []
 numbers-are x answer c l f e w = rw (e, w .0, w .1, w .2)
@@ -96,9 +97,9 @@ field-claims s r l f answer o = record { outcome = o; tabled = told; given = the
     there (given h e w) g = (numbers-are (fieldOf (s .now) l f) answer 0 0 0 (o .numbers) e, o .part .bytes ∙ w)
     there (noField n e) g = absurd (n g)
 
-    nowhere : FieldAnswers (s .now) l f (fieldOf (s .now) l f) → (HasField (s .now) l f → ⊥) → (answer ≡ 19 ∷ 0 ∷ 0 ∷ []) × (r .now ≡ [])
+    nowhere : FieldAnswers (s .now) l f (fieldOf (s .now) l f) → (HasField (s .now) l f → ⊥) → (answer ≡ noSuchPart ∷ 0 ∷ 0 ∷ []) × (r .now ≡ [])
     nowhere (given h e w) n = absurd (n h)
     nowhere (noField m e) n =
-        let a : answer ≡ 19 ∷ 0 ∷ 0 ∷ [] = numbers-are (fieldOf (s .now) l f) answer 19 0 0 (o .numbers) e in
-        let c : told .numbers .code ≡ 19 = ap (λ x. getD x 0 0) (sym (told .answered) ∙ a) in
+        let a : answer ≡ noSuchPart ∷ 0 ∷ 0 ∷ [] = numbers-are (fieldOf (s .now) l f) answer noSuchPart 0 0 (o .numbers) e in
+        let c : told .numbers .code ≡ noSuchPart = ap (λ x. getD x 0 0) (sym (told .answered) ∙ a) in
         (a, told .empty (λ z. omega (arith, c, z)))

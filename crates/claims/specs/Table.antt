@@ -6,8 +6,8 @@ use Prim.Native.Nat.{ℕ}
 use lib.Dec.{T, eqb}
 use lib.ListN.{length}
 use Rattle.base.specs.Lists.{all, zeros}
-use Rattle.meaning.specs.Load.{six, thenZeros}
-use Rattle.meaning.specs.Examples.{claims, paper-lines, lines, oldIs, changeIs, newIs, undoIs, worked-example, printed-whole}
+use Rattle.meaning.specs.Load.{thenZeros}
+use Rattle.meaning.specs.Examples.{claims, paper-lines, lines, taken, oldIs, changeIs, newIs, undoIs, worked-example, printed-whole}
 use Rattle.text.specs.Front.{inFront}
 use Rattle.answers.specs.Meant.{answerOf}
 use Rattle.answers.specs.declared.numbers.Answer.{Answer}
@@ -20,18 +20,18 @@ pub p-table : T (all (λ c. eqb (c .answer) (c .wanted)) claims)
 p-table = paper-lines
 
 -- the paper's file over the paper's holding: taken, with one insert and one update, and the new holding is the paper's
-pub worked : (r : Answer) (out : List ℕ) → Outcome oldIs changeIs 200 r out → (r ≡ answerOf (six 0 0 0 1 1 0)) × (out ≡ thenZeros 200 newIs)
+pub worked : (r : Answer) (out : List ℕ) → Outcome oldIs changeIs 200 r out → (r ≡ answerOf (taken 1 1 0)) × (out ≡ thenZeros 200 newIs)
 worked r out o = let w = worked-example .0 in (o .0 ∙ ap (λ x. answerOf (x .answer)) w, o .1 ∙ ap (λ x. x .output) w)
 
 -- its undo: an update of 500 with the old content, then a delete of the cross reference
 pub worked-undo : (r : Answer) (out work : List ℕ) → UndoOutcome oldIs changeIs 400 200 r out work
-    → (r ≡ answerOf (six 0 0 0 1 1 0)) × (out ≡ thenZeros 400 undoIs) × (work ≡ zeros 200)
+    → (r ≡ answerOf (taken 1 1 0)) × (out ≡ thenZeros 400 undoIs) × (work ≡ zeros 200)
 worked-undo r out work o =
     let w = worked-example .1 in
     (o .0 ∙ ap (λ x. answerOf (x .answer)) w, o .1 ∙ ap (λ x. x .output) w, o .2 ∙ ap (λ x. x .work) w)
 
 -- handed in, the undo gives the old holding back
-pub worked-back : (r : Answer) (out : List ℕ) → Outcome newIs undoIs 200 r out → (r ≡ answerOf (six 0 0 0 0 1 1)) × (out ≡ thenZeros 200 oldIs)
+pub worked-back : (r : Answer) (out : List ℕ) → Outcome newIs undoIs 200 r out → (r ≡ answerOf (taken 0 1 1)) × (out ≡ thenZeros 200 oldIs)
 worked-back r out o = let w = worked-example .2 in (o .0 ∙ ap (λ x. answerOf (x .answer)) w, o .1 ∙ ap (λ x. x .output) w)
 
 -- printed whole
