@@ -14,6 +14,7 @@ use lib.ListN.{length, getD, length-append}
 use Rattle.base.specs.Lists.{all, some?, bytes, ask}
 use Rattle.base.specs.Tests.{and-l, and-r, T-true}
 use Rattle.theory.specs.Store.{get, put}
+use Rattle.theory.specs.Place.{rank}
 use Rattle.theory.specs.Refs.{has, meets, clear}
 use Rattle.theory.specs.Decimal.{width}
 use Rattle.theory.specs.Limits.{most, few}
@@ -29,7 +30,8 @@ use Rattle.meaning.specs.Load.{stepTests}
 use Rattle.laws.specs.Kinds.{every}
 use Rattle.laws.specs.Body.{fine}
 use Rattle.laws.specs.FastStep.{printed, written-render, written-length, fast-step}
-use Rattle.keys.specs.Numbers.{keyNumbers, refNumbers, numbered}
+use Rattle.keys.specs.declared.Key.{Key}
+use Rattle.keys.specs.Numbers.{keyList, keyNumbers, refNumbers, numbered}
 use Rattle.keys.specs.KeyLaws.{clear-agree}
 use Rattle.entries.specs.Entries.{recordOf}
 use Rattle.places.specs.Places.{says}
@@ -99,29 +101,35 @@ module _ (h f a : List ℕ) (room : ℕ) (s : State) (y : Ready h f a room s) wh
   sizes : size printed (says h f a (s .count)) ≡ s .size
   sizes = sym (written-length (says h f a (s .count))) ∙ sym (y .sized)
 
-  module _ (v : ℕ) (g : T (fine scottish (recordOf h f v))) (p : Found) (q : Finds h f a (s .count) v p) where
+  module _ (v : ℕ) (g : T (fine scottish (recordOf h f v))) (key : Key) (own : keyList key ≡ keyNumbers (recordOf h f v)) (p : Found) (q : Finds h f a (keyList key) (s .count) p) where
+    placed : p .place ≡ rank numbered (keyNumbers (recordOf h f v)) (says h f a (s .count))
+    placed = q .placed ∙ ap (λ k. rank numbered k (says h f a (s .count))) own
+
+    there : p .stands ≡ some? (get (keyed scottish) (keyOf scottish (recordOf h f v)) (says h f a (s .count)))
+    there = q .there ∙ ap (λ k. some? (get numbered k (says h f a (s .count)))) own ∙ ap some? (get-both (says h f a (s .count)) (recordOf h f v) (y .fines) g)
+
     at-none : p .stands ≡ false → get (keyed scottish) (keyOf scottish (recordOf h f v)) (says h f a (s .count)) ≡ none
-    at-none t = none-of (get (keyed scottish) (keyOf scottish (recordOf h f v)) (says h f a (s .count))) (sym (q .there) ∙ t)
+    at-none t = none-of (get (keyed scottish) (keyOf scottish (recordOf h f v)) (says h f a (s .count))) (sym there ∙ t)
 
     stood : p .stands ≡ true → T (some? (get numbered (keyNumbers (recordOf h f v)) (says h f a (s .count))))
-    stood t = rw (get-both (says h f a (s .count)) (recordOf h f v) (y .fines) g, sym (q .there) ∙ t) tt
+    stood t = rw (get-both (says h f a (s .count)) (recordOf h f v) (y .fines) g, sym there ∙ t) tt
 
     at-some : p .stands ≡ true → get (keyed scottish) (keyOf scottish (recordOf h f v)) (says h f a (s .count)) ≡ some (recordOf h f (getD a (p .place) 0))
     at-some t =
         sym (get-both (says h f a (s .count)) (recordOf h f v) (y .fines) g)
-        ∙ found-at h f a (keyNumbers (recordOf h f v)) (s .count) (p .place) ready-in (q .placed) (stood t)
+        ∙ found-at h f a (keyNumbers (recordOf h f v)) (s .count) (p .place) ready-in placed (stood t)
 
     -- the place of a key that stands is in the array
     pub place-in : p .stands ≡ true → p .place < length a
-    place-in t = omega (arith, ready-in, stands-in h f a (s .count) (p .place) (keyNumbers (recordOf h f v)) ready-in (q .placed) (some? (get numbered (keyNumbers (recordOf h f v)) (says h f a (s .count)))) refl (T-true _ (stood t)))
+    place-in t = omega (arith, ready-in, stands-in h f a (s .count) (p .place) (keyNumbers (recordOf h f v)) ready-in placed (some? (get numbered (keyNumbers (recordOf h f v)) (says h f a (s .count)))) refl (T-true _ (stood t)))
 
     refused : (o : Op) (w z : ℕ) → w ≡ codeNumber (judge (keyed scottish) (stepTests scottish room) (says h f a (s .count)) (change o (recordOf h f v))) → (w ≡ 0 → ⊥)
         → Judges h f a room (change o (recordOf h f v)) s (record { code = w; place = p .place; size = z })
-    refused o w z e n = record { coded = e; placed = q .placed; within = q .within; sized = λ u. absurd (n u) }
+    refused o w z e n = record { coded = e; placed = placed; within = q .within; sized = λ u. absurd (n u) }
 
     taken : (o : Op) (z : ℕ) → judge (keyed scottish) (stepTests scottish room) (says h f a (s .count)) (change o (recordOf h f v)) ≡ none → z ≡ length (written (after (keyed scottish) (says h f a (s .count)) (change o (recordOf h f v))))
         → Judges h f a room (change o (recordOf h f v)) s (record { code = 0; place = p .place; size = z })
-    taken o z e n = record { coded = rw e; placed = q .placed; within = q .within; sized = λ u. n }
+    taken o z e n = record { coded = rw e; placed = placed; within = q .within; sized = λ u. n }
 
     -- ---- insert
 
@@ -136,13 +144,13 @@ module _ (h f a : List ℕ) (room : ℕ) (s : State) (y : Ready h f a room s) wh
     -- a key that stands is not inserted
     pub ins-held : p .stands ≡ true → Judges h f a room (change ins (recordOf h f v)) s (record { code = 10; place = p .place; size = s .size })
     unfolding ask
-    ins-held t = refused ins 10 (s .size) (rw (told-ins, ← q .there, t)) (λ e. omega arith)
+    ins-held t = refused ins 10 (s .size) (rw (told-ins, ← there, t)) (λ e. omega arith)
 
     module _ (t : p .stands ≡ false) (limit : ℕ) (limited : limit ≡ most) where
       -- 8,192 records are enough
       pub ins-many : limit ≤ s .count → Judges h f a room (change ins (recordOf h f v)) s (record { code = 16; place = p .place; size = s .size })
       unfolding ask
-      ins-many m = refused ins 16 (s .size) (rw (told-ins, ← q .there, t, lt-leb (suc (length (says h f a (s .count)))) most (omega (arith, y .counted)))) (λ e. omega arith)
+      ins-many m = refused ins 16 (s .size) (rw (told-ins, ← there, t, lt-leb (suc (length (says h f a (s .count)))) most (omega (arith, y .counted)))) (λ e. omega arith)
 
       module _ (m : s .count < limit) (b : Bool) (r : b ≡ meets (keyed scottish) (refsOf scottish) (says h f a (s .count)) (recordOf h f v)) where
         few-ok : leb (suc (length (says h f a (s .count)))) most ≡ true
@@ -151,7 +159,7 @@ module _ (h f a : List ℕ) (room : ℕ) (s : State) (y : Ready h f a room s) wh
         -- its references must be met
         pub ins-unmet : b ≡ false → Judges h f a room (change ins (recordOf h f v)) s (record { code = 12; place = p .place; size = s .size })
         unfolding ask
-        ins-unmet u = refused ins 12 (s .size) (rw (told-ins, ← q .there, t, few-ok, ← r, u)) (λ e. omega arith)
+        ins-unmet u = refused ins 12 (s .size) (rw (told-ins, ← there, t, few-ok, ← r, u)) (λ e. omega arith)
 
         module _ (u : b ≡ true) (l w : ℕ) (d : l ≡ length (recordOf h f v .content)) (e : w ≡ width (s .count + 1)) where
           wider : width (suc (length (says h f a (s .count)))) ≡ w
@@ -165,7 +173,7 @@ module _ (h f a : List ℕ) (room : ℕ) (s : State) (y : Ready h f a room s) wh
           -- it must fit
           pub ins-long : room - s .size < l + 10 + w → Judges h f a room (change ins (recordOf h f v)) s (record { code = 13; place = p .place; size = s .size })
           unfolding ask
-          ins-long x = refused ins 13 (s .size) (rw (told-ins, ← q .there, t, few-ok, ← r, u, grown, lt-leb (s .size + (l + 10 + w)) room (omega (arith, y .fits)))) (λ e. omega arith)
+          ins-long x = refused ins 13 (s .size) (rw (told-ins, ← there, t, few-ok, ← r, u, grown, lt-leb (s .size + (l + 10 + w)) room (omega (arith, y .fits)))) (λ e. omega arith)
 
           ins-sized : s .size + (l + 10 + w) ≡ length (written (after (keyed scottish) (says h f a (s .count)) (change ins (recordOf h f v))))
           unfolding after
@@ -174,7 +182,7 @@ module _ (h f a : List ℕ) (room : ℕ) (s : State) (y : Ready h f a room s) wh
           -- else it is taken
           pub ins-taken : l + 10 + w ≤ room - s .size → Judges h f a room (change ins (recordOf h f v)) s (record { code = 0; place = p .place; size = s .size + (l + 10 + w) })
           unfolding ask
-          ins-taken x = taken ins (s .size + (l + 10 + w)) (rw (told-ins, ← q .there, t, few-ok, ← r, u, grown, le-leb (s .size + (l + 10 + w)) room (omega (arith, y .fits)))) ins-sized
+          ins-taken x = taken ins (s .size + (l + 10 + w)) (rw (told-ins, ← there, t, few-ok, ← r, u, grown, le-leb (s .size + (l + 10 + w)) room (omega (arith, y .fits)))) ins-sized
 
     -- ---- update
 
@@ -241,12 +249,12 @@ module _ (h f a : List ℕ) (room : ℕ) (s : State) (y : Ready h f a room s) wh
       module _ (c : List ℕ) (k : Counted h f a c (s .count)) where
         -- its count is beside it
         pub count-in : p .place < length c
-        count-in = omega (arith, k .space, ready-few, stands-in h f a (s .count) (p .place) (keyNumbers (recordOf h f v)) ready-in (q .placed) (some? (get numbered (keyNumbers (recordOf h f v)) (says h f a (s .count)))) refl (T-true _ (stood t)))
+        count-in = omega (arith, k .space, ready-few, stands-in h f a (s .count) (p .place) (keyNumbers (recordOf h f v)) ready-in placed (some? (get numbered (keyNumbers (recordOf h f v)) (says h f a (s .count)))) refl (T-true _ (stood t)))
 
         counts : getD c (p .place) 0 ≡ tally (says h f a (s .count)) (keyNumbers (recordOf h f v))
         unfolding has
         counts =
-            ap (λ i. getD c i 0) (q .placed)
+            ap (λ i. getD c i 0) placed
             ∙ count-at (says h f a (s .count)) (asc-told (says h f a (s .count)) (y .asc) (y .fines)) (s .count) (y .counted) true (tally (says h f a (s .count))) c (k .told) (keyNumbers (recordOf h f v)) (stood t)
 
         seen : all (clear (keyed scottish) (refsOf scottish) (keyOf scottish (recordOf h f v))) (says h f a (s .count)) ≡ eqb (getD c (p .place) 0) 0

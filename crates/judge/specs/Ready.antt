@@ -10,13 +10,12 @@ use Rattle.theory.specs.Store.{get, Asc}
 use Rattle.theory.specs.Place.{rank}
 use Rattle.theory.specs.Step.{Change, passes, judge, after}
 use Rattle.meaning.specs.Table.{scottish}
-use Rattle.meaning.specs.Records.{Rec, keyed, keyOf}
+use Rattle.meaning.specs.Records.{Rec, keyed}
 use Rattle.meaning.specs.Holding.{written}
 use Rattle.meaning.specs.Load.{stepTests}
 use Rattle.laws.specs.Body.{fine}
 use Rattle.laws.specs.HoldingReadBack.{always}
 use Rattle.keys.specs.Numbers.{keyNumbers, numbered}
-use Rattle.entries.specs.Entries.{recordOf}
 use Rattle.places.specs.Places.{says}
 use Rattle.judge.specs.declared.State.{State}
 use Rattle.judge.specs.declared.Found.{Found}
@@ -40,11 +39,11 @@ pub record Ready (h f a : List ℕ) (room : ℕ) (s : State) : Type 0 where
   pub heldShort : length h < 9223372036854775808
   pub fileShort : length f < 9223372036854775808
 
--- the place of the key of an entry's record among the first n, and whether a record stands there
-pub record Finds (h f a : List ℕ) (n v : ℕ) (r : Found) : Type 0 where
-  pub placed : r .place ≡ rank numbered (keyNumbers (recordOf h f v)) (says h f a n)
+-- the place of a key among the first n, and whether a record stands there
+pub record Finds (h f a k : List ℕ) (n : ℕ) (r : Found) : Type 0 where
+  pub placed : r .place ≡ rank numbered k (says h f a n)
   pub within : r .place ≤ n
-  pub there : r .stands ≡ some? (get (keyed scottish) (keyOf scottish (recordOf h f v)) (says h f a n))
+  pub there : r .stands ≡ some? (get numbered k (says h f a n))
 
 -- the code of a change over the state, the place of its key, and the bytes after it where it is not refused
 pub record Judges (h f a : List ℕ) (room : ℕ) (c : Change Rec) (s : State) (r : Judged) : Type 0 where

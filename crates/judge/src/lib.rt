@@ -10,14 +10,15 @@ ghost use Rattle.theory.specs.Decimal.{width};
 ghost use Rattle.meaning.specs.Table.{scottish};
 ghost use Rattle.meaning.specs.Records.{keyed};
 ghost use Rattle.laws.specs.Body.{fine};
+ghost use Rattle.keys.specs.Numbers.{keyList, keyNumbers};
 ghost use Rattle.entries.specs.Entries.{recordOf};
 ghost use Rattle.places.specs.Places.{says};
 ghost use Rattle.places.specs.Counts.{Counted};
 ghost use Rattle.places.specs.Tags.{Tagged};
 ghost use Rattle.places.specs.Changes.{change};
 ghost use Rattle.judge.specs.Ready.{Ready, Finds, Judges};
-use entries::key::entry_key;
 use entries::lengths::entry_length;
+use keys::Key;
 use layout::limits::Holding;
 use places::met::meets;
 use places::search::place;
@@ -53,19 +54,18 @@ fn verdict(code: u64, place: usize, size: usize) -> Judged
     Judged { code, place, size }
 }
 
-// Looks up the key of an entry's record among the first `count` entries.
+// Looks up a key among the first `count` entries.
 pub fn find(
     holding: &[u8],
     file: &[u8],
     places: &[u64],
     tags: &[u64],
     count: usize,
-    entry: u64,
+    key: Key,
 ) -> Found
-    requires { ⌜ (count ≤ length (now places)) × Asc (keyed scottish) (says (now holding) (now file) (now places) count) × T (all (fine scottish) (says (now holding) (now file) (now places) count)) × T (fine scottish (recordOf (now holding) (now file) entry)) × Tagged (now holding) (now file) (now places) (now tags) count ⌝ }
-    ensures { λ r. ⌜ Finds (now (holding .entry)) (now (file .entry)) (now (places .entry)) count entry r ⌝ }
+    requires { ⌜ (count ≤ length (now places)) × Asc (keyed scottish) (says (now holding) (now file) (now places) count) × T (all (fine scottish) (says (now holding) (now file) (now places) count)) × Tagged (now holding) (now file) (now places) (now tags) count ⌝ }
+    ensures { λ r. ⌜ Finds (now (holding .entry)) (now (file .entry)) (now (places .entry)) (keyList key) count r ⌝ }
 {
-    let key = entry_key(holding, file, entry);
     let i = place(holding, file, places, tags, count, key);
     let there = stands(holding, file, places, tags, count, i, key);
     Found {
@@ -74,22 +74,23 @@ pub fn find(
     }
 }
 
-// An insert of an entry's record.
+// An insert of an entry's record, whose key is given.
 pub fn judge_insert(
     holding: &[u8],
     file: &[u8],
     places: &[u64],
     tags: &[u64],
     entry: u64,
+    key: Key,
     state: State,
     room: usize,
 ) -> Judged
-    requires { ⌜ Ready (now holding) (now file) (now places) room state × T (fine scottish (recordOf (now holding) (now file) entry)) × Tagged (now holding) (now file) (now places) (now tags) (state .count) ⌝ }
+    requires { ⌜ Ready (now holding) (now file) (now places) room state × T (fine scottish (recordOf (now holding) (now file) entry)) × Tagged (now holding) (now file) (now places) (now tags) (state .count) × (keyList key ≡ keyNumbers (recordOf (now holding) (now file) entry)) ⌝ }
     ensures { λ r. ⌜ Judges (now (holding .entry)) (now (file .entry)) (now (places .entry)) room (change ins (recordOf (now (holding .entry)) (now (file .entry)) entry)) state r ⌝ }
 {
     let count = state.count;
     let size = state.size;
-    let found = find(holding, file, places, tags, count, entry);
+    let found = find(holding, file, places, tags, count, key);
     let i = found.place;
     let there = found.stands;
     if there {
@@ -109,22 +110,23 @@ pub fn judge_insert(
     verdict(0, i, size + added)
 }
 
-// An update to an entry's record.
+// An update to an entry's record, whose key is given.
 pub fn judge_update(
     holding: &[u8],
     file: &[u8],
     places: &[u64],
     tags: &[u64],
     entry: u64,
+    key: Key,
     state: State,
     room: usize,
 ) -> Judged
-    requires { ⌜ Ready (now holding) (now file) (now places) room state × T (fine scottish (recordOf (now holding) (now file) entry)) × Tagged (now holding) (now file) (now places) (now tags) (state .count) ⌝ }
+    requires { ⌜ Ready (now holding) (now file) (now places) room state × T (fine scottish (recordOf (now holding) (now file) entry)) × Tagged (now holding) (now file) (now places) (now tags) (state .count) × (keyList key ≡ keyNumbers (recordOf (now holding) (now file) entry)) ⌝ }
     ensures { λ r. ⌜ Judges (now (holding .entry)) (now (file .entry)) (now (places .entry)) room (change upd (recordOf (now (holding .entry)) (now (file .entry)) entry)) state r ⌝ }
 {
     let count = state.count;
     let size = state.size;
-    let found = find(holding, file, places, tags, count, entry);
+    let found = find(holding, file, places, tags, count, key);
     let i = found.place;
     let there = found.stands;
     if !there {
@@ -152,15 +154,16 @@ pub fn judge_delete(
     tags: &[u64],
     counts: &[u16],
     entry: u64,
+    key: Key,
     state: State,
     room: usize,
 ) -> Judged
-    requires { ⌜ Ready (now holding) (now file) (now places) room state × Counted (now holding) (now file) (now places) (now counts) (state .count) × T (fine scottish (recordOf (now holding) (now file) entry)) × Tagged (now holding) (now file) (now places) (now tags) (state .count) ⌝ }
+    requires { ⌜ Ready (now holding) (now file) (now places) room state × Counted (now holding) (now file) (now places) (now counts) (state .count) × T (fine scottish (recordOf (now holding) (now file) entry)) × Tagged (now holding) (now file) (now places) (now tags) (state .count) × (keyList key ≡ keyNumbers (recordOf (now holding) (now file) entry)) ⌝ }
     ensures { λ r. ⌜ Judges (now (holding .entry)) (now (file .entry)) (now (places .entry)) room (change del (recordOf (now (holding .entry)) (now (file .entry)) entry)) state r ⌝ }
 {
     let count = state.count;
     let size = state.size;
-    let found = find(holding, file, places, tags, count, entry);
+    let found = find(holding, file, places, tags, count, key);
     let i = found.place;
     let there = found.stands;
     if !there {

@@ -17,7 +17,7 @@ judge-delete-spec =
     (λ c κs. search deleting)  -- verdict-requires-2
     (λ c. search deleting)  -- returns-2
     (λ c. search deleting)  -- mul-entry-length
-    (λ c. let i = place-in _ _ _ _ _ (c .before .before .before .before .before .before .before .before .before .before .pre .0) _ (c .before .before .before .before .before .before .before .before .before .before .pre .2) _ (c .before .before .before .before .find .ensures) (not-false _ (c .before .before .before .if1 .left)) in search (needs, i))  -- shared-slice-read-entry-length
+    (λ c. let i = place-in _ _ _ _ _ (c .before .before .before .before .before .before .before .before .before .before .pre .0) _ (c .before .before .before .before .before .before .before .before .before .before .pre .2) _ (c .before .before .before .before .before .before .before .before .before .before .pre .4) _ (c .before .before .before .before .find .ensures) (not-false _ (c .before .before .before .if1 .left)) in search (needs, i))  -- shared-slice-read-entry-length
     (λ c κs. search deleting)  -- entry-length-requires
     (λ c. search deleting)  -- add-gone
     (λ c κs. search deleting)  -- width-requires
