@@ -16,8 +16,7 @@ use Rattle.theory.specs.Rank.{rank}
 use Rattle.meaning.specs.Table.{scottish}
 use Rattle.meaning.specs.Records.{Rec, keyed, keyOf}
 use Rattle.laws.specs.Body.{fine}
-use Rattle.keys.specs.declared.Key.{Key}
-use Rattle.keys.specs.Numbers.{keyList, keyNumbers, numbered}
+use Rattle.keys.specs.Numbers.{keyNumbers, numbered}
 use Rattle.keys.specs.KeyLaws.{get-alike, own-agrees}
 use Rattle.entries.specs.Entries.{recordOf}
 use Rattle.places.specs.Places.{says}
@@ -30,10 +29,8 @@ pub get-both : (st : List Rec) (x : Rec) → T (all (fine scottish) st) → T (f
 get-both st x p g = get-alike st p (keyNumbers x) (keyOf scottish x) (own-agrees x g)
 
 -- the place by halves and what stands there are what is asked for
-pub finds : (h f a : List ℕ) (n v : ℕ) (k : Key) (i : ℕ) (b : Bool) → T (all (fine scottish) (says h f a n)) → T (fine scottish (recordOf h f v)) → keyList k ≡ keyNumbers (recordOf h f v)
-    → i ≡ rank numbered (keyList k) (says h f a n) → i ≤ n → b ≡ some? (get numbered (keyList k) (says h f a n)) → Finds h f a n v (record { place = i; stands = b })
-finds h f a n v k i b p g e r l q =
-    record { placed = r ∙ ap (λ z. rank numbered z (says h f a n)) e; within = l; there = q ∙ ap (λ z. some? (get numbered z (says h f a n))) e ∙ ap some? (get-both (says h f a n) (recordOf h f v) p g) }
+pub finds : (h f a k : List ℕ) (n i : ℕ) (b : Bool) → i ≡ rank numbered k (says h f a n) → i ≤ n → b ≡ some? (get numbered k (says h f a n)) → Finds h f a k n (record { place = i; stands = b })
+finds h f a k n i b r l q = record { placed = r; within = l; there = q }
 
 pub ruleset finding = (needs, finds)
 

@@ -14,6 +14,7 @@ use lib.ListN.{length, getD, length-append}
 use Rattle.base.specs.Lists.{all, some?, bytes, ask, atMost}
 use Rattle.base.specs.Tests.{and-l, and-r, T-true}
 use Rattle.theory.specs.Store.{get, put}
+use Rattle.theory.specs.Rank.{rank}
 use Rattle.theory.specs.Refs.{has, meets, clear}
 use Rattle.theory.specs.Decimal.{width}
 use Rattle.theory.specs.Written.{render, bare, size}
@@ -29,7 +30,8 @@ use Rattle.laws.specs.Kinds.{every}
 use Rattle.laws.specs.Body.{fine}
 use Rattle.laws.specs.FastStep.{printed, written-render, written-length, fast-step}
 use Rattle.meaning.specs.Codes.{keyHeld, keyAbsent, referenceUnmet, holdingTooLong, tooManyRecords}
-use Rattle.keys.specs.Numbers.{keyNumbers, refNumbers, numbered}
+use Rattle.keys.specs.declared.Key.{Key}
+use Rattle.keys.specs.Numbers.{keyList, keyNumbers, refNumbers, numbered}
 use Rattle.keys.specs.KeyLaws.{clear-agree}
 use Rattle.entries.specs.Entries.{recordOf}
 use Rattle.places.specs.Places.{says}
@@ -109,29 +111,35 @@ module _ (h f a tags : List ℕ) (room : ℕ) (s : State) (y : Holds h f a tags 
   sizes : size printed (says h f a (s .count)) ≡ s .size
   sizes = sym (written-length (says h f a (s .count))) ∙ sym (y .sized)
 
-  module _ (v : ℕ) (g : T (fine scottish (recordOf h f v))) (p : Found) (q : Finds h f a (s .count) v p) where
+  module _ (v : ℕ) (g : T (fine scottish (recordOf h f v))) (key : Key) (own : keyList key ≡ keyNumbers (recordOf h f v)) (p : Found) (q : Finds h f a (keyList key) (s .count) p) where
+    placed : p .place ≡ rank numbered (keyNumbers (recordOf h f v)) (says h f a (s .count))
+    placed = q .placed ∙ ap (λ k. rank numbered k (says h f a (s .count))) own
+
+    there : p .stands ≡ some? (get (keyed scottish) (keyOf scottish (recordOf h f v)) (says h f a (s .count)))
+    there = q .there ∙ ap (λ k. some? (get numbered k (says h f a (s .count)))) own ∙ ap some? (get-both (says h f a (s .count)) (recordOf h f v) (y .ordered .fines) g)
+
     at-none : p .stands ≡ false → get (keyed scottish) (keyOf scottish (recordOf h f v)) (says h f a (s .count)) ≡ none
-    at-none t = none-of (get (keyed scottish) (keyOf scottish (recordOf h f v)) (says h f a (s .count))) (sym (q .there) ∙ t)
+    at-none t = none-of (get (keyed scottish) (keyOf scottish (recordOf h f v)) (says h f a (s .count))) (sym there ∙ t)
 
     stood : p .stands ≡ true → T (some? (get numbered (keyNumbers (recordOf h f v)) (says h f a (s .count))))
-    stood t = rw (get-both (says h f a (s .count)) (recordOf h f v) (y .ordered .fines) g, sym (q .there) ∙ t) tt
+    stood t = rw (get-both (says h f a (s .count)) (recordOf h f v) (y .ordered .fines) g, sym there ∙ t) tt
 
     at-some : p .stands ≡ true → get (keyed scottish) (keyOf scottish (recordOf h f v)) (says h f a (s .count)) ≡ some (recordOf h f (getD a (p .place) 0))
     at-some t =
         sym (get-both (says h f a (s .count)) (recordOf h f v) (y .ordered .fines) g)
-        ∙ found-at h f a (keyNumbers (recordOf h f v)) (s .count) (p .place) (y .ordered .within) (q .placed) (stood t)
+        ∙ found-at h f a (keyNumbers (recordOf h f v)) (s .count) (p .place) (y .ordered .within) placed (stood t)
 
     -- the place of a key that stands is in the array
     pub place-in : p .stands ≡ true → p .place < length a
-    place-in t = omega (arith, (y .ordered .within), stands-in h f a (s .count) (p .place) (keyNumbers (recordOf h f v)) (y .ordered .within) (q .placed) (some? (get numbered (keyNumbers (recordOf h f v)) (says h f a (s .count)))) refl (T-true _ (stood t)))
+    place-in t = omega (arith, (y .ordered .within), stands-in h f a (s .count) (p .place) (keyNumbers (recordOf h f v)) (y .ordered .within) placed (some? (get numbered (keyNumbers (recordOf h f v)) (says h f a (s .count)))) refl (T-true _ (stood t)))
 
     refused : (o : Op) (w z : ℕ) → w ≡ codeNumber (stepCode scottish room (says h f a (s .count)) (change o (recordOf h f v))) → (w ≡ 0 → ⊥)
         → Judges h f a room (change o (recordOf h f v)) s (record { code = w; place = p .place; size = z })
-    refused o w z e n = record { coded = e; placed = q .placed; within = q .within; sized = λ u. absurd (n u) }
+    refused o w z e n = record { coded = e; placed = placed; within = q .within; sized = λ u. absurd (n u) }
 
     taken : (o : Op) (z : ℕ) → stepCode scottish room (says h f a (s .count)) (change o (recordOf h f v)) ≡ none → z ≡ length (written (after (keyed scottish) (says h f a (s .count)) (change o (recordOf h f v))))
         → Judges h f a room (change o (recordOf h f v)) s (record { code = 0; place = p .place; size = z })
-    taken o z e n = record { coded = rw e; placed = q .placed; within = q .within; sized = λ u. n }
+    taken o z e n = record { coded = rw e; placed = placed; within = q .within; sized = λ u. n }
 
     -- ---- insert
 
@@ -146,13 +154,13 @@ module _ (h f a tags : List ℕ) (room : ℕ) (s : State) (y : Holds h f a tags 
     -- a key that stands is not inserted
     pub ins-held : p .stands ≡ true → Judges h f a room (change ins (recordOf h f v)) s (record { code = keyHeld; place = p .place; size = s .size })
     unfolding ask
-    ins-held t = refused ins keyHeld (s .size) (rw (told-ins, ← q .there, t)) (λ e. omega arith)
+    ins-held t = refused ins keyHeld (s .size) (rw (told-ins, ← there, t)) (λ e. omega arith)
 
     module _ (t : p .stands ≡ false) (limit : ℕ) (limited : limit ≡ mostRecords) where
       -- 8,192 records are enough
       pub ins-many : limit ≤ s .count → Judges h f a room (change ins (recordOf h f v)) s (record { code = tooManyRecords; place = p .place; size = s .size })
       unfolding ask
-      ins-many m = refused ins tooManyRecords (s .size) (rw (told-ins, ← q .there, t, lt-leb (suc (length (says h f a (s .count)))) mostRecords (omega (arith, holds-counted)))) (λ e. omega arith)
+      ins-many m = refused ins tooManyRecords (s .size) (rw (told-ins, ← there, t, lt-leb (suc (length (says h f a (s .count)))) mostRecords (omega (arith, holds-counted)))) (λ e. omega arith)
 
       module _ (m : s .count < limit) (b : Bool) (r : b ≡ meets (keyed scottish) (refsOf scottish) (says h f a (s .count)) (recordOf h f v)) where
         few-ok : leb (suc (length (says h f a (s .count)))) mostRecords ≡ true
@@ -161,7 +169,7 @@ module _ (h f a tags : List ℕ) (room : ℕ) (s : State) (y : Holds h f a tags 
         -- its references must be met
         pub ins-unmet : b ≡ false → Judges h f a room (change ins (recordOf h f v)) s (record { code = referenceUnmet; place = p .place; size = s .size })
         unfolding ask
-        ins-unmet u = refused ins referenceUnmet (s .size) (rw (told-ins, ← q .there, t, few-ok, ← r, u)) (λ e. omega arith)
+        ins-unmet u = refused ins referenceUnmet (s .size) (rw (told-ins, ← there, t, few-ok, ← r, u)) (λ e. omega arith)
 
         module _ (u : b ≡ true) (l w : ℕ) (d : l ≡ length (recordOf h f v .content)) (e : w ≡ width (s .count + 1)) where
           wider : width (suc (length (says h f a (s .count)))) ≡ w
@@ -175,7 +183,7 @@ module _ (h f a tags : List ℕ) (room : ℕ) (s : State) (y : Holds h f a tags 
           -- it must fit
           pub ins-long : room - s .size < l + 10 + w → Judges h f a room (change ins (recordOf h f v)) s (record { code = holdingTooLong; place = p .place; size = s .size })
           unfolding ask
-          ins-long x = refused ins holdingTooLong (s .size) (rw (told-ins, ← q .there, t, few-ok, ← r, u, grown, lt-leb (s .size + (l + 10 + w)) room (omega (arith, y .fits)))) (λ e. omega arith)
+          ins-long x = refused ins holdingTooLong (s .size) (rw (told-ins, ← there, t, few-ok, ← r, u, grown, lt-leb (s .size + (l + 10 + w)) room (omega (arith, y .fits)))) (λ e. omega arith)
 
           ins-sized : s .size + (l + 10 + w) ≡ length (written (after (keyed scottish) (says h f a (s .count)) (change ins (recordOf h f v))))
           unfolding after
@@ -184,7 +192,7 @@ module _ (h f a tags : List ℕ) (room : ℕ) (s : State) (y : Holds h f a tags 
           -- else it is taken
           pub ins-taken : l + 10 + w ≤ room - s .size → Judges h f a room (change ins (recordOf h f v)) s (record { code = 0; place = p .place; size = s .size + (l + 10 + w) })
           unfolding ask
-          ins-taken x = taken ins (s .size + (l + 10 + w)) (rw (told-ins, ← q .there, t, few-ok, ← r, u, grown, le-leb (s .size + (l + 10 + w)) room (omega (arith, y .fits)))) ins-sized
+          ins-taken x = taken ins (s .size + (l + 10 + w)) (rw (told-ins, ← there, t, few-ok, ← r, u, grown, le-leb (s .size + (l + 10 + w)) room (omega (arith, y .fits)))) ins-sized
 
     -- ---- update
 
@@ -251,12 +259,12 @@ module _ (h f a tags : List ℕ) (room : ℕ) (s : State) (y : Holds h f a tags 
       module _ (c : List ℕ) (k : Ready h f a tags c room s) where
         -- its count is beside it
         pub count-in : p .place < length c
-        count-in = omega (arith, k .countSpace, holds-few, stands-in h f a (s .count) (p .place) (keyNumbers (recordOf h f v)) (y .ordered .within) (q .placed) (some? (get numbered (keyNumbers (recordOf h f v)) (says h f a (s .count)))) refl (T-true _ (stood t)))
+        count-in = omega (arith, k .countSpace, holds-few, stands-in h f a (s .count) (p .place) (keyNumbers (recordOf h f v)) (y .ordered .within) placed (some? (get numbered (keyNumbers (recordOf h f v)) (says h f a (s .count)))) refl (T-true _ (stood t)))
 
         counts : getD c (p .place) 0 ≡ tally (says h f a (s .count)) (keyNumbers (recordOf h f v))
         unfolding has
         counts =
-            ap (λ i. getD c i 0) (q .placed)
+            ap (λ i. getD c i 0) placed
             ∙ count-at (says h f a (s .count)) (ordered-asc h f a tags (s .count) (y .ordered)) (s .count) (holds-counted) true (tally (says h f a (s .count))) c (k .counted) (keyNumbers (recordOf h f v)) (stood t)
 
         seen : all (clear (keyed scottish) (refsOf scottish) (keyOf scottish (recordOf h f v))) (says h f a (s .count)) ≡ eqb (getD c (p .place) 0) 0

@@ -10,11 +10,10 @@ use Rattle.theory.specs.Store.{get}
 use Rattle.theory.specs.Rank.{rank}
 use Rattle.theory.specs.Step.{Change, passes, judge, after}
 use Rattle.meaning.specs.Table.{scottish}
-use Rattle.meaning.specs.Records.{Rec, keyed, keyOf}
+use Rattle.meaning.specs.Records.{Rec, keyed}
 use Rattle.meaning.specs.Holding.{written, mostRecords}
 use Rattle.meaning.specs.Steps.{heldTests, stepCode}
 use Rattle.keys.specs.Numbers.{keyNumbers, numbered}
-use Rattle.entries.specs.Entries.{recordOf}
 use Rattle.places.specs.Places.{says}
 use Rattle.places.specs.Counts.{tally, byKey}
 use Rattle.places.specs.Ordered.{Ordered}
@@ -49,11 +48,11 @@ pub record Ready (h f a g t : List ℕ) (room : ℕ) (s : State) : Type 0 where
   pub tagSpace : mostRecords ≤ length g
   pub countSpace : mostRecords ≤ length t
 
--- the place of the key of an entry's record among the first n, and whether a record stands there
-pub record Finds (h f a : List ℕ) (n v : ℕ) (r : Found) : Type 0 where
-  pub placed : r .place ≡ rank numbered (keyNumbers (recordOf h f v)) (says h f a n)
+-- the place of a key among the first n, and whether a record stands there
+pub record Finds (h f a k : List ℕ) (n : ℕ) (r : Found) : Type 0 where
+  pub placed : r .place ≡ rank numbered k (says h f a n)
   pub within : r .place ≤ n
-  pub there : r .stands ≡ some? (get (keyed scottish) (keyOf scottish (recordOf h f v)) (says h f a n))
+  pub there : r .stands ≡ some? (get numbered k (says h f a n))
 
 -- the code of a change over the state, the place of its key, and the bytes after it where it is not refused
 pub record Judges (h f a : List ℕ) (room : ℕ) (c : Change Rec) (s : State) (r : Judged) : Type 0 where

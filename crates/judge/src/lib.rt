@@ -4,6 +4,7 @@ ghost use lib.Dec.{T};
 ghost use Rattle.theory.specs.Step.{ins, upd, del};
 ghost use Rattle.meaning.specs.Table.{scottish};
 ghost use Rattle.laws.specs.Body.{fine};
+ghost use Rattle.keys.specs.Numbers.{keyList, keyNumbers};
 ghost use Rattle.entries.specs.Entries.{recordOf};
 ghost use Rattle.places.specs.Ordered.{Ordered};
 ghost use Rattle.places.specs.Changes.{change};
@@ -14,8 +15,8 @@ use answers::codes::KEY_ABSENT;
 use answers::codes::KEY_HELD;
 use answers::codes::REFERENCE_UNMET;
 use answers::codes::TOO_MANY_RECORDS;
-use entries::key::entry_key;
 use entries::lengths::entry_length;
+use keys::Key;
 use layout::limits::Holding;
 use places::met::meets;
 use places::search::place;
@@ -51,19 +52,18 @@ fn verdict(code: u64, place: usize, size: usize) -> Judged
     Judged { code, place, size }
 }
 
-// Looks up the key of an entry's record among the first `count` entries.
+// Looks up a key among the first `count` entries.
 pub fn find(
     holding: &[u8],
     file: &[u8],
     places: &[u64],
     tags: &[u64],
     count: usize,
-    entry: u64,
+    key: Key,
 ) -> Found
-    requires { ⌜ Ordered (now holding) (now file) (now places) (now tags) count × T (fine scottish (recordOf (now holding) (now file) entry)) ⌝ }
-    ensures { λ r. ⌜ Finds (now (holding .entry)) (now (file .entry)) (now (places .entry)) count entry r ⌝ }
+    requires { ⌜ Ordered (now holding) (now file) (now places) (now tags) count ⌝ }
+    ensures { λ r. ⌜ Finds (now (holding .entry)) (now (file .entry)) (now (places .entry)) (keyList key) count r ⌝ }
 {
-    let key = entry_key(holding, file, entry);
     let i = place(holding, file, places, tags, count, key);
     let there = stands(holding, file, places, tags, count, i, key);
     Found {
@@ -72,22 +72,23 @@ pub fn find(
     }
 }
 
-// An insert of an entry's record.
+// An insert of an entry's record, whose key is given.
 pub fn judge_insert(
     holding: &[u8],
     file: &[u8],
     places: &[u64],
     tags: &[u64],
     entry: u64,
+    key: Key,
     state: State,
     room: usize,
 ) -> Judged
-    requires { ⌜ Holds (now holding) (now file) (now places) (now tags) room state × T (fine scottish (recordOf (now holding) (now file) entry)) ⌝ }
+    requires { ⌜ Holds (now holding) (now file) (now places) (now tags) room state × T (fine scottish (recordOf (now holding) (now file) entry)) × (keyList key ≡ keyNumbers (recordOf (now holding) (now file) entry)) ⌝ }
     ensures { λ r. ⌜ Judges (now (holding .entry)) (now (file .entry)) (now (places .entry)) room (change ins (recordOf (now (holding .entry)) (now (file .entry)) entry)) state r ⌝ }
 {
     let count = state.count;
     let size = state.size;
-    let found = find(holding, file, places, tags, count, entry);
+    let found = find(holding, file, places, tags, count, key);
     let i = found.place;
     let there = found.stands;
     if there {
@@ -107,22 +108,23 @@ pub fn judge_insert(
     verdict(ALL_DONE, i, size + added)
 }
 
-// An update to an entry's record.
+// An update to an entry's record, whose key is given.
 pub fn judge_update(
     holding: &[u8],
     file: &[u8],
     places: &[u64],
     tags: &[u64],
     entry: u64,
+    key: Key,
     state: State,
     room: usize,
 ) -> Judged
-    requires { ⌜ Holds (now holding) (now file) (now places) (now tags) room state × T (fine scottish (recordOf (now holding) (now file) entry)) ⌝ }
+    requires { ⌜ Holds (now holding) (now file) (now places) (now tags) room state × T (fine scottish (recordOf (now holding) (now file) entry)) × (keyList key ≡ keyNumbers (recordOf (now holding) (now file) entry)) ⌝ }
     ensures { λ r. ⌜ Judges (now (holding .entry)) (now (file .entry)) (now (places .entry)) room (change upd (recordOf (now (holding .entry)) (now (file .entry)) entry)) state r ⌝ }
 {
     let count = state.count;
     let size = state.size;
-    let found = find(holding, file, places, tags, count, entry);
+    let found = find(holding, file, places, tags, count, key);
     let i = found.place;
     let there = found.stands;
     if !there {
@@ -150,15 +152,16 @@ pub fn judge_delete(
     tags: &[u64],
     counts: &[u16],
     entry: u64,
+    key: Key,
     state: State,
     room: usize,
 ) -> Judged
-    requires { ⌜ Ready (now holding) (now file) (now places) (now tags) (now counts) room state × T (fine scottish (recordOf (now holding) (now file) entry)) ⌝ }
+    requires { ⌜ Ready (now holding) (now file) (now places) (now tags) (now counts) room state × T (fine scottish (recordOf (now holding) (now file) entry)) × (keyList key ≡ keyNumbers (recordOf (now holding) (now file) entry)) ⌝ }
     ensures { λ r. ⌜ Judges (now (holding .entry)) (now (file .entry)) (now (places .entry)) room (change del (recordOf (now (holding .entry)) (now (file .entry)) entry)) state r ⌝ }
 {
     let count = state.count;
     let size = state.size;
-    let found = find(holding, file, places, tags, count, entry);
+    let found = find(holding, file, places, tags, count, key);
     let i = found.place;
     let there = found.stands;
     if !there {

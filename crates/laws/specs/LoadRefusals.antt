@@ -16,7 +16,7 @@ use Rattle.meaning.specs.Records.{Rec, keyed}
 use Rattle.meaning.specs.File.{Sheet, readFile}
 use Rattle.meaning.specs.Holding.{Held, sound, unsound, readHolding}
 use Rattle.meaning.specs.Load.{outcome, fromStart, onFile, onHolding, load}
-use Rattle.meaning.specs.Steps.{keyCode, fits, stepRules, steps}
+use Rattle.meaning.specs.Steps.{keyCode, fits, stepRules, runSteps}
 use Rattle.meaning.specs.Answers.{Read, Answer, alone}
 use Rattle.meaning.specs.Codes.{holdingTooLong, keyHeld, keyAbsent, tooManyRecords, referenceUnmet, holdingUnsound}
 use Rattle.laws.specs.Regular.{Regular}
@@ -118,8 +118,8 @@ module _ (F : Format) where
         ran cs (done st) i = tt
         ran cs (stop l w) i = among-r w (holdingUnsound ∷ fileCodes) stepCodes (i .0)
 
-        starts : (c : Bool) (st : List Rec) (s : Sheet) → AnswerIn (pick c (outcome (s .1) (steps F room st (s .1))) (refused (alone holdingTooLong)))
-        starts true st s = ran (s .1) (steps F room st (s .1)) (run-in room 2 st (s .1))
+        starts : (c : Bool) (st : List Rec) (s : Sheet) → AnswerIn (pick c (outcome (s .1) (runSteps F room st (s .1))) (refused (alone holdingTooLong)))
+        starts true st s = ran (s .1) (runSteps F room st (s .1)) (run-in room 2 st (s .1))
         starts false st s = tt
 
         files : (st : List Rec) (r : Read Sheet) → ReadIn r → AnswerIn (onFile F room st r)

@@ -23,7 +23,7 @@ use Rattle.meaning.specs.Holding.{Held, sound, unsound, readHolding}
 use Rattle.meaning.specs.Load.{outcome, fromStart, onFile, onHolding, load, checked, checkFile, heldNumbers, checkHolding, applied, apply, Undone, undone, undoFile}
 use Rattle.meaning.specs.Enquiries.{Found, refusal, spanned, partOf, heldAt, heldPart, findIn, findKind, find, lastNaming, unlessDeleted, inForcePart, inForceFile, inForceHeld, inForceKind, inForce, fieldPart, fieldIn, fieldOf, first, second}
 use Rattle.meaning.specs.Answers.{Read, Answer, Numbers, noFault, alone, ofLine, ofField, Refusal, atLine}
-use Rattle.meaning.specs.Steps.{fits, stepRules, steps}
+use Rattle.meaning.specs.Steps.{fits, stepRules, runSteps}
 use Rattle.meaning.specs.Undo.{undoBytes}
 use Rattle.meaning.specs.Codes.{holdingTooLong, allDone, endingWrong, identifierUnknown, outOfPlace, fieldCountWrong, fieldMalformed, endBeforeStart, notRunningNumber, recordCountWrong, tooManyBodyLines, keyAbsent, holdingUnsound, kindNotAsked, undoTooLong, noSuchPart}
 use Rattle.laws.specs.Regular.{Regular}
@@ -313,8 +313,8 @@ module _ (F : Format) where
             stepped w l 0 (given-r (rows nought (holdingTooLong ∷ [])) _ w l 0 (rows-given (within 2 (n - 2)) stepCodes w l (in-lines 2 (n - 2) l (i .1) (omega (arith, i .2, e))) (i .0)))
 
         starts : (c : Bool) (st : List Rec) (s : Sheet) → n ≡ length (s .1) + 3
-            → RefusalIn (loadRows old b) (pick c (outcome (s .1) (steps F room st (s .1))) (refused (alone holdingTooLong)))
-        starts true st s e = ran (s .1) e (steps F room st (s .1)) (run-in F room 2 st (s .1))
+            → RefusalIn (loadRows old b) (pick c (outcome (s .1) (runSteps F room st (s .1))) (refused (alone holdingTooLong)))
+        starts true st s e = ran (s .1) e (runSteps F room st (s .1)) (run-in F room 2 st (s .1))
         starts false st s e = stepped holdingTooLong 0 0 (unfold given in tt)
 
         files : (st : List Rec) (r : Read Sheet) → FileGiven b r → RefusalIn (loadRows old b) (onFile F room st r)

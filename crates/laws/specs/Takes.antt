@@ -27,7 +27,7 @@ use Rattle.laws.specs.HoldingReadBack.{heldRecords, holding}
 use Rattle.laws.specs.FileReadBack.{files}
 use Rattle.theory.specs.Apply as A
 use Rattle.meaning.specs.Answers.{Read, Answer, takenWith, alone, Refusal, ofLine, atLine}
-use Rattle.meaning.specs.Steps.{fits, stepRules, heldTests, steps, keyCode, roomTests}
+use Rattle.meaning.specs.Steps.{fits, stepRules, heldTests, runSteps, keyCode, roomTests}
 use Rattle.meaning.specs.Undo.{undoBytes, undoSheet, undoHeld}
 use Rattle.meaning.specs.Codes.{holdingTooLong, holdingUnsound}
 
@@ -64,10 +64,10 @@ module _ (F : Format) where
     unfolding fromStart A.onFile fits fails ask A.ifRoom
     same-start room st s = go (leb (length (written st)) room)
       where
-        go : (c : Bool) → pick c (outcome (s .1) (steps F room st (s .1))) (refused (alone holdingTooLong))
+        go : (c : Bool) → pick c (outcome (s .1) (runSteps F room st (s .1))) (refused (alone holdingTooLong))
             ≡ A.ifRoom (keyed F) (holding F regular) (files F regular) terms (ask c holdingTooLong none)
-            (A.outcome (keyed F) (holding F regular) (files F regular) terms (s .1) (steps F room st (s .1)))
-        go true = same-run (s .1) (steps F room st (s .1))
+            (A.outcome (keyed F) (holding F regular) (files F regular) terms (s .1) (runSteps F room st (s .1)))
+        go true = same-run (s .1) (runSteps F room st (s .1))
         go false = refl
 
     same-file : (room : ℕ) (st : List Rec) (r : Read Sheet) → onFile F room st r ≡ A.onFile (keyed F) (holding F regular) (files F regular) terms room st r

@@ -18,7 +18,7 @@ use Rattle.meaning.specs.Format.{Format}
 use Rattle.meaning.specs.Records.{Rec, keyed, refsOf}
 use Rattle.meaning.specs.Holding.{readHolding}
 use Rattle.meaning.specs.Load.{outcome, fromStart, onFile, onHolding, load, Undone, undone, undoFile}
-use Rattle.meaning.specs.Steps.{few, fits, stepRules, heldTests, roomTests, steps}
+use Rattle.meaning.specs.Steps.{few, fits, stepRules, heldTests, roomTests, runSteps}
 use Rattle.meaning.specs.Answers.{Answer, alone}
 use Rattle.meaning.specs.Undo.{undoBytes}
 use Rattle.meaning.specs.Codes.{holdingTooLong, allDone, undoTooLong}
@@ -81,8 +81,8 @@ module _ (F : Format) where
         ran (done st) i = tt
         ran (stop l w) i = i
 
-        start : (c : Bool) → Load13 (pick c (outcome (a .cs) (steps F space (a .st) (a .cs))) (refused (alone holdingTooLong)))
-        start true = ran (steps F space (a .st) (a .cs)) (run-13 room space 2 (a .st) (a .cs) (a .takes))
+        start : (c : Bool) → Load13 (pick c (outcome (a .cs) (runSteps F space (a .st) (a .cs))) (refused (alone holdingTooLong)))
+        start true = ran (runSteps F space (a .st) (a .cs)) (run-13 room space 2 (a .st) (a .cs) (a .takes))
         start false = refl
 
     -- the undo of a file that is taken is refused only with 17, or with 13 by its work buffer

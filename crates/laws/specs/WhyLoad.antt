@@ -20,7 +20,7 @@ use Rattle.meaning.specs.Records.{Rec, keyed}
 use Rattle.meaning.specs.File.{Frame, Sheet, readFile}
 use Rattle.meaning.specs.Holding.{Held, sound, unsound, readHolding}
 use Rattle.meaning.specs.Load.{outcome, fromStart, onFile, onHolding, load, checked, checkFile, heldNumbers, checkHolding, applied, apply, Undone, undone, undoFile}
-use Rattle.meaning.specs.Steps.{keyCode, fits, steps}
+use Rattle.meaning.specs.Steps.{keyCode, fits, runSteps}
 use Rattle.meaning.specs.Answers.{Read, Answer, ofField, Refusal, atLine, alone}
 use Rattle.meaning.specs.Undo.{undoBytes}
 use Rattle.laws.specs.Regular.{Regular}
@@ -146,8 +146,8 @@ module _ (F : Format) where
         ran m t (stop l w) r = badStep m t r refl
 
         starts : (m : BothSound old b) (c : Bool) → fits room (m .st) ≡ c
-            → LoadSays room old b (pick c (outcome (m .cs) (steps F room (m .st) (m .cs))) (refused (alone holdingTooLong)))
-        starts m true e = ran m (rw e tt) (steps F room (m .st) (m .cs)) (run-says F 2 room (m .st) (m .cs))
+            → LoadSays room old b (pick c (outcome (m .cs) (runSteps F room (m .st) (m .cs))) (refused (alone holdingTooLong)))
+        starts m true e = ran m (rw e tt) (runSteps F room (m .st) (m .cs)) (run-says F 2 room (m .st) (m .cs))
         starts m false e = noStart m (false-no _ e) (refl, refl, refl)
 
         files : (st : List Rec) → SoundHolding F old st → (r : Read Sheet) → readFile F b ≡ r → LoadSays room old b (onFile F room st r)

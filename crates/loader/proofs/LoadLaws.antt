@@ -17,7 +17,7 @@ use Rattle.meaning.specs.File.{Sheet, readFile}
 use Rattle.meaning.specs.Holding as meaning
 use Rattle.meaning.specs.Holding.{sound, unsound, readHolding, written, mostRecords}
 use Rattle.meaning.specs.Load.{outcome, fromStart, onFile, onHolding, load, checked, checkFile}
-use Rattle.meaning.specs.Steps.{fits, steps}
+use Rattle.meaning.specs.Steps.{fits, runSteps}
 use Rattle.meaning.specs.Undo.{undoSheet, undoHeld, undoBytes, undoBody}
 use Rattle.laws.specs.FileRefusals.{ReadIn, among, file-codes}
 use Rattle.laws.specs.SoundHolding.{held-is-sound}
@@ -111,9 +111,9 @@ module _ (h f : List ℕ) (room : ℕ) (r : Held) (a o tl : List ℕ) (w : HeldI
 
       module _ (s : length h ≤ room) where
         -- so the steps are made
-        on-steps : load scottish room h f ≡ outcome (read .sheet .1) (steps scottish room st (read .sheet .1))
+        on-steps : load scottish room h f ≡ outcome (read .sheet .1) (runSteps scottish room st (read .sheet .1))
         unfolding fromStart fits
-        on-steps = on-start ∙ ap (λ b. pick b (outcome (read .sheet .1) (steps scottish room st (read .sheet .1))) (refused (alone holdingTooLong))) (le-leb (length (written st)) room (omega (arith, ap length bytes)))
+        on-steps = on-start ∙ ap (λ b. pick b (outcome (read .sheet .1) (runSteps scottish room st (read .sheet .1))) (refused (alone holdingTooLong))) (le-leb (length (written st)) room (omega (arith, ap length bytes)))
 
         -- the holding as it stands is ready for them
         pub load-ready : mostRecords ≤ length a → mostRecords ≤ length o → mostRecords ≤ length tl → short room → short (length h) → short (length f)
@@ -141,8 +141,8 @@ module _ (h f : List ℕ) (room : ℕ) (r : Held) (a o tl : List ℕ) (w : HeldI
           said = w .listed z .says f
 
           -- the run of the file's changes
-          ran : ranAs h f b n ≡ steps scottish room st (read .sheet .1)
-          ran = y .ended ∙ ap (λ l. steps scottish room l (changesOf (readFile scottish f))) said ∙ ap (λ u. steps scottish room st (changesOf u)) (read .reads)
+          ran : ranAs h f b n ≡ runSteps scottish room st (read .sheet .1)
+          ran = y .ended ∙ ap (λ l. runSteps scottish room l (changesOf (readFile scottish f))) said ∙ ap (λ u. runSteps scottish room st (changesOf u)) (read .reads)
 
           -- a step that is refused
           pub load-stopped : (n .code ≡ 0 → ⊥) → load scottish room h f ≡ refused (atLine (n .line) (ofLine (n .code)))

@@ -51,5 +51,5 @@ module _ (F : Format) where
   stepCode room = judge (keyed F) (stepRules room)
 
   -- the steps one after another, up to the first that is refused: body line n stands on line n + 1
-  abbrev pub steps : ℕ → List Rec → List (Change Rec) → Out (List Rec)
-  steps room = run (keyed F) (stepRules room) 2
+  abbrev pub runSteps : ℕ → List Rec → List (Change Rec) → Out (List Rec)
+  runSteps room = run (keyed F) (stepRules room) 2

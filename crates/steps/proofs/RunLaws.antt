@@ -1,6 +1,5 @@
 -- The laws of a run: a sound file's body is read line by line, and each way out ends as the run of its changes does.
 use mathlib.Core.Path.{_≡_, refl, sym, ap, _∙_, subst}
-use mathlib.Core.Bool.{Bool, true, false}
 use mathlib.Core.Option.{Option, none, some}
 use mathlib.Core.List.{List, [], _∷_, _++_, append-nil, nil≢cons}
 use Prim.Native.Nat.{ℕ, suc, _+_, _-_, _*_, _≤_, _<_}
@@ -9,6 +8,8 @@ use native.Mathlib.Nat.{lt-of-not-le}
 use native.Mathlib.Omega.{arith}
 use borrow.Author.Needs.{needs}
 use borrow.Author.Tests.{not-true, not-false, ne-eqb}
+use denote.Enum.Declared.{tagOf}
+use types.Run.{OneOf, miss}
 use mir.Syntax.{w64}
 use mir.Val.{Fits}
 use lib.Dec.{T}
@@ -16,7 +17,7 @@ use lib.ListN.{length, getD, take, drop, set, length-set}
 use lib.Seq.{drop-drop}
 use Rattle.base.specs.Lists.{pick, all}
 use Rattle.base.specs.Tests.{and-l, and-r}
-use Rattle.theory.specs.Step.{Op, Change, judge, after, back}
+use Rattle.theory.specs.Step.{Change, judge, after, back}
 use Rattle.theory.specs.Trail.{undo}
 use Rattle.theory.specs.Answer.{fault, file}
 use Rattle.theory.specs.Run as Theory
@@ -28,7 +29,7 @@ use Rattle.meaning.specs.Records.{Rec, keyed, opOf, changeOf}
 use Rattle.meaning.specs.Holding.{isHeld}
 use Rattle.meaning.specs.File.{Sheet, readFile, mostBody}
 use Rattle.meaning.specs.Answers.{Read}
-use Rattle.meaning.specs.Steps.{stepRules, stepCode, steps}
+use Rattle.meaning.specs.Steps.{stepRules, stepCode, runSteps}
 use Rattle.laws.specs.LinesAndFields.{endsAll}
 use Rattle.laws.specs.FileReadBack.{fineC, file-says}
 use Rattle.laws.specs.SoundFile.{RoleLine, SaysChange, SaysChanges, read-sound}
@@ -36,8 +37,12 @@ use Rattle.laws.specs.Scottish.{scottish-regular}
 use Rattle.meaning.specs.Undo.{undoBody}
 use Rattle.text.specs.Places.{lineLen, lineEnd}
 use Rattle.text.proofs.LineLaws.{lines-at, lines-end}
+use Rattle.layout.specs.declared.kinds.HeldKind.{HeldKind}
 use Rattle.layout.specs.declared.kinds.Kind as code
-use Rattle.layout.specs.Meant.{kindMeant}
+use Rattle.layout.specs.declared.kinds.Kind.the-variants.{Header, Held, Metadata, Trailer}
+use Rattle.layout.specs.Meant.{heldMeant, kindMeant}
+use Rattle.layout.proofs.kinds.Kind.{the-type}
+use Rattle.layout.proofs.KindLaws.{roleOf, role-of}
 use Rattle.volume.specs.declared.lines.Line as read
 use Rattle.volume.specs.Meant.{changeMeant}
 use Rattle.entries.specs.Entries.{recOf, lineAt}
@@ -53,18 +58,6 @@ use Rattle.steps.specs.declared.run.Ran.{Ran}
 use Rattle.steps.specs.Steps.{Carries, Steps}
 use Rattle.steps.specs.Run.{isFile, changesOf, bodyFrom, Runs}
 use Rattle.steps.proofs.StepLaws.{code-none}
-
--- ---- leaves
-
--- the kind of the line at an offset
-pub line-kind-at : (f : List ℕ) (at : ℕ) (l k : code.Kind) → l ≡ k → kindMeant k ≡ recOf (lineAt f at) .kind → kindMeant l ≡ recOf (lineAt f at) .kind
-line-kind-at f at l k i u = ap kindMeant i ∙ u
-
--- and its change
-pub line-change-at : (f : List ℕ) (at e : ℕ) (o : Op) → e ≡ lineEnd f at → o ≡ opOf (getD (fieldsOf (take (e - at) (drop at f))) 1 []) → o ≡ opOf (getD (fieldsOf (lineAt f at)) 1 [])
-line-change-at f at e o q u = u ∙ ap (λ t. opOf (getD (fieldsOf t) 1 [])) (line-here f at e q)
-
-pub ruleset readline = (needs, line-kind-at, line-change-at)
 
 -- ---- the body of a sound file
 
@@ -103,7 +96,7 @@ Backed h f a₀ s₀ a s cs steps before n =
 
 -- what is left to run from `at` on, after n steps, ends as the whole run does
 pub record Going (h f a₀ : List ℕ) (room : ℕ) (s₀ : State) (a o t steps before : List ℕ) (s : State) (at n : ℕ) : Type 0 where
-  pub left : Theory.run (keyed scottish) (stepRules scottish room) (n + 2) (says h f a (s .count)) (bodyFrom (linesOf (drop at f))) ≡ steps scottish room (says h f a₀ (s₀ .count)) (changesOf (readFile scottish f))
+  pub left : Theory.run (keyed scottish) (stepRules scottish room) (n + 2) (says h f a (s .count)) (bodyFrom (linesOf (drop at f))) ≡ runSteps scottish room (says h f a₀ (s₀ .count)) (changesOf (readFile scottish f))
   pub backed : Backed h f a₀ s₀ a s (bodyFrom (linesOf (drop at f))) steps before n
   pub rest : linesOf (drop at f) ≡ drop (n + 1) (linesOf f)
   pub ready : Ready h f a o t room s
@@ -126,7 +119,7 @@ unfolding stepsBack
 go-start h f a o c steps before room s e y t p k q m =
     let b = body-of f t (readFile scottish f) refl in
     record {
-      left = ap (steps scottish room (says h f a (s .count))) (body ∙ b .0);
+      left = ap (runSteps scottish room (says h f a (s .count))) (body ∙ b .0);
       backed = append-nil _ ∙ ap (undoBody scottish (says h f a (s .count))) (body ∙ b .0);
       rest = lines-after f 0 e q full;
       ready = y;
@@ -144,6 +137,11 @@ go-start h f a o c steps before room s e y t p k q m =
     body = ap bodyFrom (lines-after f 0 e q full)
 
 -- ---- each way out
+
+-- the cases of a kind, by number, that are not held
+abbrev unheld : List ℕ
+unheld = 0 ∷ (2 ∷ (3 ∷ []))
+
 module _ (h f a₀ : List ℕ) (room : ℕ) (s₀ : State) (a o t steps before : List ℕ) (s : State) (at n : ℕ) (g : Going h f a₀ room s₀ a o t steps before s at n) where
   ended : bodyFrom (linesOf (drop at f)) ≡ [] → Runs h f a₀ a o t steps before room s₀ (record { code = 0; line = 0; state = s; steps = n; end = at })
   ended e = record {
@@ -160,21 +158,26 @@ module _ (h f a₀ : List ℕ) (room : ℕ) (s₀ : State) (a o t steps before :
   unfolding bodyFrom
   go-done r u m = rw u (ended (ap bodyFrom (lines-end f at m)))
 
-  module _ (m : at < length f) (l : read.Line) (k : kindMeant (l .kind) ≡ changeAt f at .rec .kind) (b : Bool) (q : b ≡ isHeld (role (kindMeant (l .kind)))) where
-    held-here : isHeld (role (recOf (lineAt f at) .kind)) ≡ b
-    held-here = ap (λ z. isHeld (role z)) (sym k) ∙ sym q
-
-    body-at : bodyFrom (linesOf (drop at f)) ≡ pick b (changeAt f at ∷ bodyFrom (linesOf (drop (at + (lineLen (drop at f) + 2)) f))) []
+  module _ (m : at < length f) (x : code.Kind) (k : kindMeant x ≡ recOf (lineAt f at) .kind) where
+    body-at : (c : code.Kind) → x ≡ c → bodyFrom (linesOf (drop at f)) ≡ pick (isHeld (roleOf c)) (changeAt f at ∷ bodyFrom (linesOf (drop (at + (lineLen (drop at f) + 2)) f))) []
     unfolding bodyFrom lineAt
-    body-at = ap bodyFrom (lines-at f at m) ∙ ap (λ z. pick z (changeAt f at ∷ bodyFrom (linesOf (drop (at + (lineLen (drop at f) + 2)) f))) []) held-here
+    body-at c e = ap bodyFrom (lines-at f at m) ∙ ap (λ o. pick (isHeld o) (changeAt f at ∷ bodyFrom (linesOf (drop (at + (lineLen (drop at f) + 2)) f))) []) (ap role (sym k) ∙ role-of x c e)
 
     -- where the metadata stands it is done too
-    pub go-last : (r : Ran) → r ≡ record { code = 0; line = 0; state = s; steps = n; end = at } → b ≡ false → Runs h f a₀ a o t steps before room s₀ r
-    go-last r w u = rw w (ended (body-at ∙ rw u))
+    pub go-last : (r : Ran) → r ≡ record { code = 0; line = 0; state = s; steps = n; end = at } → OneOf unheld (tagOf the-type x) → Runs h f a₀ a o t steps before room s₀ r
+    unfolding isHeld
+    go-last r w t = rw w (ended (last x refl t))
+      where
+        last : (c : code.Kind) → x ≡ c → OneOf unheld (tagOf the-type c) → bodyFrom (linesOf (drop at f)) ≡ []
+        last Header e t = body-at Header e
+        last (Held d) e t = absurd (miss unheld 1 tt t)
+        last Metadata e t = body-at Metadata e
+        last Trailer e t = body-at Trailer e
 
-    module _ (u : b ≡ true) where
+    module _ (d : HeldKind) (u : x ≡ Held d) where
       body-here : bodyFrom (linesOf (drop at f)) ≡ changeAt f at ∷ bodyFrom (linesOf (drop (at + (lineLen (drop at f) + 2)) f))
-      body-here = body-at ∙ rw u
+      unfolding isHeld
+      body-here = body-at (Held d) u
 
       fines-here : T (all (fineC scottish) (changeAt f at ∷ bodyFrom (linesOf (drop (at + (lineLen (drop at f) + 2)) f))))
       fines-here = subst (λ cs. T (all (fineC scottish) cs)) body-here (g .fines)
@@ -183,8 +186,13 @@ module _ (h f a₀ : List ℕ) (room : ℕ) (s₀ : State) (a o t steps before :
       few-here = omega (arith, g .few, ap length body-here)
 
       -- a body line carries a sound record
-      pub go-carries : changeMeant (l .change) ≡ changeAt f at .op → Carries f at l
-      go-carries c = record { inside = omega arith; sound = and-l (fineC scottish (changeAt f at)) _ fines-here; kinded = k; changed = c }
+      pub go-carries : (e : ℕ) → e ≡ lineEnd f at → (l : read.Line) → l .kind ≡ d → changeMeant (l .change) ≡ opOf (getD (fieldsOf (take (e - at) (drop at f))) 1 []) → Carries f at l
+      go-carries e i l j c = record {
+        inside = omega arith;
+        sound = and-l (fineC scottish (changeAt f at)) _ fines-here;
+        kinded = ap heldMeant j ∙ ap kindMeant (sym u) ∙ k;
+        changed = c ∙ ap (λ t. opOf (getD (fieldsOf t) 1 [])) (line-here f at e i);
+      }
 
       -- its step has a place among the steps
       pub go-steps : n < length steps
@@ -197,7 +205,7 @@ module _ (h f a₀ : List ℕ) (room : ℕ) (s₀ : State) (a o t steps before :
       module _ (b′ o′ t′ : List ℕ) (r : Stepped) (w : Steps h f a b′ o′ t′ room (changeAt f at) s r) where
         run-here : on (stepCode scottish room (says h f a (s .count)) (changeAt f at)) (n + 2)
             (Theory.run (keyed scottish) (stepRules scottish room) (suc (n + 2)) (after (keyed scottish) (says h f a (s .count)) (changeAt f at)) (bodyFrom (linesOf (drop (at + (lineLen (drop at f) + 2)) f))))
-            ≡ steps scottish room (says h f a₀ (s₀ .count)) (changesOf (readFile scottish f))
+            ≡ runSteps scottish room (says h f a₀ (s₀ .count)) (changesOf (readFile scottish f))
         unfolding Theory.run
         run-here = sym (ap (Theory.run (keyed scottish) (stepRules scottish room) (n + 2) (says h f a (s .count))) body-here) ∙ g .left
 

@@ -1,6 +1,6 @@
 -- The laws of what a step leaves: the array says the state after it, ready for the next.
 use mathlib.Core.Path.{_≡_, refl, sym, ap, ap₂, _∙_, subst}
-use mathlib.Core.Bool.{Bool, true, false, not}
+use mathlib.Core.Bool.{Bool, true, false}
 use mathlib.Core.Option.{Option, none, some, Option·getD}
 use mathlib.Core.List.{List, _∷_, _++_}
 use Prim.Native.Nat.{ℕ, _+_, _-_, _*_, _≤_, _<_}
@@ -21,15 +21,12 @@ use Rattle.theory.specs.Refs.{meets, met}
 use Rattle.theory.specs.Step.{Op, ins, upd, del, Change, fails, passes, new, allowed, judge, after}
 use Rattle.theory.specs.StepLaws.{ok-judge, asc-after}
 use Rattle.meaning.specs.Records.{Rec, keyed, keyOf, refsOf}
-use Rattle.meaning.specs.Kinds.{role}
 use Rattle.meaning.specs.Table.{scottish}
-use Rattle.meaning.specs.Holding.{isHeld, written, mostRecords}
+use Rattle.meaning.specs.Holding.{written, mostRecords}
 use Rattle.meaning.specs.Steps.{few, keyCode, fits, stepRules, heldTests, stepCode}
-use Rattle.laws.specs.Body.{fine, fine-body}
+use Rattle.laws.specs.Body.{fine}
 use Rattle.meaning.specs.Codes.{referenceUnmet, holdingTooLong, tooManyRecords}
-use Rattle.layout.specs.declared.kinds.Kind as code
-use Rattle.layout.specs.declared.kinds.Kind.the-variants.{Header, Street, StreetXref, Blpu, AppXref, Lpi, Metadata, Trailer}
-use Rattle.layout.specs.Meant.{kindMeant}
+use Rattle.layout.specs.Meant.{heldMeant}
 use Rattle.volume.specs.declared.lines.Change as code-change
 use Rattle.volume.specs.declared.lines.Line.{Line}
 use Rattle.volume.specs.Meant.{changeMeant}
@@ -442,34 +439,7 @@ pub ruleset updated = (needs, ready-holds, step-refused, upd-in, upd-step)
 
 pub ruleset deleted = (needs, step-refused, del-place, del-in, del-all, del-one, del-tags, del-counts, del-step)
 
--- ---- by change, and by kind
-
--- the kinds of header, metadata and trailer
-abbrev pub unheld : code.Kind → Bool
-unheld Header = true
-unheld Street = false
-unheld StreetXref = false
-unheld Blpu = false
-unheld AppXref = false
-unheld Lpi = false
-unheld Metadata = true
-unheld Trailer = true
-
--- the others are held
-pub held-is : (k : code.Kind) → isHeld (role (kindMeant k)) ≡ not (unheld k)
-unfolding isHeld role
-held-is Header = refl
-held-is Street = refl
-held-is StreetXref = refl
-held-is Blpu = refl
-held-is AppXref = refl
-held-is Lpi = refl
-held-is Metadata = refl
-held-is Trailer = refl
-
-fine-held : (x : Rec) → T (fine scottish x) → T (isHeld (role (x .kind)))
-unfolding isHeld
-fine-held x g = rw (fine-body scottish x g) tt
+-- ---- by kind, and by change
 
 module _ (h f : List ℕ) (at : ℕ) (l : Line) (q : Carries f at l) where
   filed : recordOf h f (2 * at + 1) ≡ recOf (lineAt f at)
@@ -487,13 +457,20 @@ module _ (h f : List ℕ) (at : ℕ) (l : Line) (q : Carries f at l) where
   pub odd-fits : (a o t : List ℕ) (room : ℕ) (s : State) → Ready h f a o t room s → Fits w64 (2 * at + 1)
   odd-fits a o t room s y = record { fits = omega (arith, q .inside, y .holds .fileShort) }
 
-  module _ (a b o t : List ℕ) (room : ℕ) (s : State) (r : Stepped) where
-    -- a kind that is not held carries no sound record
-    pub step-unheld : (k : code.Kind) → l .kind ≡ k → unheld k ≡ true → Steps h f a b o t room (changeAt f at) s r
-    step-unheld k e t = absurd (subst T (ap (λ z. isHeld (role z)) (sym (q .kinded)) ∙ ap (λ z. isHeld (role (kindMeant z))) e ∙ held-is k ∙ ap not t) (fine-held (recOf (lineAt f at)) (q .sound)))
+  -- the line stands in the file
+  pub line-in : at ≤ length f
+  line-in = q .inside
 
-    -- the line's change is made
-    pub step-made : (k : code-change.Change) → l .change ≡ k → Steps h f a b o t room (change (changeMeant k) (recordOf h f (2 * at + 1))) s r → Steps h f a b o t room (changeAt f at) s r
-    step-made k e u = subst (λ c. Steps h f a b o t room c s r) (ap₂ change (ap changeMeant (sym e) ∙ q .changed) filed) u
+  -- its kind is the record's
+  pub line-kind : heldMeant (l .kind) ≡ recOf (lineAt f at) .kind
+  line-kind = q .kinded
 
-pub ruleset stepping = (needs, line-fine, twice-fits, odd-fits, step-unheld, step-made)
+  -- the line's key is the entry's
+  pub line-key : (k : List ℕ) → k ≡ keyNumbers (recOf (lineAt f at)) → k ≡ keyNumbers (recordOf h f (2 * at + 1))
+  line-key k e = e ∙ ap keyNumbers (sym filed)
+
+  -- the line's change is made
+  pub step-made : (a b o t : List ℕ) (room : ℕ) (s : State) (r : Stepped) (k : code-change.Change) → l .change ≡ k → Steps h f a b o t room (change (changeMeant k) (recordOf h f (2 * at + 1))) s r → Steps h f a b o t room (changeAt f at) s r
+  step-made a b o t room s r k e u = subst (λ c. Steps h f a b o t room c s r) (ap₂ change (ap changeMeant (sym e) ∙ q .changed) filed) u
+
+pub ruleset stepping = (needs, twice-fits, odd-fits, line-in, line-kind, step-made)

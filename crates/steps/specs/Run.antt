@@ -18,7 +18,7 @@ use Rattle.meaning.specs.Records.{Rec, keyed, opOf}
 use Rattle.meaning.specs.Holding.{isHeld}
 use Rattle.meaning.specs.File.{Sheet, readFile, mostBody}
 use Rattle.meaning.specs.Answers.{Read}
-use Rattle.meaning.specs.Steps.{steps}
+use Rattle.meaning.specs.Steps.{runSteps}
 use Rattle.meaning.specs.Undo.{undoBody}
 use Rattle.entries.specs.Entries.{recOf}
 use Rattle.places.specs.Places.{says}
@@ -54,6 +54,6 @@ pub record Kept (h f a steps before : List ℕ) (s : State) (r : Ran) : Type 0 w
 
 -- the run ends as the run of the file's changes from line 2 on does, and where nothing is refused it leaves a state that is ready for more, and what its undo needs
 pub record Runs (h f a b g t steps before : List ℕ) (room : ℕ) (s : State) (r : Ran) : Type 0 where
-  pub ended : ranAs h f b r ≡ steps scottish room (says h f a (s .count)) (changesOf (readFile scottish f))
+  pub ended : ranAs h f b r ≡ runSteps scottish room (says h f a (s .count)) (changesOf (readFile scottish f))
   pub ready : r .code ≡ 0 → Ready h f b g t room (r .state)
   pub kept : r .code ≡ 0 → Kept h f a steps before s r

@@ -11,7 +11,7 @@ use Rattle.meaning.specs.Table.{scottish}
 use Rattle.meaning.specs.Records.{Rec, keyed, keyOf}
 use Rattle.meaning.specs.Steps.{stepCode}
 use Rattle.laws.specs.Body.{fine}
-use Rattle.layout.specs.Meant.{kindMeant}
+use Rattle.layout.specs.Meant.{heldMeant}
 use Rattle.volume.specs.Meant.{changeMeant}
 use Rattle.volume.specs.declared.lines.Line.{Line}
 use Rattle.entries.specs.Entries.{recordOf}
@@ -36,5 +36,5 @@ pub record Steps (h f a b g t : List ℕ) (room : ℕ) (c : Change Rec) (s : Sta
 pub record Carries (f : List ℕ) (at : ℕ) (l : Line) : Type 0 where
   pub inside : at ≤ length f
   pub sound : T (fine scottish (changeAt f at .rec))
-  pub kinded : kindMeant (l .kind) ≡ changeAt f at .rec .kind
+  pub kinded : heldMeant (l .kind) ≡ changeAt f at .rec .kind
   pub changed : changeMeant (l .change) ≡ changeAt f at .op

@@ -5,18 +5,13 @@ ghost use lib.Dec.{T};
 ghost use lib.ListN.{length};
 ghost use Rattle.meaning.specs.Table.{scottish};
 ghost use Rattle.meaning.specs.File.{readFile, mostBody};
-ghost use Rattle.text.specs.Places.{lineEnd};
-ghost use Rattle.layout.specs.Meant.{kindMeant};
-ghost use Rattle.volume.specs.Meant.{changeMeant};
-ghost use Rattle.places.specs.Changes.{changeAt};
 ghost use Rattle.judge.specs.Ready.{Ready};
 ghost use Rattle.steps.specs.Run.{isFile, Runs};
 use crate::step::step;
 use entries::record::record_kind;
 use judge::State;
-use layout::rules::is_held;
+use layout::kinds::Kind;
 use text::lines::line_end;
-use volume::lines::Line;
 use volume::lines::known;
 
 // The code and line of the first step that is refused, or two zeros and the state after the last; how many steps were made, and
@@ -27,14 +22,6 @@ pub struct Ran {
     pub state: State,
     pub steps: usize,
     pub end: usize,
-}
-
-// The kind and change of the line that starts at `at` and ends at `end`.
-fn read_line(file: &[u8], at: usize, end: usize) -> Line
-    requires { ⌜ (end ≡ lineEnd (now file) at) × (at ≤ end) × (end ≤ length (now file)) ⌝ }
-    ensures { λ r. ⌜ (kindMeant (r .kind) ≡ changeAt (now (file .entry)) at .rec .kind) × (changeMeant (r .change) ≡ changeAt (now (file .entry)) at .op) ⌝ }
-{
-    known(record_kind(file, at), &file[at..end])
 }
 
 // How a run ended.
@@ -71,16 +58,14 @@ pub fn run(
     let mut state = start;
     while at < file.len() {
         let end = line_end(file, at);
-        let read = read_line(file, at, end);
-        let kind = read.kind;
-        if !is_held(kind) {
+        let Kind::Held(kind) = record_kind(file, at) else {
             return ended(0, 0, state, made, at);
-        }
+        };
         let stepped = step(
             holding,
             file,
             at,
-            read,
+            known(kind, &file[at..end]),
             &mut *places,
             &mut *tags,
             &mut *counts,

@@ -4,16 +4,24 @@ ghost use lib.Dec.{T};
 ghost use Rattle.theory.specs.Step.{ins, upd, del};
 ghost use Rattle.meaning.specs.Table.{scottish};
 ghost use Rattle.laws.specs.Body.{fine};
+ghost use Rattle.keys.specs.Numbers.{keyList, keyNumbers};
 ghost use Rattle.entries.specs.Entries.{recordOf};
 ghost use Rattle.places.specs.Changes.{change, changeAt};
 ghost use Rattle.judge.specs.Ready.{Ready};
 ghost use Rattle.steps.specs.Steps.{Carries, Steps};
+use entries::key::line_key;
 use entries::tags::entry_tag;
 use judge::State;
 use judge::judge_delete;
 use judge::judge_insert;
 use judge::judge_update;
-use layout::kinds::Kind;
+use keys::Key;
+use layout::kinds::HeldKind;
+use layout::records::AppXref;
+use layout::records::Blpu;
+use layout::records::Lpi;
+use layout::records::Street;
+use layout::records::StreetXref;
 use places::counts;
 use places::counts::note;
 use places::moves::close;
@@ -47,13 +55,14 @@ fn insert(
     tags: &mut [u64],
     counts: &mut [u16],
     entry: u64,
+    key: Key,
     state: State,
     room: usize,
 ) -> Stepped
-    requires { ⌜ Ready (now holding) (now file) (now places) (now tags) (now counts) room state × T (fine scottish (recordOf (now holding) (now file) entry)) ⌝ }
+    requires { ⌜ Ready (now holding) (now file) (now places) (now tags) (now counts) room state × T (fine scottish (recordOf (now holding) (now file) entry)) × (keyList key ≡ keyNumbers (recordOf (now holding) (now file) entry)) ⌝ }
     ensures { λ r. ⌜ Steps (now (holding .entry)) (now (file .entry)) (now (places .entry)) (now (places .exit)) (now (tags .exit)) (now (counts .exit)) room (change ins (recordOf (now (holding .entry)) (now (file .entry)) entry)) state r ⌝ }
 {
-    let judged = judge_insert(holding, file, places, tags, entry, state, room);
+    let judged = judge_insert(holding, file, places, tags, entry, key, state, room);
     let code = judged.code;
     let i = judged.place;
     let size = judged.size;
@@ -81,13 +90,14 @@ fn update(
     tags: &[u64],
     counts: &mut [u16],
     entry: u64,
+    key: Key,
     state: State,
     room: usize,
 ) -> Stepped
-    requires { ⌜ Ready (now holding) (now file) (now places) (now tags) (now counts) room state × T (fine scottish (recordOf (now holding) (now file) entry)) ⌝ }
+    requires { ⌜ Ready (now holding) (now file) (now places) (now tags) (now counts) room state × T (fine scottish (recordOf (now holding) (now file) entry)) × (keyList key ≡ keyNumbers (recordOf (now holding) (now file) entry)) ⌝ }
     ensures { λ r. ⌜ Steps (now (holding .entry)) (now (file .entry)) (now (places .entry)) (now (places .exit)) (now (tags .entry)) (now (counts .exit)) room (change upd (recordOf (now (holding .entry)) (now (file .entry)) entry)) state r ⌝ }
 {
-    let judged = judge_update(holding, file, places, tags, entry, state, room);
+    let judged = judge_update(holding, file, places, tags, entry, key, state, room);
     let code = judged.code;
     let i = judged.place;
     let size = judged.size;
@@ -123,13 +133,14 @@ fn delete(
     tags: &mut [u64],
     counts: &mut [u16],
     entry: u64,
+    key: Key,
     state: State,
     room: usize,
 ) -> Stepped
-    requires { ⌜ Ready (now holding) (now file) (now places) (now tags) (now counts) room state × T (fine scottish (recordOf (now holding) (now file) entry)) ⌝ }
+    requires { ⌜ Ready (now holding) (now file) (now places) (now tags) (now counts) room state × T (fine scottish (recordOf (now holding) (now file) entry)) × (keyList key ≡ keyNumbers (recordOf (now holding) (now file) entry)) ⌝ }
     ensures { λ r. ⌜ Steps (now (holding .entry)) (now (file .entry)) (now (places .entry)) (now (places .exit)) (now (tags .exit)) (now (counts .exit)) room (change del (recordOf (now (holding .entry)) (now (file .entry)) entry)) state r ⌝ }
 {
-    let judged = judge_delete(holding, file, places, tags, counts, entry, state, room);
+    let judged = judge_delete(holding, file, places, tags, counts, entry, key, state, room);
     let code = judged.code;
     let i = judged.place;
     let size = judged.size;
@@ -161,8 +172,7 @@ fn delete(
     }
 }
 
-// The step of the line that starts at `at` of the file. Its record is sound, so that its kind is held: the other kinds' arms, which change
-// nothing, are never come to.
+// The step of the line that starts at `at` of the file: its record type's layout says its key, and its change what is done there.
 pub fn step(
     holding: &[u8],
     file: &[u8],
@@ -180,19 +190,16 @@ pub fn step(
     let kind = line.kind;
     let change = line.change;
     let entry = 2 * (at as u64) + 1;
-    match kind {
-        Kind::Header => return unchanged(0, state, entry),
-        Kind::Street => {}
-        Kind::StreetXref => {}
-        Kind::Blpu => {}
-        Kind::AppXref => {}
-        Kind::Lpi => {}
-        Kind::Metadata => return unchanged(0, state, entry),
-        Kind::Trailer => return unchanged(0, state, entry),
-    }
+    let key = match kind {
+        HeldKind::Street => line_key(Street::LAYOUT, kind, file, at),
+        HeldKind::StreetXref => line_key(StreetXref::LAYOUT, kind, file, at),
+        HeldKind::Blpu => line_key(Blpu::LAYOUT, kind, file, at),
+        HeldKind::AppXref => line_key(AppXref::LAYOUT, kind, file, at),
+        HeldKind::Lpi => line_key(Lpi::LAYOUT, kind, file, at),
+    };
     match change {
-        Change::Insert => insert(holding, file, places, tags, counts, entry, state, room),
-        Change::Update => update(holding, file, places, tags, counts, entry, state, room),
-        Change::Delete => delete(holding, file, places, tags, counts, entry, state, room),
+        Change::Insert => insert(holding, file, places, tags, counts, entry, key, state, room),
+        Change::Update => update(holding, file, places, tags, counts, entry, key, state, room),
+        Change::Delete => delete(holding, file, places, tags, counts, entry, key, state, room),
     }
 }

@@ -7,7 +7,6 @@ pub find-spec : {M : Type 1} → statement M
 find-spec =
     tie.close
     (tie.spec
-    (λ c κs. search finding)  -- entry-key-requires
     (λ c κs. search finding)  -- place-requires
     (λ c κs. search finding)  -- stands-requires
     (λ c. search finding))  -- returns

@@ -17,7 +17,7 @@ judge-delete-spec =
     (λ c κs. search deleting)  -- verdict-requires-2
     (λ c. search deleting)  -- returns-2
     (λ c. search deleting)  -- mul-entry-length
-    (λ c. let t = c .before .before .before in let f = t .before in let p = f .before .before .before .before .before .before .pre in let i = place-in _ _ _ _ _ _ (p .0 .holds) _ (p .1) _ (f .find .ensures) (not-false _ (t .if1 .left)) in search (needs, i))  -- shared-slice-read-entry-length
+    (λ c. let t = c .before .before .before in let f = t .before in let p = f .before .before .before .before .before .before .pre in let i = place-in _ _ _ _ _ _ (p .0 .holds) _ (p .1) _ (p .2) _ (f .find .ensures) (not-false _ (t .if1 .left)) in search (needs, i))  -- shared-slice-read-entry-length
     (λ c κs. search deleting)  -- entry-length-requires
     (λ c. search deleting)  -- add-gone
     (λ c κs. search deleting)  -- width-requires

@@ -1,13 +1,12 @@
--- `entries::key::key_at` meets its contract.
+-- `entries::key::key_by` meets its contract.
 use Rattle.keys.proofs.RowLaws.{keyed}
-use Rattle.entries.proofs.key.key_at.Statement.{statement}
-use Rattle.entries.proofs.key.key_at.Tie as tie
+use Rattle.entries.proofs.key.key_by.Statement.{statement}
+use Rattle.entries.proofs.key.key_by.Tie as tie
 
-pub key-at-spec : {M : Type 1} → statement M
-key-at-spec =
+pub key-by-spec : {M : Type 1} → statement M
+key-by-spec =
     tie.close
     (tie.spec
-    (λ c κs. search keyed)  -- layout-requires
     (λ c. search keyed)  -- array-read-number-at
     (λ c κs. search keyed)  -- number-at-requires
     (λ c. search keyed)  -- array-read-number-at-2
