@@ -12,6 +12,7 @@ use Rattle.claims.specs.CheckClaims.{file-claims, holding-claims}
 use Rattle.claims.specs.LoadClaims.{apply-claims, undo-claims}
 use Rattle.claims.specs.BackClaims.{back-claims}
 use Rattle.claims.specs.PartClaims.{find-claims, force-claims, field-claims}
+use Rattle.claims.specs.PrintClaims.{print-claims}
 use Rattle.claims.specs.ForC.{file-in-c, holding-in-c, apply-in-c, undo-in-c, find-in-c, force-in-c, field-in-c}
 
 part-bare : (s : List ℕ) (n : ℕ) → take n s ≡ bare s → take (n - 0) (drop 0 s) ≡ bare s
@@ -33,6 +34,7 @@ pub ruleset claiming = (
   find-claims,
   force-claims,
   field-claims,
+  print-claims,
   file-in-c,
   holding-in-c,
   apply-in-c,

@@ -5,6 +5,7 @@ pub mod CheckClaims
 pub mod LoadClaims
 pub mod BackClaims
 pub mod PartClaims
+pub mod PrintClaims
 pub mod ForC
 pub mod OneOutcome
 pub mod Table

@@ -11,10 +11,10 @@ use Rattle.laws.specs.Buffers.{one-outcome}
 use Rattle.answers.specs.declared.numbers.Answer.{Answer}
 use Rattle.answers.specs.declared.numbers.Verdict.{Verdict}
 use Rattle.enquiries.specs.Handed.{Handed, lentAs}
-use Rattle.program.specs.Outcome.{PrintOutcome}
 use Rattle.claims.specs.CheckClaims.{FileClaims, HoldingClaims}
 use Rattle.claims.specs.LoadClaims.{ApplyClaims, UndoClaims}
 use Rattle.claims.specs.PartClaims.{FindClaims, ForceClaims, FieldClaims}
+use Rattle.claims.specs.PrintClaims.{PrintClaims}
 use Rattle.claims.specs.ForC.{FileInC, HoldingInC, ApplyInC, UndoInC, FindInC, ForceInC, FieldInC}
 
 -- check a file
@@ -63,8 +63,8 @@ field-once s r p line n a b h k = handed-once (fieldOf (s .now) line n) s r p a 
 
 -- the program's print
 pub print-once : (held sent : Bool) (holding change before : List ℕ) (n m : ℕ) (x y : List ℕ)
-    → PrintOutcome held holding sent change before n x → PrintOutcome held holding sent change before m y → (n ≡ m) × (x ≡ y)
-print-once held sent holding change before n m x y o p = (one-outcome _ n m (o .0) (p .0), one-outcome _ x y (o .1) (p .1))
+    → PrintClaims held holding sent change before n x → PrintClaims held holding sent change before m y → (n ≡ m) × (x ≡ y)
+print-once held sent holding change before n m x y o p = (one-outcome _ n m (o .outcome .0) (p .outcome .0), one-outcome _ x y (o .outcome .1) (p .outcome .1))
 
 -- ---- the functions for C
 

@@ -1,5 +1,5 @@
 // What is claimed of the program that runs apply.
-ghost use Rattle.program.specs.Outcome.{PrintOutcome};
+ghost use Rattle.claims.specs.PrintClaims.{PrintClaims};
 use program::MOST;
 use program::print;
 
@@ -11,7 +11,7 @@ pub fn printed(
     change: &[u8],
     printed: &mut [u8; MOST],
 ) -> usize
-    ensures { λ r. ⌜ PrintOutcome held (now (holding .entry)) sent (now (change .entry)) (now (printed .entry)) r (now (printed .exit)) ⌝ }
+    ensures { λ r. ⌜ PrintClaims held (now (holding .entry)) sent (now (change .entry)) (now (printed .entry)) r (now (printed .exit)) ⌝ }
 {
     print(held, holding, sent, change, &mut *printed)
 }
