@@ -8,11 +8,11 @@ ghost use Rattle.meaning.specs.Holding.{written};
 ghost use Rattle.meaning.specs.Load.{thenZeros};
 ghost use Rattle.places.specs.Places.{says};
 ghost use Rattle.apply.specs.Outcome.{Outcome};
+use answers::numbers::Answer;
 use layout::limits::File;
 use layout::limits::Holding;
 use loader::load::load;
 use loader::load::refuse;
-use answers::numbers::Answer;
 use writer::runs::write_holding;
 
 // The new holding, then zeros to the end of the output.

@@ -2,14 +2,14 @@
 // made against the holding that it met, and compared with the file: only without a body it is the file itself. The undos are then handed
 // in, last first, and each holding on the way back is compared byte for byte with the one that stood there going forward. The undo of
 // paper 01's worked example is printed whole.
+use answers::numbers::Answer;
 use apply::apply;
 use night::input::read_file;
 use printed::bare::bare_length;
 use shown::built::put_text;
 use shown::said::say;
-use shown::said::say_six;
+use shown::said::say_numbers;
 use undo::undo;
-use answers::numbers::Answer;
 use volume::check::check_file;
 
 // The bytes of each buffer: a holding, a change file or an undo.
@@ -21,7 +21,7 @@ const NAME: usize = 5;
 // Six numbers, after what they are of.
 fn say_answer(what: &[u8], a: Answer) {
     say(what);
-    say_six(a);
+    say_numbers(a);
 }
 
 // What stands before the zeros of two buffers, compared.

@@ -4,16 +4,18 @@ use mathlib.Core.List.{List, [], _∷_, _++_}
 use Prim.Native.Nat.{ℕ, zero, suc, _*_}
 use Rattle.theory.specs.Step.{Op, ins, upd, del, Change}
 use Rattle.theory.specs.Decimal.{dec}
-use Rattle.theory.specs.Run.{Out, done, stop, run}
+use Rattle.theory.specs.Run.{Out, done, stop}
 use Rattle.base.specs.Lists.{pick, same, bytes}
 use Rattle.meaning.specs.Lines.{linesOf}
 use Rattle.meaning.specs.Kinds.{Kind, street, streetXref}
 use Rattle.meaning.specs.Table.{scottish}
-use Rattle.meaning.specs.Records.{Rec, keyed}
+use Rattle.meaning.specs.Records.{Rec}
 use Rattle.meaning.specs.File.{inBody, readFrom}
-use Rattle.meaning.specs.Load.{checked, stepTests}
+use Rattle.meaning.specs.Load.{checked}
 use Rattle.meaning.specs.Computes.{computed}
-use Rattle.cases.specs.Cases.{sixList, opened}
+use Rattle.meaning.specs.Steps.{runSteps}
+use Rattle.meaning.specs.Answers.{numberList}
+use Rattle.cases.specs.Cases.{opened}
 
 -- what follows line 4,097, after 4,096 body lines, and the answer
 unfoldable pub tails : List (List ℕ × List ℕ)
@@ -42,7 +44,7 @@ tails =
 -- the numbers of the tails that do not agree
 unfoldable pub tailMisses : ℕ → List (List ℕ × List ℕ) → List ℕ
 tailMisses i [] = []
-tailMisses i (c ∷ cs) = pick (same (sixList (checked (readFrom scottish 4098 inBody 4096 (linesOf (c .0))))) (c .1)) (tailMisses (suc i) cs) (i ∷ tailMisses (suc i) cs)
+tailMisses i (c ∷ cs) = pick (same (numberList (checked (readFrom scottish 4098 inBody 4096 (linesOf (c .0))))) (c .1)) (tailMisses (suc i) cs) (i ∷ tailMisses (suc i) cs)
 
 -- each tail is answered as the reference answered the whole file
 pub agreed-tails : tailMisses 0 tails ≡ []
@@ -69,7 +71,7 @@ stopped (stop l w) = w ∷ l ∷ []
 
 -- one step on line 2, over 8,192 streets with even numbers
 unfoldable pub stops : Change Rec → List ℕ
-stops c = stopped (run (keyed scottish) (stepTests scottish 9999999) 2 (evens 8192 1) (c ∷ []))
+stops c = stopped (runSteps scottish 9999999 (evens 8192 1) (c ∷ []))
 
 -- a step over the full holding, and the answer: 10 for an insert of a held key, 11 for another step at an absent one, else 16, even where 12 is due
 unfoldable pub full : List (Change Rec × List ℕ)

@@ -3,10 +3,10 @@ ghost use lib.ListN.{length};
 ghost use Rattle.apply.specs.Outcome.{Outcome};
 ghost use Rattle.printed.specs.Printed.{bare};
 ghost use Rattle.claims.specs.BackClaims.{BackClaims};
+use answers::numbers::Answer;
 use apply::apply;
 use printed::bare::bare_length;
 use undo::undo;
-use answers::numbers::Answer;
 
 // What apply answered to a file, undo to the same, and apply to the undo.
 pub struct Returned {

@@ -1,8 +1,8 @@
 // What is claimed of the two checks.
 ghost use Rattle.claims.specs.CheckClaims.{FileClaims, HoldingClaims};
+use answers::numbers::Answer;
 use answers::numbers::Verdict;
 use holding::check::check_holding;
-use answers::numbers::Answer;
 use volume::check::check_file;
 
 // The check of a file.

@@ -1,9 +1,9 @@
 // What is claimed of taking a file, and of handing it back.
 ghost use lib.ListN.{length};
 ghost use Rattle.claims.specs.LoadClaims.{ApplyClaims, UndoClaims};
+use answers::numbers::Answer;
 use apply::apply;
 use undo::undo;
-use answers::numbers::Answer;
 
 // Takes a file into a holding.
 pub fn applied(holding: &[u8], file: &[u8], out: &mut [u8]) -> Answer

@@ -10,20 +10,20 @@ use shown::built::put_text;
 use shown::built::put_value;
 use shown::said::say;
 use shown::said::say_number;
-use shown::said::say_six;
+use shown::said::say_numbers;
 use shown::said::say_three;
 use text::lines::plain_end;
 use volume::check::check_file;
 
-// The six numbers of the check of a file.
+// The numbers of the check of a file.
 fn answer_file(file: &[u8]) {
-    say_six(check_file(file));
+    say_numbers(check_file(file));
 }
 
 // The three numbers of the check of a holding.
 fn answer_holding(held: &[u8]) {
     let v = check_holding(held);
-    say_three(v.code, v.line as u64, v.field as u64);
+    say_three(v.code, v.line, v.field);
 }
 
 // A file of so many body lines, judged.

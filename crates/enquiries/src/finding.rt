@@ -6,11 +6,11 @@ ghost use Rattle.meaning.specs.Lines.{linesOf};
 ghost use Rattle.meaning.specs.Enquiries.{refusal, partOf};
 ghost use Rattle.answers.specs.Meant.{refusalMeant};
 ghost use Rattle.enquiries.specs.Finding.{sliceOf, findingOf};
+use crate::lines::line_at;
 use answers::numbers::Verdict;
 use answers::numbers::faulted;
 use answers::numbers::passed;
 use answers::refusal::Refusal;
-use crate::lines::line_at;
 
 // The three numbers; whether the part stands in the file, its start and its size.
 pub struct Finding {

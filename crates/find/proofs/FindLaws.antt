@@ -237,7 +237,7 @@ module _ (s a o : List ℕ) (r : Held) (kind n : ℕ) (w : Enquired s a o r kind
       unfolding heldPart
       held-there u v = rw (place, ne-eqb l 0 u) v
 
-pub ruleset held = (needs, held-few, asked-ordered, held-in, held-absent, held-there)
+pub ruleset held = (needs, refusal-made, held-few, asked-ordered, held-in, held-absent, held-there)
 
 -- ---- find
 

@@ -3,12 +3,12 @@ ghost use mathlib.Core.Path.{_≡_};
 ghost use Rattle.meaning.specs.Table.{scottish};
 ghost use Rattle.meaning.specs.Load.{checkHolding};
 ghost use Rattle.answers.specs.Meant.{verdictOf};
+use crate::read::read_holding;
 use answers::codes::HOLDING_UNSOUND;
 use answers::numbers::Verdict;
 use answers::numbers::faulted;
 use answers::numbers::passed;
 use answers::refusal::Refusal;
-use crate::read::read_holding;
 use layout::limits::Holding;
 
 // The check of a holding.

@@ -8,7 +8,12 @@ use undo::undo;
 
 // Takes a file into a holding: the new holding in the output, or zeros.
 #[no_mangle]
-pub extern "C" fn muiwash_apply(holding: &[u8], file: &[u8], out: &mut [u8], answer: &mut [u64; Answer::NUMBERS])
+pub extern "C" fn muiwash_apply(
+    holding: &[u8],
+    file: &[u8],
+    out: &mut [u8],
+    answer: &mut [u64; Answer::NUMBERS],
+)
     ensures { λ _. ⌜ Applies (now (holding .entry)) (now (file .entry)) (length (now (out .entry))) (now (out .exit)) (now (answer .exit)) ⌝ }
 {
     *answer = in_order(apply(holding, file, &mut *out));

@@ -14,7 +14,7 @@ use shown::built::put_text;
 use shown::said::say;
 use shown::said::say_line;
 use shown::said::say_number;
-use shown::said::say_six;
+use shown::said::say_numbers;
 
 // The first line of what was printed.
 fn say_first(s: &[u8]) {
@@ -66,7 +66,7 @@ fn answer(holding: &[u8], file: &[u8], out: &mut [u8], size: usize) {
     if out.len() < size {
         return;
     }
-    say_six(apply(holding, file, &mut out[0..size]));
+    say_numbers(apply(holding, file, &mut out[0..size]));
     say(b"\n");
 }
 

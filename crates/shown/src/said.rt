@@ -1,8 +1,8 @@
-// What the programs that show something say on standard output: words, numbers, and the six numbers of an answer.
+// What the programs that show something say on standard output: words, numbers, and those of an answer.
 //
 // No contract can say which bytes C writes, so these promise nothing; what a program says is compared with its file `stdout`.
-use libc::STDOUT_FILENO;
 use answers::numbers::Answer;
+use libc::STDOUT_FILENO;
 
 // Words.
 pub fn say(words: &[u8]) {
@@ -29,9 +29,9 @@ pub fn say_three(a: u64, b: u64, c: u64) {
     say_number(c);
 }
 
-// The six numbers of an answer.
-pub fn say_six(a: Answer) {
-    say_three(a.code, a.line as u64, a.field as u64);
+// The numbers of an answer.
+pub fn say_numbers(a: Answer) {
+    say_three(a.code, a.line, a.field);
     say(b",");
-    say_three(a.inserts as u64, a.updates as u64, a.deletes as u64);
+    say_three(a.inserts, a.updates, a.deletes);
 }

@@ -54,7 +54,7 @@ fn record_vector(line: &[u8]) {
             let fault = check_line(kind, line);
             say_number(fault.code);
             say(b",");
-            say_number(fault.field as u64);
+            say_number(fault.field);
         }
         KindFound::Unknown => say(b"2,1"),
     }
