@@ -27,6 +27,7 @@ use Rattle.laws.specs.Find.{FoundIt, find-finds, finds-find}
 use Rattle.laws.specs.Demand2.{Allowed, afterAll}
 use Rattle.laws.specs.InForce.{NamedSays, in-force}
 use Rattle.laws.specs.Scottish.{scottish-knows, scottish-regular}
+use Rattle.answers.specs.Meant.{threeList}
 use Rattle.entries.specs.Entries.{recOf}
 use Rattle.entries.proofs.LineLaws.{rec-change}
 use Rattle.enquiries.specs.Handed.{lentAs, HandedOf}

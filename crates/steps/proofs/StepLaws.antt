@@ -124,19 +124,17 @@ module _ (h f a o t : List ℕ) (room v : ℕ) (s : State) (y : Ready h f a o t 
   step-refused p r q n e = rw e (record { coded = q .coded; left = λ z. absurd (n z) })
 
   module _ (p : Op) (q : Judges h f a room (change p (recordOf h f v)) s j) (z : j .code ≡ 0) where
-    passed : T (allowed p (get (keyed scottish) (keyOf scottish (recordOf h f v)) (says h f a (s .count)))) × T (passes (stepRules scottish room) (after (keyed scottish) (says h f a (s .count)) (change p (recordOf h f v))))
-    passed = ok-stepCode scottish room (says h f a (s .count)) (change p (recordOf h f v)) (code-none room (j .code) (says h f a (s .count)) (change p (recordOf h f v)) (q .coded) z)
+    passed : T (allowed p (get (keyed scottish) (keyOf scottish (recordOf h f v)) (says h f a (s .count)))) × T (passes (stepRules scottish room .tests) (after (keyed scottish) (says h f a (s .count)) (change p (recordOf h f v))))
+    passed = ok-judge (keyed scottish) (stepRules scottish room) (says h f a (s .count)) (change p (recordOf h f v)) (code-none room (j .code) (says h f a (s .count)) (change p (recordOf h f v)) (q .coded) z)
 
     few-after : T (few (after (keyed scottish) (says h f a (s .count)) (change p (recordOf h f v))))
-    unfolding stepRules
     few-after = and-l (few (after (keyed scottish) (says h f a (s .count)) (change p (recordOf h f v)))) _ (passed .1)
 
     met-after : T (met (keyed scottish) (refsOf scottish) (after (keyed scottish) (says h f a (s .count)) (change p (recordOf h f v))))
-    unfolding stepRules
     met-after = and-l (met (keyed scottish) (refsOf scottish) (after (keyed scottish) (says h f a (s .count)) (change p (recordOf h f v)))) _ (and-r (few (after (keyed scottish) (says h f a (s .count)) (change p (recordOf h f v)))) _ (passed .1))
 
     fits-after : length (written (after (keyed scottish) (says h f a (s .count)) (change p (recordOf h f v)))) ≤ room
-    unfolding stepRules fits
+    unfolding fits
     fits-after =
         leb→le (length (written (after (keyed scottish) (says h f a (s .count)) (change p (recordOf h f v))))) room
         (and-l (leb (length (written (after (keyed scottish) (says h f a (s .count)) (change p (recordOf h f v))))) room) _

@@ -1,5 +1,5 @@
 -- `in_force::line_in_force` meets its contract.
-use Rattle.in_force.proofs.ForceLaws.{force, faultless, force-last}
+use Rattle.in_force.proofs.ForceLaws.{force, faultless, force-refused, force-last}
 use Rattle.find.proofs.FindLaws.{enquired}
 use borrow.Author.Needs.{needs}
 use borrow.Author.Tests.{not-false}
@@ -24,7 +24,7 @@ line-in-force-spec =
     (λ c κs. search force)  -- check-file-requires
     (λ c κs. search force)  -- refusal-in-requires
     (λ c κs. search force)  -- refusal-requires-3
-    (λ c. search force)  -- returns-3
+    (λ c. let f = c .before .before .before .before in let r = f .before .before .before .before .before .before in let t = r .before .before .before .before in force-refused _ _ _ _ _ _ (t .before .is-enquired .ensures) (not-false _ (t .if1 .left)) _ _ _ _ (r .read-holding .ensures) (f .before .if2 .left) _ (f .check-file .ensures) (c .before .before .if3 .taken) _ (c .before .refusal-in .ensures) (c .refusal3 .ensures))  -- returns-3
     (λ c. search force)  -- slice-aggregate-last-line
     (λ c. search force)  -- slice-aggregate-last-line-2
     (λ c κs. let f = c .before .before .before .before in let r = f .before .before .before .before .before .before in let t = r .before .before .before .before in (enquired _ _ _ _ _ _ _ (t .before .is-enquired .ensures) (not-false _ (t .if1 .left)) (r .read-holding .ensures) (f .before .if2 .left) (search needs), faultless _ _ (f .check-file .ensures) (c .before .before .if3 .left)))  -- last-line-requires

@@ -13,7 +13,7 @@ insert-spec =
     (λ c. search inserted)  -- same-length-2
     (λ c. search inserted)  -- returns
     (λ c. search inserted)  -- add-next
-    (λ c κs. let e = c .before .before .before .before .before .before .before .before .before .before in let j = c .before .before .judge-insert .ensures in (ins-place _ _ _ _ _ _ (e .pre .0) (e .pre .2) _ j (c .before .if1 .left), ins-in _ _ _ _ _ _ (e .pre .0) (e .pre .2) _ j (c .before .if1 .left)))  -- open-requires
+    (λ c κs. let t = c .before .before in let e = t .before .before .before .before .before .before .before .before in let j = t .judge-insert .ensures in (ins-place _ _ _ _ _ _ _ _ (e .pre .0) (e .pre .1) _ j (c .before .if1 .left), ins-in _ _ _ _ _ _ _ _ (e .pre .0) (e .pre .1) _ j (c .before .if1 .left)))  -- open-requires
     (λ c κs. search inserted)  -- entry-tag-requires
     (λ c κs. let t = c .before .before .before .before .before .before in let s = t .before .before .before .before .before .before .before .before .before in (ins-place _ _ _ _ _ _ _ _ (s .pre .0) (s .pre .1) _ (t .before .judge-insert .ensures) (t .if1 .left), ins-tags _ _ _ _ _ _ _ _ (s .pre .0) (s .pre .1) _ (t .before .judge-insert .ensures) (t .if1 .left)))  -- open-requires-2
     (λ c κs. let o = c .before .before .before .before .before .before .before .before in let t = o .before .before in let s = t .before .before .before .before .before .before .before .before .before in (ins-place _ _ _ _ _ _ _ _ (s .pre .0) (s .pre .1) _ (t .before .judge-insert .ensures) (t .if1 .left), ins-counts _ _ _ _ _ _ _ _ (s .pre .0) (s .pre .1) _ (t .before .judge-insert .ensures) (t .if1 .left)))  -- open-requires-3

@@ -4,7 +4,7 @@ use mathlib.Core.Logic.{⊎-elim}
 use Rattle.base.specs.Lists.{bytes, zeros}
 use Rattle.theory.specs.Decimal.{value, valueF}
 use Rattle.meaning.specs.Kinds.{ident}
-use Rattle.meaning.specs.Format.{placeFrom}
+use Rattle.meaning.specs.Format.{fieldNumber}
 use Rattle.meaning.specs.Table.{fields, keyNames, refersTo}
 use Rattle.layout.specs.Rows.{laidOut, placesOf, padded, targets, sources}
 use Rattle.keys.specs.Numbers.{keyList}
@@ -13,7 +13,7 @@ use Rattle.steps.proofs.step.step.Statement.{statement}
 use Rattle.steps.proofs.step.step.Tie as tie
 
 pub step-spec : {M : Type 1} → statement M
-unfolding laidOut placesOf padded targets sources ident fields keyNames refersTo placeFrom bytes zeros value valueF
+unfolding laidOut placesOf padded targets sources ident fields keyNames refersTo fieldNumber bytes zeros value valueF
 step-spec =
     tie.close
     (tie.spec
@@ -30,11 +30,11 @@ step-spec =
     (λ c. search stepping)  -- enum-told-5
     (λ c κs. (search stepping, rw (c .enum-told5 .given .1), search stepping))  -- line-key-requires-5
     (λ c. search stepping)  -- enum-told-6
-    (λ c κs. let e = c .before .before .before .before .before in let q = e .before .before .before .before .before .before .pre in let k = ⊎-elim (λ w. ap keyList (w .3) ∙ w .2 .ensures) (⊎-elim (λ w. ap keyList (w .3) ∙ w .2 .ensures) (⊎-elim (λ w. ap keyList (w .3) ∙ w .2 .ensures) (⊎-elim (λ w. ap keyList (w .3) ∙ w .2 .ensures) (λ w. ap keyList (w .3) ∙ w .2 .ensures)))) (e .match .came) in (q .0, q .1, line-fine _ _ _ _ (q .2), q .3, line-key _ _ _ _ (q .2) _ k))  -- insert-requires
+    (λ c κs. let e = c .before .before .before .before .before in let q = e .before .before .before .before .before .before .pre in let k = ⊎-elim (λ w. ap keyList (w .3) ∙ w .2 .ensures) (⊎-elim (λ w. ap keyList (w .3) ∙ w .2 .ensures) (⊎-elim (λ w. ap keyList (w .3) ∙ w .2 .ensures) (⊎-elim (λ w. ap keyList (w .3) ∙ w .2 .ensures) (λ w. ap keyList (w .3) ∙ w .2 .ensures)))) (e .match .came) in (q .0, line-fine _ _ _ _ (q .1), line-key _ _ _ _ (q .1) _ k))  -- insert-requires
     (λ c. search stepping)  -- enum-told-7
-    (λ c κs. let e = c .before .before .before .before .before in let q = e .before .before .before .before .before .before .pre in let k = ⊎-elim (λ w. ap keyList (w .3) ∙ w .2 .ensures) (⊎-elim (λ w. ap keyList (w .3) ∙ w .2 .ensures) (⊎-elim (λ w. ap keyList (w .3) ∙ w .2 .ensures) (⊎-elim (λ w. ap keyList (w .3) ∙ w .2 .ensures) (λ w. ap keyList (w .3) ∙ w .2 .ensures)))) (e .match .came) in (q .0, q .1, line-fine _ _ _ _ (q .2), q .3, line-key _ _ _ _ (q .2) _ k))  -- update-requires
+    (λ c κs. let e = c .before .before .before .before .before in let q = e .before .before .before .before .before .before .pre in let k = ⊎-elim (λ w. ap keyList (w .3) ∙ w .2 .ensures) (⊎-elim (λ w. ap keyList (w .3) ∙ w .2 .ensures) (⊎-elim (λ w. ap keyList (w .3) ∙ w .2 .ensures) (⊎-elim (λ w. ap keyList (w .3) ∙ w .2 .ensures) (λ w. ap keyList (w .3) ∙ w .2 .ensures)))) (e .match .came) in (q .0, line-fine _ _ _ _ (q .1), line-key _ _ _ _ (q .1) _ k))  -- update-requires
     (λ c. search stepping)  -- enum-told-8
-    (λ c κs. let e = c .before .before .before .before .before in let q = e .before .before .before .before .before .before .pre in let k = ⊎-elim (λ w. ap keyList (w .3) ∙ w .2 .ensures) (⊎-elim (λ w. ap keyList (w .3) ∙ w .2 .ensures) (⊎-elim (λ w. ap keyList (w .3) ∙ w .2 .ensures) (⊎-elim (λ w. ap keyList (w .3) ∙ w .2 .ensures) (λ w. ap keyList (w .3) ∙ w .2 .ensures)))) (e .match .came) in (q .0, q .1, line-fine _ _ _ _ (q .2), q .3, line-key _ _ _ _ (q .2) _ k))  -- delete-requires
+    (λ c κs. let e = c .before .before .before .before .before in let q = e .before .before .before .before .before .before .pre in let k = ⊎-elim (λ w. ap keyList (w .3) ∙ w .2 .ensures) (⊎-elim (λ w. ap keyList (w .3) ∙ w .2 .ensures) (⊎-elim (λ w. ap keyList (w .3) ∙ w .2 .ensures) (⊎-elim (λ w. ap keyList (w .3) ∙ w .2 .ensures) (λ w. ap keyList (w .3) ∙ w .2 .ensures)))) (e .match .came) in (q .0, line-fine _ _ _ _ (q .1), line-key _ _ _ _ (q .1) _ k))  -- delete-requires
     (λ c. search stepping)  -- same-length
     (λ c. search stepping)  -- same-length-2
     (λ c. search stepping)  -- same-length-3
