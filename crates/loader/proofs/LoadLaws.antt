@@ -171,7 +171,7 @@ module _ (h f : List ℕ) (room : ℕ) (r : Held) (a o tl : List ℕ) (w : HeldI
             file-sound = read-sound scottish f (read .sheet .0) (read .sheet .1) (read .reads)
 
             many : n .steps ≡ length (read .sheet .1)
-            many = sym (length-back h f t u (n .steps)) ∙ ap length backed ∙ length-undoBody scottish st (read .sheet .1)
+            many = sym (length-back h f t u (n .steps)) ∙ ap length backed ∙ length-undo (after (keyed scottish)) (back (keyed scottish)) st (read .sheet .1)
 
             undoes : undoBytes scottish h f ≡ undoText h f t u (n .steps) (n .end)
             unfolding undoBytes undoHeld undoSheet backTexts undoText

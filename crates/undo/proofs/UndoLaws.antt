@@ -25,9 +25,9 @@ use Rattle.text.specs.Front.{inFront}
 use Rattle.text.specs.Places.{lineEnd}
 use Rattle.places.specs.Places.{says}
 use Rattle.answers.specs.declared.numbers.Answer.{Answer as Told}
-use Rattle.answers.specs.Meant.{answerOf, refusalOf, refusalMeant, countsOf}
+use Rattle.answers.specs.Meant.{answerOf, countsOf}
 use Rattle.meaning.specs.Codes.{undoTooLong}
-use Rattle.answers.specs.declared.refusal.Refusal.{Refusal}
+use Rattle.meaning.specs.File.{mostBody}
 use Rattle.writer.specs.Runs.{backTexts, FitsBack}
 use Rattle.text.proofs.FrontLaws.{front-same, front-then, front-room, front-last, last-room}
 use Rattle.loader.specs.declared.load.Loaded.{Loaded}
@@ -174,11 +174,11 @@ module _ (h f b t u : List ℕ) (room space : ℕ) (r : Loaded) (w : Loads h f b
 
   module _ (m : r .answer .code ≡ 0) where
     -- there is an entry for each step
-    pub undo-steps : 4096 ≤ length t → r .steps ≤ length t
+    pub undo-steps : mostBody ≤ length t → r .steps ≤ length t
     undo-steps l = omega (arith, w .taken m .few)
 
     -- the writers are lent what they ask for
-    pub undo-lent : 4096 ≤ length u → Lent f u (r .steps) (r .end)
+    pub undo-lent : mostBody ≤ length u → Lent f u (r .steps) (r .end)
     undo-lent l = record { each = omega (arith, w .taken m .few); opens = w .taken m .opens; ends = w .taken m .ends }
 
     module _ (c : Bool) (e : c ≡ leb (length (undoText h f t u (r .steps) (r .end))) room) (out work : List ℕ)
@@ -193,6 +193,6 @@ module _ (h f b t u : List ℕ) (room space : ℕ) (r : Loaded) (w : Loads h f b
       undo-done y = rw (tells, ← e, y) (w .answered ∙ ap (λ x. answerOf (numbersOf x)) (w .taken m .loaded), rw y at o, z)
 
       -- one that is too long
-      pub undo-long : c ≡ false → (x : Refusal) (a : Told) → x ≡ refusalOf (alone undoTooLong) → a ≡ answerOf (refusedWith (refusalMeant x)) → UndoOutcome h f room space a out work
+      pub undo-long : c ≡ false → (a : Told) → a ≡ answerOf (refusedWith (alone undoTooLong)) → UndoOutcome h f room space a out work
       unfolding undone
-      undo-long y x a v q = rw (tells, ← e, y) (q ∙ ap (λ i. answerOf (refusedWith (refusalMeant i))) v, rw y at o, z)
+      undo-long y a q = rw (tells, ← e, y) (q, rw y at o, z)

@@ -6,7 +6,10 @@ ghost use Prim.Native.Nat.{_≤_};
 ghost use lib.Dec.{leb};
 ghost use lib.ListN.{length};
 ghost use Rattle.base.specs.Lists.{pick, zeros};
+ghost use Rattle.meaning.specs.Codes.{undoTooLong};
+ghost use Rattle.meaning.specs.Answers.{alone, refusedWith};
 ghost use Rattle.meaning.specs.Load.{thenZeros};
+ghost use Rattle.answers.specs.Meant.{answerOf};
 ghost use Rattle.text.specs.Front.{inFront};
 ghost use Rattle.loader.specs.Loaded.{undoText};
 ghost use Rattle.undo.specs.Lent.{FitsUndo, Lent};
@@ -86,6 +89,13 @@ fn fill_undo(
     true
 }
 
+// 17: the undo is longer than its output.
+fn too_long() -> Answer
+    ensures { λ r. ⌜ r ≡ answerOf (refusedWith (alone undoTooLong)) ⌝ }
+{
+    refused(Refusal::alone(UNDO_TOO_LONG))
+}
+
 // Writes the undo of a file: the numbers, the undo or zeros in the output, and zeros in the work buffer.
 pub fn undo(holding: &[u8], file: &[u8], out: &mut [u8], work: &mut [u8]) -> Answer
     ensures { λ r. ⌜ UndoOutcome (now (holding .entry)) (now (file .entry)) (length (now (out .entry))) (length (now (work .entry))) r (now (out .exit)) (now (work .exit)) ⌝ }
@@ -105,5 +115,5 @@ pub fn undo(holding: &[u8], file: &[u8], out: &mut [u8], work: &mut [u8]) -> Ans
     if fill_undo(&mut *out, holding, file, &steps, &before, count, end) {
         return answer;
     }
-    refused(Refusal::alone(UNDO_TOO_LONG))
+    too_long()
 }

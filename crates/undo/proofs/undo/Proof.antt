@@ -24,7 +24,7 @@ undo-spec =
     (λ c. search needs)  -- same-length-3
     (λ c. search needs)  -- same-length-4
     (λ c. let f = c .before .before .before in let t = f .before .before .before .before in let l = t .before .before .before .before .before .before in let z = l .before .before .before .before .before .before in let s = z .before .before .before .before .before .before in let g = s .args in undo-done (g .holding .now) (g .file .now) _ _ _ (length (g .out .now)) (length (g .work .now)) _ (l .load .ensures) (t .if1 .left) _ (f .fill-undo .ensures .0) _ _ (f .fill-undo .ensures .1) (z .zeros .ensures) (c .if2 .taken))  -- returns-2
-    (λ c κs. search needs)  -- refused-requires
+    (λ c κs. search needs)  -- too-long-requires
     (λ c. search needs)  -- same-length-5
     (λ c. search needs)  -- same-length-6
-    (λ c. let f = c .before .before .before .before in let t = f .before .before .before .before in let l = t .before .before .before .before .before .before in let z = l .before .before .before .before .before .before in let s = z .before .before .before .before .before .before in let g = s .args in undo-long (g .holding .now) (g .file .now) _ _ _ (length (g .out .now)) (length (g .work .now)) _ (l .load .ensures) (t .if1 .left) _ (f .fill-undo .ensures .0) _ _ (f .fill-undo .ensures .1) (z .zeros .ensures) (c .before .if2 .left) _ (c .refused .ensures)))  -- returns-3
+    (λ c. let f = c .before .before .before .before in let t = f .before .before .before .before in let l = t .before .before .before .before .before .before in let z = l .before .before .before .before .before .before in let s = z .before .before .before .before .before .before in let g = s .args in undo-long (g .holding .now) (g .file .now) _ _ _ (length (g .out .now)) (length (g .work .now)) _ (l .load .ensures) (t .if1 .left) _ (f .fill-undo .ensures .0) _ _ (f .fill-undo .ensures .1) (z .zeros .ensures) (c .before .if2 .left) _ (c .too-long .ensures)))  -- returns-3
