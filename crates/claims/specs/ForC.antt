@@ -27,6 +27,7 @@ pub record FileInC (file answer : List ℕ) : Type 0 where
   pub numbers : answer ≡ answerList told
   pub claims : FileClaims file told
 
+-- every outcome is so
 pub file-in-c : (file answer : List ℕ) → answer ≡ sixList (checkFile scottish file) → FileInC file answer
 file-in-c file answer o = record { outcome = o; told = answerOf (checkFile scottish file); numbers = o; claims = file-claims file _ refl }
 
@@ -37,6 +38,7 @@ pub record HoldingInC (old answer : List ℕ) : Type 0 where
   pub numbers : answer ≡ verdictList told
   pub claims : HoldingClaims old told
 
+-- every outcome is so
 pub holding-in-c : (old answer : List ℕ) → answer ≡ threeList (checkHolding scottish old) → HoldingInC old answer
 holding-in-c old answer o = record { outcome = o; told = verdictOf (checkHolding scottish old); numbers = o; claims = holding-claims old _ refl }
 
@@ -49,6 +51,7 @@ pub record ApplyInC (old file : List ℕ) (room : ℕ) (out answer : List ℕ) :
   pub numbers : answer ≡ answerList told
   pub claims : ApplyClaims old file room told out
 
+-- every outcome is so
 pub apply-in-c : (old file : List ℕ) (room : ℕ) (out answer : List ℕ) → Applies old file room out answer → ApplyInC old file room out answer
 apply-in-c old file room out answer o = record {
   outcome = o;
@@ -64,6 +67,7 @@ pub record UndoInC (old file : List ℕ) (room space : ℕ) (out work answer : L
   pub numbers : answer ≡ answerList told
   pub claims : UndoClaims old file room space told out work
 
+-- every outcome is so
 pub undo-in-c : (old file : List ℕ) (room space : ℕ) (out work answer : List ℕ) → Undoes old file room space out work answer → UndoInC old file room space out work answer
 undo-in-c old file room space out work answer o = record {
   outcome = o;
@@ -81,6 +85,7 @@ pub record FindInC (old : List ℕ) (kind n : ℕ) (answer : List ℕ) : Type 0 
   pub numbers : answer ≡ partList found
   pub why : FindAnswers scottish old kind n found
 
+-- every outcome is so
 pub find-in-c : (old : List ℕ) (kind n : ℕ) (answer : List ℕ) → answer ≡ partList (find scottish old kind n) → FindInC old kind n answer
 find-in-c old kind n answer o = record { outcome = o; found = find scottish old kind n; numbers = o; why = find-answers scottish scottish-regular old kind n }
 
@@ -91,6 +96,7 @@ pub record ForceInC (old file : List ℕ) (kind n : ℕ) (answer : List ℕ) : T
   pub numbers : answer ≡ sidedList found
   pub why : ForceAnswers scottish old file kind n found
 
+-- every outcome is so
 pub force-in-c : (old file : List ℕ) (kind n : ℕ) (answer : List ℕ) → answer ≡ sidedList (inForce scottish old file kind n) → ForceInC old file kind n answer
 force-in-c old file kind n answer o = record { outcome = o; found = inForce scottish old file kind n; numbers = o; why = force-answers scottish scottish-regular old file kind n }
 
@@ -101,5 +107,6 @@ pub record FieldInC (bytes : List ℕ) (l f : ℕ) (answer : List ℕ) : Type 0 
   pub numbers : answer ≡ partList found
   pub why : FieldAnswers bytes l f found
 
+-- every outcome is so
 pub field-in-c : (bytes : List ℕ) (l f : ℕ) (answer : List ℕ) → answer ≡ partList (fieldOf bytes l f) → FieldInC bytes l f answer
 field-in-c bytes l f answer o = record { outcome = o; found = fieldOf bytes l f; numbers = o; why = field-answers bytes l f }
