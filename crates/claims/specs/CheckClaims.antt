@@ -1,5 +1,5 @@
 -- What is promised of the two checks, of the numbers that they answer: when they answer 0, and why each other number.
-use mathlib.Core.Path.{_≡_, refl, sym, ap, _∙_, subst}
+use mathlib.Core.Path.{_≡_, sym, ap, _∙_, subst}
 use mathlib.Core.Logic.{_↔_}
 use mathlib.Core.Option.{some}
 use mathlib.Core.List.{List}
@@ -15,13 +15,11 @@ use Rattle.meaning.specs.Format.{kindOf, fieldNumber, recordCount, endDate}
 use Rattle.meaning.specs.Table.{scottish}
 use Rattle.meaning.specs.Records.{Rec}
 use Rattle.meaning.specs.File.{Frame}
-use Rattle.meaning.specs.Holding.{Held, sound, unsound, readHolding}
-use Rattle.meaning.specs.Load.{checkFile, heldNumbers, checkHolding}
+use Rattle.meaning.specs.Load.{checkFile, checkHolding}
 use Rattle.laws.specs.SoundFile.{SoundFile}
-use Rattle.laws.specs.SoundHolding.{held-is-sound}
 use Rattle.laws.specs.Rows.{given, checkRows, holdingRows}
 use Rattle.laws.specs.Checks.{SomeFile, SomeHolding, file-checked, checked-file, holding-checked, checked-holding}
-use Rattle.laws.specs.WhyLoad.{Numbered, Unsound}
+use Rattle.laws.specs.WhyLoad.{Numbered, Unsound, check-14}
 use Rattle.laws.specs.WhyFile.{lineAt, FileFails, check-why, why-check, five-field, six-field, eight-line, nine-line}
 use Rattle.laws.specs.Scottish.{scottish-regular}
 use Rattle.answers.specs.Meant.{answerOf}
@@ -97,14 +95,6 @@ pub record HoldingClaims (old : List ℕ) (v : Verdict) : Type 0 where
   -- 14 exactly if it isn't
   pub unsound : (v .code ≡ holdingUnsound) ↔ Unsound scottish old
 
-unsound-14 : (old : List ℕ) → Unsound scottish old → checkHolding scottish old .code ≡ holdingUnsound
-unfolding checkHolding heldNumbers
-unsound-14 old u = go (readHolding scottish old) refl
-  where
-    go : (h : Held) → readHolding scottish old ≡ h → heldNumbers h .code ≡ holdingUnsound
-    go (sound st) e = absurd (u (record { state = st; sounds = held-is-sound scottish scottish-regular old st e }))
-    go (unsound n) e = refl
-
 -- every answer of check_holding is so
 pub holding-claims : (old : List ℕ) (v : Verdict) → v ≡ verdictOf (checkHolding scottish old) → HoldingClaims old v
 holding-claims old v o = record {
@@ -114,8 +104,5 @@ holding-claims old v o = record {
     λ e. checked-holding scottish scottish-regular old (sym (ap (λ x. x .code) o) ∙ e),
     λ s. ap (λ x. x .code) o ∙ ap (λ x. x .code) (holding-checked scottish scottish-regular old (s .state) (s .sounds)),
   );
-  unsound = (
-    λ e s. omega (arith, e, ap (λ x. x .code) o, ap (λ x. x .code) (holding-checked scottish scottish-regular old (s .state) (s .sounds))),
-    λ u. ap (λ x. x .code) o ∙ unsound-14 old u,
-  );
+  unsound = rw o (check-14 scottish scottish-regular old);
 }

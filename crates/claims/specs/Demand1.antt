@@ -18,7 +18,7 @@ use Rattle.laws.specs.Demand2.{refused-zeros}
 use Rattle.laws.specs.Demand3.{undo-done}
 use Rattle.laws.specs.Buffers.{work-zeros, undo-output, undo-refused-zeros}
 use Rattle.laws.specs.Scottish.{scottish-regular}
-use Rattle.answers.specs.Meant.{answerOf, verdictOf}
+use Rattle.answers.specs.Meant.{answerOf, verdictOf, threeList}
 use Rattle.answers.specs.declared.numbers.Answer.{Answer}
 use Rattle.answers.specs.declared.numbers.Verdict.{Verdict}
 use Rattle.enquiries.specs.Handed.{Handed, lentAs, HandedOf}

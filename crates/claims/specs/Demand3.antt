@@ -68,7 +68,7 @@ unfolding thenZeros
 bare-filled room ts = bare-zeros (joined ts) (room - length (joined ts)) ∙ bare-joined ts
 
 -- the changes that a file says
-abbrev changes : Read Sheet → List (Change Rec)
+abbrev pub changes : Read Sheet → List (Change Rec)
 changes (fault r) = []
 changes (file s) = s .1
 

@@ -3,31 +3,31 @@ use mathlib.Core.Path.{_≡_, refl}
 use mathlib.Core.List.{List}
 use Prim.Native.Nat.{ℕ}
 use Rattle.meaning.specs.Table.{scottish}
+use Rattle.meaning.specs.Answers.{numberList}
 use Rattle.meaning.specs.Load.{checkFile, checkHolding, apply, undoFile}
 use Rattle.meaning.specs.Enquiries.{Found, find, inForce, fieldOf}
 use Rattle.laws.specs.WhyField.{FieldAnswers, field-answers}
 use Rattle.laws.specs.WhyFind.{FindAnswers, find-answers}
 use Rattle.laws.specs.WhyForce.{ForceAnswers, force-answers}
 use Rattle.laws.specs.Scottish.{scottish-regular}
-use Rattle.answers.specs.Meant.{answerOf}
+use Rattle.answers.specs.Meant.{answerOf, verdictOf, answerList, verdictList, threeList}
 use Rattle.answers.specs.declared.numbers.Answer.{Answer}
-use Rattle.answers.specs.Meant.{verdictOf}
 use Rattle.answers.specs.declared.numbers.Verdict.{Verdict}
-use Rattle.enquiries.specs.Handed.{threeList}
-use Rattle.muiwash.specs.Numbers.{sixList, answerList, verdictList, partList, sidedList, Applies, Undoes}
+use Rattle.muiwash.specs.Numbers.{partList, sidedList, Applies, Undoes}
 use Rattle.claims.specs.CheckClaims.{FileClaims, file-claims, HoldingClaims, holding-claims}
 use Rattle.claims.specs.LoadClaims.{ApplyClaims, apply-claims, UndoClaims, undo-claims}
 
 -- ---- the checks
 
--- six numbers, of which check_file's claims hold
+-- the numbers of an answer, of which check_file's claims hold
 pub record FileInC (file answer : List ℕ) : Type 0 where
-  pub outcome : answer ≡ sixList (checkFile scottish file)
+  pub outcome : answer ≡ numberList (checkFile scottish file)
   pub told : Answer
   pub numbers : answer ≡ answerList told
   pub claims : FileClaims file told
 
-pub file-in-c : (file answer : List ℕ) → answer ≡ sixList (checkFile scottish file) → FileInC file answer
+-- every outcome is so
+pub file-in-c : (file answer : List ℕ) → answer ≡ numberList (checkFile scottish file) → FileInC file answer
 file-in-c file answer o = record { outcome = o; told = answerOf (checkFile scottish file); numbers = o; claims = file-claims file _ refl }
 
 -- three numbers, of which check_holding's claims hold
@@ -37,18 +37,20 @@ pub record HoldingInC (old answer : List ℕ) : Type 0 where
   pub numbers : answer ≡ verdictList told
   pub claims : HoldingClaims old told
 
+-- every outcome is so
 pub holding-in-c : (old answer : List ℕ) → answer ≡ threeList (checkHolding scottish old) → HoldingInC old answer
 holding-in-c old answer o = record { outcome = o; told = verdictOf (checkHolding scottish old); numbers = o; claims = holding-claims old _ refl }
 
 -- ---- apply and undo
 
--- six numbers and an output, of which apply's claims hold
+-- the numbers of an answer and an output, of which apply's claims hold
 pub record ApplyInC (old file : List ℕ) (room : ℕ) (out answer : List ℕ) : Type 0 where
   pub outcome : Applies old file room out answer
   pub told : Answer
   pub numbers : answer ≡ answerList told
   pub claims : ApplyClaims old file room told out
 
+-- every outcome is so
 pub apply-in-c : (old file : List ℕ) (room : ℕ) (out answer : List ℕ) → Applies old file room out answer → ApplyInC old file room out answer
 apply-in-c old file room out answer o = record {
   outcome = o;
@@ -57,13 +59,14 @@ apply-in-c old file room out answer o = record {
   claims = apply-claims old file room _ out (refl, o .1);
 }
 
--- six numbers, an output and a work buffer, of which undo's claims hold
+-- the numbers of an answer, an output and a work buffer, of which undo's claims hold
 pub record UndoInC (old file : List ℕ) (room space : ℕ) (out work answer : List ℕ) : Type 0 where
   pub outcome : Undoes old file room space out work answer
   pub told : Answer
   pub numbers : answer ≡ answerList told
   pub claims : UndoClaims old file room space told out work
 
+-- every outcome is so
 pub undo-in-c : (old file : List ℕ) (room space : ℕ) (out work answer : List ℕ) → Undoes old file room space out work answer → UndoInC old file room space out work answer
 undo-in-c old file room space out work answer o = record {
   outcome = o;
@@ -81,6 +84,7 @@ pub record FindInC (old : List ℕ) (kind n : ℕ) (answer : List ℕ) : Type 0 
   pub numbers : answer ≡ partList found
   pub why : FindAnswers scottish old kind n found
 
+-- every outcome is so
 pub find-in-c : (old : List ℕ) (kind n : ℕ) (answer : List ℕ) → answer ≡ partList (find scottish old kind n) → FindInC old kind n answer
 find-in-c old kind n answer o = record { outcome = o; found = find scottish old kind n; numbers = o; why = find-answers scottish scottish-regular old kind n }
 
@@ -91,6 +95,7 @@ pub record ForceInC (old file : List ℕ) (kind n : ℕ) (answer : List ℕ) : T
   pub numbers : answer ≡ sidedList found
   pub why : ForceAnswers scottish old file kind n found
 
+-- every outcome is so
 pub force-in-c : (old file : List ℕ) (kind n : ℕ) (answer : List ℕ) → answer ≡ sidedList (inForce scottish old file kind n) → ForceInC old file kind n answer
 force-in-c old file kind n answer o = record { outcome = o; found = inForce scottish old file kind n; numbers = o; why = force-answers scottish scottish-regular old file kind n }
 
@@ -101,5 +106,6 @@ pub record FieldInC (bytes : List ℕ) (l f : ℕ) (answer : List ℕ) : Type 0 
   pub numbers : answer ≡ partList found
   pub why : FieldAnswers bytes l f found
 
+-- every outcome is so
 pub field-in-c : (bytes : List ℕ) (l f : ℕ) (answer : List ℕ) → answer ≡ partList (fieldOf bytes l f) → FieldInC bytes l f answer
 field-in-c bytes l f answer o = record { outcome = o; found = fieldOf bytes l f; numbers = o; why = field-answers bytes l f }

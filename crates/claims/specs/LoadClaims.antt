@@ -13,22 +13,25 @@ use Rattle.meaning.specs.Table.{scottish}
 use Rattle.meaning.specs.Records.{Rec, keyed}
 use Rattle.meaning.specs.File.{writeFile}
 use Rattle.meaning.specs.Holding.{written}
-use Rattle.meaning.specs.Load.{thenZeros, checkFile}
+use Rattle.meaning.specs.Load.{thenZeros, checkFile, undoFile}
 use Rattle.meaning.specs.Steps.{fits}
-use Rattle.meaning.specs.Undo.{undoSheet, undoHeld, undoBytes}
-use Rattle.laws.specs.SoundHolding.{SoundHolding, sound-held}
+use Rattle.meaning.specs.Undo.{undoBytes}
+use Rattle.meaning.specs.Codes.{holdingTooLong, holdingUnsound, undoTooLong}
+use Rattle.laws.specs.SoundHolding.{SoundHolding}
 use Rattle.laws.specs.SoundFile.{sound-read}
 use Rattle.laws.specs.Rows.{applyRows, undoRows}
 use Rattle.laws.specs.Checks.{SomeHolding}
 use Rattle.laws.specs.Demand2.{Allowed, afterAll, Lawful, Roomy}
-use Rattle.laws.specs.WhyLoad.{Numbered, Unsound, Faulty, BothSound, Reason, badFile, apply-why, why-apply, apply-14, apply-start, apply-13, undo-why, why-undo, undo-14, undo-start, undo-13, undo-0, undo-17}
+use Rattle.laws.specs.Demand3.{undo-done}
+use Rattle.laws.specs.WhyLoad.{Numbered, Unsound, Faulty, BothSound, Reason, badFile, apply-why, why-apply, apply-14, apply-start, apply-13, undo-why, why-undo, undo-14, undo-start, undo-13, undo-0, undo-17, undo-body}
 use Rattle.laws.specs.Scottish.{scottish-regular}
+use Rattle.answers.specs.Meant.{answerOf}
 use Rattle.answers.specs.declared.numbers.Answer.{Answer}
-use Rattle.meaning.specs.Codes.{holdingTooLong, holdingUnsound, undoTooLong}
 use Rattle.apply.specs.Outcome.{Outcome}
 use Rattle.undo.specs.Outcome.{UndoOutcome}
 use Rattle.claims.specs.Demand1.{Nothing, InTable, apply-refused, undo-refused, undo-filled, work-is-zeros, apply-numbers, undo-numbers}
 use Rattle.claims.specs.Demand2.{taken-if, taken-only, new-holding, counted}
+use Rattle.claims.specs.Demand3.{changes}
 
 -- ---- why a load is refused, of the numbers answered, with `room` bytes for the holding
 
@@ -42,7 +45,7 @@ pub record WhyRefused (old file : List ℕ) (room : ℕ) (r : Answer) : Type 0 w
   pub faulty : SomeHolding scottish old → Faulty scottish file → Numbered (r .code) (r .line) (r .field) (checkFile scottish file .code) (checkFile scottish file .line) (checkFile scottish file .field)
   -- with both sound, 13 at line 0 exactly if the holding doesn't fit at the start
   pub start : (m : BothSound scottish old file) → ((r .code ≡ holdingTooLong) × (r .line ≡ 0)) ↔ (T (fits room (m .st)) → ⊥)
-  -- with every line and every step lawful, 13 exactly if the holding doesn't fit at the start and after every step
+  -- with every line and every step lawful, 13 exactly if not every state of the holding fits, the first and those after each step
   pub roomless : (st : List Rec) → SoundHolding scottish old st → Lawful scottish st file → (r .code ≡ holdingTooLong) ↔ (Roomy scottish room st file → ⊥)
 
 -- ---- apply
@@ -65,6 +68,7 @@ pub record ApplyClaims (old file : List ℕ) (room : ℕ) (r : Answer) (out : Li
   pub counts : (a : Allowed scottish old file room) → (r .inserts ≡ count ins (a .cs)) × (r .updates ≡ count upd (a .cs)) × (r .deletes ≡ count del (a .cs))
   -- a refusal has a reason
   pub why : (r .code ≡ 0 → ⊥) → Reason scottish room old file (r .code) (r .line) (r .field)
+  -- and each code is given exactly then
   pub whys : WhyRefused old file room r
 
 -- every outcome of apply is so
@@ -103,18 +107,24 @@ pub record UndoClaims (old file : List ℕ) (room space : ℕ) (r : Answer) (out
   pub done : (r .code ≡ 0) ↔ (Allowed scottish old file space × (length (undoBytes scottish old file) ≤ room))
   -- 17 exactly if all is allowed so, and the undo is longer than its output
   pub long : (r .code ≡ undoTooLong) ↔ (Allowed scottish old file space × (room < length (undoBytes scottish old file)))
-  -- on success the output is the undo, and zeros
+  -- on success it counts the file's body lines
+  pub counts : r .code ≡ 0 → (m : BothSound scottish old file) → (r .inserts ≡ count ins (m .cs)) × (r .updates ≡ count upd (m .cs)) × (r .deletes ≡ count del (m .cs))
+  -- and the output is the undo, and zeros
   pub filledIn : r .code ≡ 0 → (out ≡ thenZeros room (undoBytes scottish old file)) × (length (undoBytes scottish old file) ≤ room)
   -- which is the file's own header, metadata and trailer around the steps taken backwards, numbered from 1
-  pub body : (a : Allowed scottish old file space) → undoBytes scottish old file ≡ writeFile (a .fr) (undo (after (keyed scottish)) (back (keyed scottish)) (a .st) (a .cs))
+  pub body : (m : BothSound scottish old file) → undoBytes scottish old file ≡ writeFile (m .fr) (undo (after (keyed scottish)) (back (keyed scottish)) (m .st) (m .cs))
   -- another refusal has a load's reason, with the work buffer's length for 13
   pub why : (r .code ≡ 0 → ⊥) → (r .code ≡ undoTooLong → ⊥) → Reason scottish space old file (r .code) (r .line) (r .field)
+  -- and each code is given exactly then
   pub whys : WhyRefused old file space r
 
-undo-body : (old file : List ℕ) (space : ℕ) (a : Allowed scottish old file space)
-    → undoBytes scottish old file ≡ writeFile (a .fr) (undo (after (keyed scottish)) (back (keyed scottish)) (a .st) (a .cs))
-unfolding undoBytes undoHeld undoSheet
-undo-body old file space a = rw (sound-held scottish scottish-regular old (a .st) (a .held), sound-read scottish file (a .fr) (a .cs) (a .lines))
+undo-counts : (old file : List ℕ) (room space : ℕ) (r : Answer) → r ≡ answerOf (undoFile scottish old file room space .answer) → r .code ≡ 0 → (m : BothSound scottish old file)
+    → (r .inserts ≡ count ins (m .cs)) × (r .updates ≡ count upd (m .cs)) × (r .deletes ≡ count del (m .cs))
+undo-counts old file room space r o e m =
+    let w = undo-done scottish scottish-regular old file room space (sym (ap (λ x. x .code) o) ∙ e) in
+    let c : w .1 .cs ≡ m .cs = ap changes (sym (w .1 .read) ∙ sound-read scottish file (m .fr) (m .cs) (m .lines)) in
+    let q = o ∙ ap answerOf (w .2) in
+    (ap (λ x. x .inserts) q ∙ ap (count ins) c, ap (λ x. x .updates) q ∙ ap (count upd) c, ap (λ x. x .deletes) q ∙ ap (count del) c)
 
 -- every outcome of undo is so
 pub undo-claims : (old file : List ℕ) (room space : ℕ) (r : Answer) (out work : List ℕ) → UndoOutcome old file room space r out work → UndoClaims old file room space r out work
@@ -125,8 +135,9 @@ undo-claims old file room space r out work o = record {
   cleared = work-is-zeros old file room space r out work o;
   done = rw (o .0) (undo-0 scottish scottish-regular old file room space);
   long = rw (o .0) (undo-17 scottish scottish-regular old file room space);
+  counts = undo-counts old file room space r (o .0);
   filledIn = undo-filled old file room space r out work o;
-  body = undo-body old file space;
+  body = undo-body scottish scottish-regular old file;
   why = λ n k. let e = ap (λ x. x .code) (o .0) in rw (o .0) (undo-why scottish scottish-regular old file room space (λ z. n (e ∙ z)) (λ z. k (e ∙ z)));
   whys = record {
     exactly = λ c l f w. rw (o .0) (why-undo scottish scottish-regular old file room space c l f w);

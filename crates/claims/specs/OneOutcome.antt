@@ -68,15 +68,19 @@ print-once held sent holding change before n m x y o p = (one-outcome _ n m (o .
 
 -- ---- the functions for C
 
+-- muiwash_check_file
 pub check-file-in-c-once : (file a b : List ℕ) → FileInC file a → FileInC file b → a ≡ b
 check-file-in-c-once file a b o p = one-outcome _ a b (o .outcome) (p .outcome)
 
+-- muiwash_check_holding
 pub check-holding-in-c-once : (old a b : List ℕ) → HoldingInC old a → HoldingInC old b → a ≡ b
 check-holding-in-c-once old a b o p = one-outcome _ a b (o .outcome) (p .outcome)
 
+-- muiwash_apply
 pub apply-in-c-once : (old file : List ℕ) (room : ℕ) (out put a b : List ℕ) → ApplyInC old file room out a → ApplyInC old file room put b → (a ≡ b) × (out ≡ put)
 apply-in-c-once old file room out put a b o p = (one-outcome _ a b (o .outcome .0) (p .outcome .0), one-outcome _ out put (o .outcome .1) (p .outcome .1))
 
+-- muiwash_undo
 pub undo-in-c-once : (old file : List ℕ) (room space : ℕ) (out put work rest a b : List ℕ) → UndoInC old file room space out work a → UndoInC old file room space put rest b
     → (a ≡ b) × (out ≡ put) × (work ≡ rest)
 undo-in-c-once old file room space out put work rest a b o p = (
@@ -85,11 +89,14 @@ undo-in-c-once old file room space out put work rest a b o p = (
   one-outcome _ work rest (o .outcome .2) (p .outcome .2),
 )
 
+-- muiwash_find
 pub find-in-c-once : (old : List ℕ) (kind n : ℕ) (a b : List ℕ) → FindInC old kind n a → FindInC old kind n b → a ≡ b
 find-in-c-once old kind n a b o p = one-outcome _ a b (o .outcome) (p .outcome)
 
+-- muiwash_in_force
 pub in-force-in-c-once : (old file : List ℕ) (kind n : ℕ) (a b : List ℕ) → ForceInC old file kind n a → ForceInC old file kind n b → a ≡ b
 in-force-in-c-once old file kind n a b o p = one-outcome _ a b (o .outcome) (p .outcome)
 
+-- muiwash_field
 pub field-in-c-once : (bytes : List ℕ) (l f : ℕ) (a b : List ℕ) → FieldInC bytes l f a → FieldInC bytes l f b → a ≡ b
 field-in-c-once bytes l f a b o p = one-outcome _ a b (o .outcome) (p .outcome)

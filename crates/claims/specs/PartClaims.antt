@@ -16,6 +16,7 @@ use Rattle.laws.specs.WhyFind.{FindAnswers, find-answers}
 use Rattle.laws.specs.WhyForce.{ForceAnswers, force-answers}
 use Rattle.laws.specs.Scottish.{scottish-regular}
 use Rattle.meaning.specs.Codes.{noSuchPart}
+use Rattle.answers.specs.Meant.{threeList}
 use Rattle.enquiries.specs.Handed.{Handed, HandedOf}
 use Rattle.claims.specs.Demand1.{Told, find-numbers, in-force-numbers, field-numbers}
 

@@ -1,6 +1,7 @@
 // What is claimed of the functions for C.
 ghost use lib.ListN.{length};
 ghost use Rattle.claims.specs.ForC.{FileInC, HoldingInC, ApplyInC, UndoInC, FindInC, ForceInC, FieldInC};
+use answers::numbers::Answer;
 use muiwash::checks::muiwash_check_file;
 use muiwash::checks::muiwash_check_holding;
 use muiwash::load::muiwash_apply;
@@ -10,7 +11,7 @@ use muiwash::parts::muiwash_find;
 use muiwash::parts::muiwash_in_force;
 
 // The check of a file.
-pub fn checked_file(file: &[u8], answer: &mut [u64; 6])
+pub fn checked_file(file: &[u8], answer: &mut [u64; Answer::NUMBERS])
     ensures { λ _. ⌜ FileInC (now (file .entry)) (now (answer .exit)) ⌝ }
 {
     muiwash_check_file(file, &mut *answer);
@@ -24,14 +25,14 @@ pub fn checked_holding(holding: &[u8], answer: &mut [u64; 3])
 }
 
 // Takes a file into a holding.
-pub fn applied(holding: &[u8], file: &[u8], out: &mut [u8], answer: &mut [u64; 6])
+pub fn applied(holding: &[u8], file: &[u8], out: &mut [u8], answer: &mut [u64; Answer::NUMBERS])
     ensures { λ _. ⌜ ApplyInC (now (holding .entry)) (now (file .entry)) (length (now (out .entry))) (now (out .exit)) (now (answer .exit)) ⌝ }
 {
     muiwash_apply(holding, file, &mut *out, &mut *answer);
 }
 
 // Writes the undo of a file.
-pub fn undone(holding: &[u8], file: &[u8], out: &mut [u8], work: &mut [u8], answer: &mut [u64; 6])
+pub fn undone(holding: &[u8], file: &[u8], out: &mut [u8], work: &mut [u8], answer: &mut [u64; Answer::NUMBERS])
     ensures { λ _. ⌜ UndoInC (now (holding .entry)) (now (file .entry)) (length (now (out .entry))) (length (now (work .entry))) (now (out .exit)) (now (work .exit)) (now (answer .exit)) ⌝ }
 {
     muiwash_undo(holding, file, &mut *out, &mut *work, &mut *answer);

@@ -11,18 +11,18 @@ use lib.Dec.{T, leb, leb→le, le→leb}
 use lib.ListN.{length}
 use Rattle.base.specs.Lists.{pick}
 use Rattle.base.specs.Tests.{T-true}
-use Rattle.theory.specs.Step.{Op, ins, upd, del, Change, after}
-use Rattle.theory.specs.Trail.{final, Each, Through}
+use Rattle.theory.specs.Step.{Op, ins, upd, del, Change, after, back}
+use Rattle.theory.specs.Trail.{final, Each, Through, undo}
 use Rattle.theory.specs.Run.{Out, done, stop, run}
 use Rattle.theory.specs.Answer.{fault, file, took, refused}
 use Rattle.meaning.specs.Format.{Format}
 use Rattle.meaning.specs.Records.{Rec, keyed}
-use Rattle.meaning.specs.File.{Frame, Sheet, readFile}
+use Rattle.meaning.specs.File.{Frame, Sheet, readFile, writeFile}
 use Rattle.meaning.specs.Holding.{Held, sound, unsound, readHolding}
 use Rattle.meaning.specs.Load.{outcome, fromStart, onFile, onHolding, load, checked, checkFile, heldNumbers, checkHolding, applied, apply, Undone, undone, undoFile}
 use Rattle.meaning.specs.Steps.{keyCode, fits, runSteps}
 use Rattle.meaning.specs.Answers.{Read, Answer, ofField, Refusal, atLine, alone}
-use Rattle.meaning.specs.Undo.{undoBytes}
+use Rattle.meaning.specs.Undo.{undoSheet, undoHeld, undoBytes}
 use Rattle.laws.specs.Regular.{Regular}
 use Rattle.laws.specs.SoundHolding.{SoundHolding, sound-held, held-is-sound}
 use Rattle.laws.specs.SoundFile.{SoundFile, sound-read, read-sound}
@@ -216,6 +216,17 @@ module _ (F : Format) where
         let w = same-both old b (record { st = a .st; fr = a .fr; cs = a .cs; held = a .held; lines = a .lines }) (record { st = st; fr = fr; cs = cs; held = h; lines = s }) in
         rw (← w .0, ← w .1) (steps-roomy room (a .st) (a .cs) (a .starts) (a .steps))
 
+    -- ---- the check of a holding
+
+    -- 14 exactly if the holding is unsound
+    pub check-14 : (old : List ℕ) → (checkHolding F old .code ≡ 14) ↔ Unsound old
+    unfolding checkHolding heldNumbers
+    check-14 old = go (readHolding F old) refl
+      where
+        go : (h : Held) → readHolding F old ≡ h → (heldNumbers h .code ≡ 14) ↔ Unsound old
+        go (sound st) e = (λ z. absurd (omega (arith, z)), λ u. absurd (u (record { state = st; sounds = held-is-sound F regular old st e })))
+        go (unsound n) e = (λ z. unsound-is old n e, λ u. refl)
+
     -- ---- apply
 
     module _ (old b : List ℕ) (room : ℕ) where
@@ -352,3 +363,8 @@ module _ (F : Format) where
           neither : Dec (length (undoBytes F old b) ≤ room) → undo-long ≡ holdingTooLong → ⊥
           neither (yes h) e = omega (arith, e, short-0 h)
           neither (no h) e = omega (arith, e, long-17 (omega arith))
+
+    -- the undo of a sound file over a sound holding: the file's header, metadata and trailer around the steps taken backwards
+    pub undo-body : (old b : List ℕ) (m : BothSound old b) → undoBytes F old b ≡ writeFile (m .fr) (undo (after (keyed F)) (back (keyed F)) (m .st) (m .cs))
+    unfolding undoBytes undoHeld undoSheet
+    undo-body old b m = rw (sound-held F regular old (m .st) (m .held), sound-read F b (m .fr) (m .cs) (m .lines))

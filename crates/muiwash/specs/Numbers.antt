@@ -7,7 +7,6 @@ use Rattle.meaning.specs.Table.{scottish}
 use Rattle.meaning.specs.Load.{apply, undoFile}
 use Rattle.meaning.specs.Enquiries.{Slice, first, second, Found}
 use Rattle.meaning.specs.Answers.{numberList}
-use Rattle.laws.specs.Buffers.{one-outcome}
 use Rattle.enquiries.specs.declared.finding.Finding.{Finding}
 
 -- an enquiry's numbers in their order: code, line, field, and the part's start and length
@@ -39,12 +38,3 @@ Applies old file room out answer = (answer ≡ numberList (apply scottish old fi
 abbrev pub Undoes : List ℕ → List ℕ → ℕ → ℕ → List ℕ → List ℕ → List ℕ → Type 0
 Undoes old file room space out work answer =
     (answer ≡ numberList (undoFile scottish old file room space .answer)) × (out ≡ undoFile scottish old file room space .output) × (work ≡ undoFile scottish old file room space .work)
-
--- ---- any two outcomes are equal
-
-pub applies-one : (old file : List ℕ) (room : ℕ) (out put a b : List ℕ) → Applies old file room out a → Applies old file room put b → (a ≡ b) × (out ≡ put)
-applies-one old file room out put a b o p = (one-outcome _ a b (o .0) (p .0), one-outcome _ out put (o .1) (p .1))
-
-pub undoes-one : (old file : List ℕ) (room space : ℕ) (out put work left a b : List ℕ) → Undoes old file room space out work a → Undoes old file room space put left b
-    → (a ≡ b) × (out ≡ put) × (work ≡ left)
-undoes-one old file room space out put work left a b o p = (one-outcome _ a b (o .0) (p .0), one-outcome _ out put (o .1) (p .1), one-outcome _ work left (o .2) (p .2))
