@@ -32,7 +32,13 @@ pub fn applied(holding: &[u8], file: &[u8], out: &mut [u8], answer: &mut [u64; A
 }
 
 // Writes the undo of a file.
-pub fn undone(holding: &[u8], file: &[u8], out: &mut [u8], work: &mut [u8], answer: &mut [u64; Answer::NUMBERS])
+pub fn undone(
+    holding: &[u8],
+    file: &[u8],
+    out: &mut [u8],
+    work: &mut [u8],
+    answer: &mut [u64; Answer::NUMBERS],
+)
     ensures { λ _. ⌜ UndoInC (now (holding .entry)) (now (file .entry)) (length (now (out .entry))) (length (now (work .entry))) (now (out .exit)) (now (work .exit)) (now (answer .exit)) ⌝ }
 {
     muiwash_undo(holding, file, &mut *out, &mut *work, &mut *answer);

@@ -24,10 +24,11 @@ use Rattle.meaning.specs.Format.{Field, named, formNamed}
 use Rattle.meaning.specs.Table.{scottish}
 use Rattle.meaning.specs.Sound.{soundField, forms, fieldFault}
 use Rattle.meaning.specs.Records.{Rec, ownFields, valueNamed, valuesNamed}
-use Rattle.meaning.specs.Answers.{Fault, ofLine, ofField}
+use Rattle.meaning.specs.Answers.{Fault, ofLine}
 use Rattle.laws.specs.Regular.{holds}
 use Rattle.laws.specs.Body.{contentFault, fine, sound-none}
-use Rattle.meaning.specs.Codes.{fieldCountWrong, fieldMalformed}
+use Rattle.meaning.specs.Codes.{fieldCountWrong}
+use Rattle.laws.specs.SoundLine.{field-sound}
 use Rattle.layout.specs.Rows.{padded}
 use Rattle.keys.specs.Numbers.{digitsIn, numberOf, numberNamed, numbersNamed}
 use Rattle.keys.specs.DigitLaws.{lex-append, lex-padded, lex-digits}
@@ -46,7 +47,7 @@ unfolding forms formNamed filledNamed named soundField
 named-sound n s [] fs x e h = unfold soundAs isEmpty isTextual same in tt
 named-sound n s (d ∷ ds) [] x e h = absurd (omega arith)
 named-sound n s (d ∷ ds) (f ∷ fs) x e h =
-    let a = ok-ask (soundAs (scottish .textRule) (d .form) (d .filled) f) (ofField fieldMalformed n) (forms scottish (suc n) ds fs x) e in
+    let a = field-sound scottish n d f (forms scottish (suc n) ds fs x) e in
     go (eqt s (d .name)) (a .0) (named-sound (suc n) s ds fs x (a .1) (omega arith))
   where
     go : (b : Bool) → T (soundAs (scottish .textRule) (d .form) (d .filled) f) → T (soundAs (scottish .textRule) (formNamed s ds) (filledNamed s ds) (named s ds fs))

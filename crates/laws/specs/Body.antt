@@ -18,16 +18,16 @@ use Rattle.meaning.specs.Lines.{plain, fieldsOf, oddQuotes, hasFields, identifi
 use Rattle.meaning.specs.Forms.{number, hasForm, isEmpty, soundAs, isNumber, isDigit, isTextual, changeType}
 use Rattle.meaning.specs.Kinds.{Kind, kinds, ident, bodyLine, role, kindAmong}
 use Rattle.meaning.specs.Format.{Format, Field, opening, kindOf, knows, named, fieldNumber, man}
-use Rattle.meaning.specs.Sound.{soundField, forms, fieldFault, formFault}
+use Rattle.meaning.specs.Sound.{soundField, forms, fieldFault, formFault, ifMalformed}
 use Rattle.meaning.specs.Records.{Rec, contentOf, ownFields, letter, changeText, changeOf}
 use Rattle.meaning.specs.Holding.{isHeld, isSound}
-use Rattle.meaning.specs.Answers.{Fault, ofLine, ofField}
-use Rattle.meaning.specs.Codes.{fieldMalformed, fieldCountWrong}
+use Rattle.meaning.specs.Answers.{Fault, ofLine}
+use Rattle.meaning.specs.Codes.{fieldCountWrong}
 use Rattle.laws.specs.Kinds.{every, ident-only, held-role}
 use Rattle.laws.specs.Regular.{holds, Regular}
 use Rattle.laws.specs.LinesAndFields.{quiet, leads, Made, made, Cut, cut3, cut-comma, Heads, noQuote, heads}
 use Rattle.laws.specs.ChangeAndOrder.{leads-letter, letter-plain, letter-sound, op-letter, leads-dec, dec-plain, dec-sound}
-use Rattle.laws.specs.SoundLine.{SoundLine, forms-each, each-forms, form-sound, sound-form}
+use Rattle.laws.specs.SoundLine.{SoundLine, forms-each, each-forms, form-sound, sound-form, field-rest, field-sound}
 
 -- ---- the identifier
 
@@ -157,8 +157,7 @@ module _ (F : Format) where
   -- the fields of a line are the three first and those of the content
   fault-split : (own : List Field) (f1 f2 f3 : List ℕ) (fs : List (List ℕ)) (rest : Option Fault)
       → fieldFault F 1 (opening ++ own) (f1 ∷ f2 ∷ f3 ∷ fs) rest
-      ≡ ask (soundField F (man "RECORD_IDENTIFIER" (number 2)) f1) (ofField fieldMalformed 1)
-      (ask (soundField F (man "CHANGE_TYPE" changeType) f2) (ofField fieldMalformed 2) (ask (soundField F (man "PRO_ORDER" (number 16)) f3) (ofField fieldMalformed 3) (fieldFault F 4 own fs rest)))
+      ≡ ifMalformed F 1 (man "RECORD_IDENTIFIER" (number 2)) f1 (ifMalformed F 2 (man "CHANGE_TYPE" changeType) f2 (ifMalformed F 3 (man "PRO_ORDER" (number 16)) f3 (fieldFault F 4 own fs rest)))
   unfolding fieldFault forms named fieldNumber
   fault-split own f1 f2 f3 fs rest = refl
 
@@ -207,9 +206,9 @@ module _ (F : Format) where
         main f1 f2 f3 c o l g =
             let u = contentOf t in
             let g2 : fieldFault F 1 (opening ++ ownFields F k) (f1 ∷ f2 ∷ f3 ∷ fieldsOf u) rest ≡ none = subst (λ x. fieldFault F 1 (opening ++ ownFields F k) x rest ≡ none) (c .cut) g in
-            let a1 = ok-ask _ _ _ (sym (fault-split (ownFields F k) f1 f2 f3 (fieldsOf u) rest) ∙ g2) in
-            let a2 = ok-ask _ _ _ (a1 .1) in
-            let a3 = ok-ask _ _ _ (a2 .1) in
+            let a1 = field-sound F 1 _ f1 _ (sym (fault-split (ownFields F k) f1 f2 f3 (fieldsOf u) rest) ∙ g2) in
+            let a2 = field-sound F 2 _ f2 _ (a1 .1) in
+            let a3 = field-sound F 3 _ f3 _ (a2 .1) in
             let r = fault-rest 4 (ownFields F k) (fieldsOf u) rest (a3 .1) in
             let o2 : T (not (oddQuotes u)) = subst (λ b. T (not b)) (c .odd) o in
             let l2 : length (fieldsOf u) ≡ length (ownFields F k) = omega (arith, l, ap length (c .cut)) in
@@ -259,9 +258,9 @@ module _ (F : Format) where
         rw (m .fieldsM, m .oddM, opens k held)
         (ask-ok _ (ofLine fieldCountWrong) _ (and-in (not (oddQuotes u)) _ o (yes-eqb l2))
         ∙ fault-split (ownFields F k) (ident k) (letter (c .op)) (dec n) (fieldsOf u) rest
-        ∙ ask-ok _ (ofField fieldMalformed 1) _ (ident-sound k)
-        ∙ ask-ok _ (ofField fieldMalformed 2) _ (letter-sound F (c .op))
-        ∙ ask-ok _ (ofField fieldMalformed 3) _ (dec-sound F n h)
+        ∙ field-rest F 1 _ (ident k) _ (ident-sound k)
+        ∙ field-rest F 2 _ (letter (c .op)) _ (letter-sound F (c .op))
+        ∙ field-rest F 3 _ (dec n) _ (dec-sound F n h)
         ∙ fault-rest 4 (ownFields F k) (fieldsOf u) none (a .1) .1 rest)
 
     -- ---- the same in the words of a sound line

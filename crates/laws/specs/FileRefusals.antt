@@ -3,7 +3,7 @@ use mathlib.Core.Path.{_≡_, refl, sym}
 use mathlib.Core.Bool.{Bool, true, false, _&&_, _||_}
 use mathlib.Core.Option.{Option, none, some}
 use mathlib.Core.List.{List, [], _∷_}
-use Prim.Native.Nat.{ℕ, zero, suc}
+use Prim.Native.Nat.{ℕ, zero, suc, _≤_}
 use Prim.Native.String.{String}
 use native.Mathlib.Omega.{arith}
 use lib.Dec.{T, leb, eqb, eqb→eq, le→leb}
@@ -15,7 +15,7 @@ use Rattle.theory.specs.Answer.{fault, file}
 use Rattle.meaning.specs.Lines.{fieldsOf, identifier, Line, linesOf, endsWell}
 use Rattle.meaning.specs.Kinds.{Kind, ident, Role, headerLine, bodyLine, metadataLine, trailerLine, role}
 use Rattle.meaning.specs.Format.{Format, Field, kindOf, knows, named, fieldNumber, proOrder, recordCount, startDate, endDate}
-use Rattle.meaning.specs.Sound.{soundField, forms, datesAgree, fieldFault, formFault}
+use Rattle.meaning.specs.Sound.{soundField, forms, datesAgree, fieldFault, formFault, ifMalformed}
 use Rattle.meaning.specs.File.{Stage, next, countFault, Judged, bad, good, lineFault, verdict, judgeKind, judgeText, judgeLine, Sheet, adds, bodyAfter, atStart, inBody, afterMetadata, afterTrailer, atEnd, onLine, readFrom, readFile}
 use Rattle.meaning.specs.Holding.{isHeld}
 use Rattle.meaning.specs.Answers.{Read, Fault, ofLine, ofField}
@@ -86,15 +86,16 @@ module _ (F : Format) where
 
   -- ---- of a line
 
-  five : (n : ℕ) → T (shaped (ofField fieldMalformed (suc n)))
+  -- a fault with code 5 and a field is
+  five : (f : Fault) → f .code ≡ fieldMalformed → 1 ≤ f .field → T (shaped f)
   unfolding shaped
-  five n = or-l (leb 1 (suc n)) _ (le→leb 1 (suc n) (omega arith))
+  five f c h = rw c (or-l (leb 1 (f .field)) _ (le→leb 1 (f .field) h))
 
   forms-shaped : (n : ℕ) (ds : List Field) (fs : List (List ℕ)) (rest : Option Fault) → Shaped rest → Shaped (forms F (suc n) ds fs rest)
-  unfolding forms
+  unfolding forms ifMalformed
   forms-shaped n [] fs rest r = r
   forms-shaped n (d ∷ ds) [] rest r = r
-  forms-shaped n (d ∷ ds) (f ∷ fs) rest r = ask-shaped (soundField F d f) (ofField fieldMalformed (suc n)) (forms F (suc (suc n)) ds fs rest) (five n) (forms-shaped (suc n) ds fs rest r)
+  forms-shaped n (d ∷ ds) (f ∷ fs) rest r = ask-shaped (soundField F d f) _ (forms F (suc (suc n)) ds fs rest) (five _ refl (omega arith)) (forms-shaped (suc n) ds fs rest r)
 
   -- END_DATE's place in a known kind is such a number, or 0 where the kind has no END_DATE
   end-or-none : (k : Kind) → T (knows F k) → T (endNumber (fieldNumber 1 endDate (fields k)) || eqb (fieldNumber 1 endDate (fields k)) 0)

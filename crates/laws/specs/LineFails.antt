@@ -15,7 +15,7 @@ use Rattle.theory.specs.Decimal.{value}
 use Rattle.meaning.specs.Lines.{fieldsOf, hasFields, identifier, Line, endsWell}
 use Rattle.meaning.specs.Kinds.{Kind, Role, headerLine, bodyLine, metadataLine, trailerLine, role}
 use Rattle.meaning.specs.Format.{Format, Field, kindOf, named, fieldNumber, proOrder, recordCount, startDate, endDate}
-use Rattle.meaning.specs.Sound.{soundField, forms, datesAgree, fieldFault, formFault}
+use Rattle.meaning.specs.Sound.{soundField, forms, datesAgree, fieldFault, formFault, ifMalformed}
 use Rattle.meaning.specs.File.{Stage, next, hasRoom, countFault, Judged, bad, good, lineFault, verdict, judgeKind, judgeText, judgeLine}
 use Rattle.meaning.specs.Answers.{Fault, ofLine, ofField}
 use Rattle.laws.specs.SoundLine.{EachSound, each-forms}
@@ -88,7 +88,7 @@ module _ (F : Format) where
   FormsSay n ds fs rest o = ((field : ℕ) × Lowest n ds fs field × (o ≡ some (ofField fieldMalformed field))) ⊎ (EachSound F ds fs × (o ≡ rest))
 
   forms-say : (n : ℕ) (ds : List Field) (fs : List (List ℕ)) (rest : Option Fault) → FormsSay n ds fs rest (forms F n ds fs rest)
-  unfolding forms ask
+  unfolding forms ifMalformed ask
   forms-say n [] fs rest = inr (tt, refl)
   forms-say n (d ∷ ds) [] rest = inr (tt, refl)
   forms-say n (d ∷ ds) (f ∷ fs) rest = go (soundField F d f) refl (forms-say (suc n) ds fs rest)
@@ -99,7 +99,7 @@ module _ (F : Format) where
       go true e (inr w) = inr ((rw e tt, w .0), w .1)
 
   lowest-forms : (n : ℕ) (ds : List Field) (fs : List (List ℕ)) (rest : Option Fault) (field : ℕ) → Lowest n ds fs field → forms F n ds fs rest ≡ some (ofField fieldMalformed field)
-  unfolding forms ask
+  unfolding forms ifMalformed ask
   lowest-forms n [] fs rest field w = absurd w
   lowest-forms n (d ∷ ds) [] rest field w = absurd w
   lowest-forms n (d ∷ ds) (f ∷ fs) rest field (inl w) = rw (no-true (soundField F d f) (w .0), w .1)

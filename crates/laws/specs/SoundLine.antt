@@ -12,9 +12,9 @@ use Rattle.base.specs.Tests.{and-in, and-l, and-r, T-false, ask-ok, ok-ask}
 use Rattle.meaning.specs.Lines.{plain, fieldsOf, oddQuotes, hasFields, identifier}
 use Rattle.meaning.specs.Kinds.{Kind}
 use Rattle.meaning.specs.Format.{Format, Field, kindOf, named, fieldNumber, startDate, endDate}
-use Rattle.meaning.specs.Sound.{soundField, forms, fieldFault, formFault, datesAgree}
+use Rattle.meaning.specs.Sound.{soundField, forms, fieldFault, formFault, datesAgree, ifMalformed}
 use Rattle.meaning.specs.Answers.{Fault, ofLine, ofField}
-use Rattle.meaning.specs.Codes.{fieldMalformed, fieldCountWrong, endBeforeStart}
+use Rattle.meaning.specs.Codes.{fieldCountWrong, endBeforeStart}
 
 module _ (F : Format) where
   open Format F using (fields)
@@ -34,13 +34,23 @@ module _ (F : Format) where
     pub formed : EachSound (fields k) (fieldsOf t)
     pub dated : T (datesAgree (named startDate (fields k) (fieldsOf t)) (named endDate (fields k) (fieldsOf t)))
 
+  -- after a sound field the rest is asked
+  pub field-rest : (n : ℕ) (d : Field) (f : List ℕ) (x : Option Fault) → T (soundField F d f) → ifMalformed F n d f x ≡ x
+  unfolding ifMalformed
+  field-rest n d f x s = ask-ok (soundField F d f) _ x s
+
+  -- a field without fault is sound, and so is the rest
+  pub field-sound : (n : ℕ) (d : Field) (f : List ℕ) (x : Option Fault) → ifMalformed F n d f x ≡ none → T (soundField F d f) × (x ≡ none)
+  unfolding ifMalformed
+  field-sound n d f x e = ok-ask (soundField F d f) _ x e
+
   -- code 5 is not given: each field is sound, and what is asked afterwards finds nothing
   pub forms-each : (n : ℕ) (ds : List Field) (fs : List (List ℕ)) (x : Option Fault) → forms F n ds fs x ≡ none → EachSound ds fs × (x ≡ none)
   unfolding forms
   forms-each n [] fs x e = (tt, e)
   forms-each n (d ∷ ds) [] x e = (tt, e)
   forms-each n (d ∷ ds) (f ∷ fs) x e =
-      let a = ok-ask (soundField F d f) (ofField fieldMalformed n) (forms F (suc n) ds fs x) e in
+      let a = field-sound n d f (forms F (suc n) ds fs x) e in
       let i = forms-each (suc n) ds fs x (a .1) in
       ((a .0, i .0), i .1)
 
@@ -49,7 +59,7 @@ module _ (F : Format) where
   unfolding forms
   each-forms n [] fs x s = refl
   each-forms n (d ∷ ds) [] x s = refl
-  each-forms n (d ∷ ds) (f ∷ fs) x s = ask-ok (soundField F d f) (ofField fieldMalformed n) (forms F (suc n) ds fs x) (s .0) ∙ each-forms (suc n) ds fs x (s .1)
+  each-forms n (d ∷ ds) (f ∷ fs) x s = field-rest n d f (forms F (suc n) ds fs x) (s .0) ∙ each-forms (suc n) ds fs x (s .1)
 
   -- a line without fault is a sound line of its kind, and what is asked afterwards finds nothing
   pub form-sound : (k : Kind) (t : List ℕ) (rest : Option Fault) → T (all plain t) → kindOf F (identifier t) ≡ some k → formFault F k t rest ≡ none → SoundLine k t × (rest ≡ none)

@@ -23,7 +23,7 @@ use Rattle.laws.specs.WhyLoad.{Numbered}
 use Rattle.laws.specs.LineFails.{LineFails, ending, unknown, misplaced, tooMany, miscounted, malformed, misdated, misnumbered, mistold, JudgedFails, judge-fails, fails-judged, lowest-within}
 use Rattle.meaning.specs.Codes.{outOfPlace, fieldMalformed, endBeforeStart, recordCountWrong, tooManyBodyLines}
 
--- ---- the place after the trailer
+-- ---- the stage after the trailer
 
 abbrev IsLast : Stage → Type 0
 IsLast atStart = ⊥
@@ -31,7 +31,7 @@ IsLast inBody = ⊥
 IsLast afterMetadata = ⊥
 IsLast afterTrailer = Unit {0}
 
--- so many lines, n of them body lines, stand before a place
+-- so many lines, n of them body lines, stand before a stage
 abbrev Behind : Stage → ℕ → ℕ → Type 0
 Behind atStart n i = (i ≡ 0) × (n ≡ 0)
 Behind inBody n i = (i ≡ 1 + n) × (n ≤ mostBody)
@@ -90,12 +90,12 @@ module _ (F : Format) where
 
   -- ---- where a file is refused
 
-  -- each of the lines is accepted in its place, from place p after n body lines on, and they lead to place q after m
+  -- each of the lines is accepted at its stage, from stage p after n body lines on, and they lead to stage q after m
   abbrev pub Leads : Stage → ℕ → List Line → Stage → ℕ → Type 0
   Leads p n [] q m = (p ≡ q) × (n ≡ m)
   Leads p n (l ∷ ls) q m = (k : Kind) × (r : Stage) × (judgeLine F p n l ≡ good k r) × Leads r (bodyAfter (role k) n) ls q m
 
-  -- the lines before one are accepted and lead to its place, where it fails a test with that code and field; the first line is number i
+  -- the lines before one are accepted and lead to its stage, where it fails a test with that code and field; the first line is number i
   pub record FaultyLine (i : ℕ) (p : Stage) (n : ℕ) (ls : List Line) (code line field : ℕ) : Type 0 where
     pub before : List Line
     pub here : Line

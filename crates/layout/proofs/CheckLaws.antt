@@ -25,7 +25,7 @@ use Rattle.meaning.specs.Answers as meant
 use Rattle.meaning.specs.Answers.{ofLine, ofField}
 use Rattle.answers.specs.declared.refusal.Fault.{Fault}
 use Rattle.answers.specs.Meant.{noFaultAt, faultOf}
-use Rattle.meaning.specs.Sound.{soundField, forms, datesAgree, fieldFault, formFault}
+use Rattle.meaning.specs.Sound.{soundField, forms, datesAgree, fieldFault, formFault, ifMalformed}
 use Rattle.theory.specs.Tri.{isLt}
 use Rattle.theory.specs.Lex.{lex}
 use Rattle.text.specs.declared.order.Order.{Order}
@@ -126,7 +126,7 @@ bad-done kd t k n at x w h c = rw (drop-of-length-le (map bare (fields kd)) {i =
 -- 5 at the lowest field that is malformed, else the rest
 pub forms-is : (n : ℕ) (ds : List Field) (fs : List (List ℕ)) (rest : Option meant.Fault)
     → forms scottish (suc n) ds fs rest ≡ pick (eqb (lowestBad (suc n) (map bare ds) fs) 0) rest (some (ofField fieldMalformed (lowestBad (suc n) (map bare ds) fs)))
-unfolding forms lowestBad soundField ask
+unfolding forms ifMalformed lowestBad soundField ask
 forms-is n [] fs rest = refl
 forms-is n (d ∷ ds) [] rest = refl
 forms-is n (d ∷ ds) (f ∷ fs) rest = go (soundAs (scottish .textRule) (d .form) (d .filled) f) (forms-is (suc n) ds fs rest)

@@ -79,7 +79,7 @@ fn lowest_malformed(kind: Kind, line: &[u8], ends: &[usize]) -> usize
 }
 
 // Whether an END_DATE, where filled, isn't before a filled START_DATE: dates stand in the order of their bytes.
-pub fn in_order(start: &[u8], end: &[u8]) -> bool
+pub fn dates_in_order(start: &[u8], end: &[u8]) -> bool
     ensures { λ r. ⌜ r ≡ datesAgree (now (start .entry)) (now (end .entry)) ⌝ }
 {
     if end.len() == 0 {
@@ -113,7 +113,7 @@ pub fn dates_agree(kind: Kind, line: &[u8], ends: &[usize]) -> bool
     if ended.len() == 0 {
         return true;
     }
-    in_order(noted_field(line, ends, start - 1), ended)
+    dates_in_order(noted_field(line, ends, start - 1), ended)
 }
 
 // A line's first fault in count, form and dates.

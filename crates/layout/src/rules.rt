@@ -23,7 +23,7 @@ use crate::records::Trailer;
 use form::Form;
 
 // What a held kind is.
-pub fn held_layout(kind: HeldKind) -> Layout
+fn held_layout(kind: HeldKind) -> Layout
     ensures { λ r. ⌜ r ≡ laidOut (heldMeant kind) ⌝ }
 {
     match kind {

@@ -27,11 +27,15 @@ module _ (F : Format) where
   unfoldable pub soundField : Field → List ℕ → Bool
   soundField d f = soundAs textRule (d .form) (d .filled) f
 
-  -- 5 at the lowest field that is malformed, counted from n; else the rest is asked
+  -- 5 where field n is malformed; else the rest is asked
+  unfoldable pub ifMalformed : ℕ → Field → List ℕ → Option Fault → Option Fault
+  ifMalformed n d f rest = ask (soundField d f) (ofField fieldMalformed n) rest
+
+  -- so at the lowest field that is malformed, counted from n
   unfoldable pub forms : ℕ → List Field → List (List ℕ) → Option Fault → Option Fault
   forms n [] fs rest = rest
   forms n (d ∷ ds) [] rest = rest
-  forms n (d ∷ ds) (f ∷ fs) rest = ask (soundField d f) (ofField fieldMalformed n) (forms (suc n) ds fs rest)
+  forms n (d ∷ ds) (f ∷ fs) rest = ifMalformed n d f (forms (suc n) ds fs rest)
 
   -- 5, then 6, of the fields of a line from number n on
   unfoldable pub fieldFault : ℕ → List Field → List (List ℕ) → Option Fault → Option Fault

@@ -4,7 +4,7 @@
 // of `meaning` where that says it, else of specs/Places (where things stand in bytes), which laws of proofs/ tie to the meaning.
 // A writer writes into the front of what it is lent and leaves the rest as it was, so writers follow one another on the tail.
 pub mod lines; // where a line ends, and whether it holds another CR or LF
-pub mod fields; // the identifier, fields with quotes, their number, the content
+pub mod fields; // the identifier, fields with quotes, their number
 pub mod numbers; // the value of digits, and how many digits a number has
 pub mod order; // numbers as numbers, text byte by byte
 pub mod put; // bytes, a number and zeros, written

@@ -1,4 +1,4 @@
--- The places and changes that code names, as the meaning has them.
+-- The stages and changes that code names, as the meaning has them.
 use mathlib.Core.Option.{Option, none, some}
 use Rattle.theory.specs.Step.{Op, ins, upd, del}
 use Rattle.meaning.specs.File as meant

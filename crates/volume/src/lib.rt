@@ -1,6 +1,6 @@
 // A whole file is judged: codes 1 to 9 of paper 01, in its order within a line, lines from the first.
 //
-// `places` is the automaton of header, body, metadata and trailer. `lines` judges one line before its fields (1, 2, 3, 9, 4) and after
+// `stages` is the automaton of header, body, metadata and trailer. `lines` judges one line before its fields (1, 2, 3, 9, 4) and after
 // them (6, 7, 8); `walk` counts lines and changes; `check` walks the lines and, within each, the fields (5), and is left by label at
 // the first malformed one.
 pub mod stages; // where a line may stand

@@ -1,10 +1,10 @@
--- `layout::check::in_order` meets its contract.
+-- `layout::check::dates_in_order` meets its contract.
 use Rattle.layout.proofs.CheckLaws.{dates}
-use Rattle.layout.proofs.check.in_order.Statement.{statement}
-use Rattle.layout.proofs.check.in_order.Tie as tie
+use Rattle.layout.proofs.check.dates_in_order.Statement.{statement}
+use Rattle.layout.proofs.check.dates_in_order.Tie as tie
 
-pub in-order-spec : {M : Type 1} → statement M
-in-order-spec =
+pub dates-in-order-spec : {M : Type 1} → statement M
+dates-in-order-spec =
     tie.close
     (tie.spec
     (λ c. search dates)  -- returns
