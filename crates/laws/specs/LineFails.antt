@@ -85,24 +85,29 @@ module _ (F : Format) where
 
   -- the lowest malformed field, or none
   abbrev FormsSay : ℕ → List Field → List (List ℕ) → Option Fault → Option Fault → Type 0
-  FormsSay n ds fs rest o = ((field : ℕ) × Lowest n ds fs field × (o ≡ some (ofField fieldMalformed field))) ⊎ (EachSound F ds fs × (o ≡ rest))
+  FormsSay n ds fs rest o = ((x : Fault) × Lowest n ds fs (x .field) × (x .code ≡ fieldMalformed) × (o ≡ some x)) ⊎ (EachSound F ds fs × (o ≡ rest))
 
   forms-say : (n : ℕ) (ds : List Field) (fs : List (List ℕ)) (rest : Option Fault) → FormsSay n ds fs rest (forms F n ds fs rest)
   unfolding forms ifMalformed ask
   forms-say n [] fs rest = inr (tt, refl)
   forms-say n (d ∷ ds) [] rest = inr (tt, refl)
-  forms-say n (d ∷ ds) (f ∷ fs) rest = go (soundField F d f) refl (forms-say (suc n) ds fs rest)
+  forms-say n (d ∷ ds) (f ∷ fs) rest = go _ refl refl (soundField F d f) refl (forms-say (suc n) ds fs rest)
     where
-      go : (c : Bool) → soundField F d f ≡ c → FormsSay (suc n) ds fs rest (forms F (suc n) ds fs rest) → FormsSay n (d ∷ ds) (f ∷ fs) rest (ask c (ofField fieldMalformed n) (forms F (suc n) ds fs rest))
-      go false e s = inl (n, inl (false-no _ e, refl), refl)
-      go true e (inl w) = inl (w .0, inr (rw e tt, w .1), w .2)
-      go true e (inr w) = inr ((rw e tt, w .0), w .1)
+      go : (x : Fault) → x .code ≡ fieldMalformed → x .field ≡ n → (c : Bool) → soundField F d f ≡ c → FormsSay (suc n) ds fs rest (forms F (suc n) ds fs rest)
+          → FormsSay n (d ∷ ds) (f ∷ fs) rest (ask c x (forms F (suc n) ds fs rest))
+      go x p q false e s = inl (x, inl (false-no _ e, q), p, refl)
+      go x p q true e (inl w) = inl (w .0, inr (rw e tt, w .1), w .2, w .3)
+      go x p q true e (inr w) = inr ((rw e tt, w .0), w .1)
 
-  lowest-forms : (n : ℕ) (ds : List Field) (fs : List (List ℕ)) (rest : Option Fault) (field : ℕ) → Lowest n ds fs field → forms F n ds fs rest ≡ some (ofField fieldMalformed field)
+  -- a fault with that code and that field is found
+  abbrev FaultWith : Option Fault → ℕ → ℕ → Type 0
+  FaultWith o code field = (x : Fault) × (o ≡ some x) × (x .code ≡ code) × (x .field ≡ field)
+
+  lowest-forms : (n : ℕ) (ds : List Field) (fs : List (List ℕ)) (rest : Option Fault) (field : ℕ) → Lowest n ds fs field → FaultWith (forms F n ds fs rest) fieldMalformed field
   unfolding forms ifMalformed ask
   lowest-forms n [] fs rest field w = absurd w
   lowest-forms n (d ∷ ds) [] rest field w = absurd w
-  lowest-forms n (d ∷ ds) (f ∷ fs) rest field (inl w) = rw (no-true (soundField F d f) (w .0), w .1)
+  lowest-forms n (d ∷ ds) (f ∷ fs) rest field (inl w) = rw (no-true (soundField F d f) (w .0)) (_, refl, refl, sym (w .1))
   lowest-forms n (d ∷ ds) (f ∷ fs) rest field (inr w) = rw (T-true (soundField F d f) (w .0)) (lowest-forms (suc n) ds fs rest field (w .1))
 
   -- the lowest malformed field is one that the kind has
@@ -149,7 +154,7 @@ module _ (F : Format) where
 
       fielded : T (hasFields (length (fields k)) t) → (o : Option Fault) → FormsSay 1 (fields k) (fieldsOf t) (ask agree (ofField endBeforeStart (fieldNumber 1 endDate (fields k))) rest) o
           → JudgedFails p n l (verdict o k q)
-      fielded h o (inl w) = subst (λ x. JudgedFails p n l (verdict x k q)) (sym (w .2)) (unfold verdict in malformed k s r h (w .1) refl)
+      fielded h o (inl w) = subst (λ x. JudgedFails p n l (verdict x k q)) (sym (w .3)) (unfold verdict in malformed k s r h (w .1) (w .2))
       fielded h o (inr w) = subst (λ x. JudgedFails p n l (verdict x k q)) (sym (w .1)) (dates h (w .0) agree refl)
 
       go : (c : Bool) → hasFields (length (fields k)) t ≡ c
@@ -195,22 +200,32 @@ module _ (F : Format) where
   no-eqb-false : (a b : ℕ) → (a ≡ b → ⊥) → eqb a b ≡ false
   no-eqb-false a b n = no-true (eqb a b) (λ t. n (eqb→eq a b t))
 
+  -- a line is refused with that code and that field
+  abbrev pub RefusedWith : Stage → ℕ → Line → ℕ → ℕ → Type 0
+  RefusedWith p n l code field = (x : Fault) × (judgeLine F p n l ≡ bad x) × (x .code ≡ code) × (x .field ≡ field)
+
+  just-so : (p : Stage) (n : ℕ) (l : Line) (code field : ℕ) → judgeLine F p n l ≡ bad (ofField code field) → RefusedWith p n l code field
+  just-so p n l code field e = (ofField code field, e, refl, refl)
+
   -- a line that fails one of the tests is refused with its code and field
-  pub fails-judged : (p : Stage) (n : ℕ) (l : Line) (code field : ℕ) → LineFails p n l code field → judgeLine F p n l ≡ bad (ofField code field)
+  pub fails-judged : (p : Stage) (n : ℕ) (l : Line) (code field : ℕ) → LineFails p n l code field → RefusedWith p n l code field
   unfolding lineFault formFault fieldFault countFault ask
-  fails-judged p n l code field (ending w c f) = unfold judgeLine in rw (no-true (endsWell l) w, c, f)
-  fails-judged p n l code field (unknown w i c f) = unfold judgeLine judgeText in rw (T-true (endsWell l) w, i, c, f)
-  fails-judged p n l code field (misplaced k w i x c f) = unfold judgeLine judgeText judgeKind in rw (T-true (endsWell l) w, i, x, c, f)
-  fails-judged p n l code field (tooMany k s r c f) = stands-judged p n l k s (ofField code field) (rw (no-true (hasRoom (role k) n) r, c, f))
+  fails-judged p n l code field (ending w c f) = just-so p n l code field (unfold judgeLine in rw (no-true (endsWell l) w, c, f))
+  fails-judged p n l code field (unknown w i c f) = just-so p n l code field (unfold judgeLine judgeText in rw (T-true (endsWell l) w, i, c, f))
+  fails-judged p n l code field (misplaced k w i x c f) = just-so p n l code field (unfold judgeLine judgeText judgeKind in rw (T-true (endsWell l) w, i, x, c, f))
+  fails-judged p n l code field (tooMany k s r c f) = just-so p n l code field (stands-judged p n l k s (ofField code field) (rw (no-true (hasRoom (role k) n) r, c, f)))
   fails-judged p n l code field (miscounted k s r h c f) =
-      stands-judged p n l k s (ofField code field) (rw (T-true (hasRoom (role k) n) r, no-true (hasFields (length (fields k)) (l .text)) h, c, f))
+      just-so p n l code field (stands-judged p n l k s (ofField code field) (rw (T-true (hasRoom (role k) n) r, no-true (hasFields (length (fields k)) (l .text)) h, c, f)))
   fails-judged p n l code field (malformed k s r h w c) =
-      stands-judged p n l k s (ofField code field) (rw (T-true (hasRoom (role k) n) r, T-true (hasFields (length (fields k)) (l .text)) h, c) (lowest-forms 1 (fields k) (fieldsOf (l .text)) _ field w))
+      let fs = fieldsOf (l .text) in
+      let rest = ask (datesAgree (named startDate (fields k) fs) (named endDate (fields k) fs)) (ofField endBeforeStart (fieldNumber 1 endDate (fields k))) (countFault F (role k) n k (l .text)) in
+      let a = lowest-forms 1 (fields k) fs rest field w in
+      (a .0, stands-judged p n l k s (a .0) (rw (T-true (hasRoom (role k) n) r, T-true (hasFields (length (fields k)) (l .text)) h) (a .1)), a .2 ∙ sym c, a .3)
   fails-judged p n l code field (misdated k s r h w d c f) =
       let a = datesAgree (named startDate (fields k) (fieldsOf (l .text))) (named endDate (fields k) (fieldsOf (l .text))) in
-      stands-judged p n l k s (ofField code field)
-      (rw (T-true (hasRoom (role k) n) r, T-true (hasFields (length (fields k)) (l .text)) h, c, f) (each-forms F 1 (fields k) (fieldsOf (l .text)) _ w ∙ rw (no-true a d)))
+      just-so p n l code field (stands-judged p n l k s (ofField code field)
+      (rw (T-true (hasRoom (role k) n) r, T-true (hasFields (length (fields k)) (l .text)) h, c, f) (each-forms F 1 (fields k) (fieldsOf (l .text)) _ w ∙ rw (no-true a d))))
   fails-judged p n l code field (misnumbered k s w r d c f) =
-      stands-judged p n l k s (ofField code field) (formed-line n l k bodyLine r w ∙ rw (no-eqb-false (value (named proOrder (fields k) (fieldsOf (l .text)))) (suc n) d, c, f))
+      just-so p n l code field (stands-judged p n l k s (ofField code field) (formed-line n l k bodyLine r w ∙ rw (no-eqb-false (value (named proOrder (fields k) (fieldsOf (l .text)))) (suc n) d, c, f)))
   fails-judged p n l code field (mistold k s w r d c f) =
-      stands-judged p n l k s (ofField code field) (formed-line n l k trailerLine r w ∙ rw (no-eqb-false (value (named recordCount (fields k) (fieldsOf (l .text)))) n d, c, f))
+      just-so p n l code field (stands-judged p n l k s (ofField code field) (formed-line n l k trailerLine r w ∙ rw (no-eqb-false (value (named recordCount (fields k) (fieldsOf (l .text)))) n d, c, f)))

@@ -15,7 +15,7 @@ use Rattle.meaning.specs.Kinds.{Kind, Role, headerLine, bodyLine, metadataLine,
 use Rattle.meaning.specs.Format.{Format, kindOf, fieldNumber, recordCount, endDate}
 use Rattle.meaning.specs.File.{Stage, next, hasRoom, Judged, bad, good, judgeLine, Sheet, adds, bodyAfter, atStart, inBody, afterMetadata, afterTrailer, atEnd, onLine, readFrom, readFile, mostBody}
 use Rattle.meaning.specs.Load.{checked, checkFile}
-use Rattle.meaning.specs.Answers.{Read, ofLine, ofField, atLine}
+use Rattle.meaning.specs.Answers.{Read, ofLine, atLine, Fault}
 use Rattle.laws.specs.FileRefusals.{among}
 use Rattle.laws.specs.LinePart.{noLine}
 use Rattle.laws.specs.Judgement.{Judges, JudgedIs, judged, line-sound}
@@ -173,12 +173,15 @@ module _ (F : Format) where
   -- ---- and a file with such a fault gets its numbers
 
   at-fault : (i : ℕ) (p : Stage) (n : ℕ) (before : List Line) (here : Line) (rest : List Line) (q : Stage) (m c f : ℕ) → Leads p n before q m → LineFails F q m here c f
-      → readFrom F i p n (before ++ (here ∷ rest)) ≡ fault (atLine (i + length before) (ofField c f))
+      → (x : Fault) × (readFrom F i p n (before ++ (here ∷ rest)) ≡ fault (atLine (i + length before) x)) × (x .code ≡ c) × (x .field ≡ f)
   unfolding readFrom onLine adds
-  at-fault i p n [] here rest q m c f w d = rw (w .0, w .1, fails-judged F q m here c f d, add-zero i)
+  at-fault i p n [] here rest q m c f w d =
+      let a = fails-judged F q m here c f d in
+      (a .0, rw (w .0, w .1, a .1, add-zero i), a .2, a .3)
   at-fault i p n (x ∷ before) here rest q m c f w d =
       let e : suc i + length before ≡ i + length (x ∷ before) = omega arith in
-      rw (w .2, at-fault (suc i) (w .1) (bodyAfter (role (w .0)) n) before here rest q m c f (w .3) d, e)
+      let a = at-fault (suc i) (w .1) (bodyAfter (role (w .0)) n) before here rest q m c f (w .3) d in
+      (a .0, rw (w .2, a .1, e), a .2, a .3)
 
   at-the-end : (i : ℕ) (p : Stage) (n : ℕ) (ls : List Line) (q : Stage) (m : ℕ) → Leads p n ls q m → (q ≡ afterTrailer → ⊥) → readFrom F i p n ls ≡ fault (atLine (i + length ls) (ofLine outOfPlace))
   unfolding readFrom onLine adds atEnd
@@ -196,7 +199,9 @@ module _ (F : Format) where
   -- the numbers of a file with such a fault are the fault's
   pub why-check : (b : List ℕ) (c l f : ℕ) → FileFails b c l f → Numbered (checkFile F b .code) (checkFile F b .line) (checkFile F b .field) c l f
   unfolding checkFile checked readFile
-  why-check b c l f (faultAt w) = rw (w .whole, at-fault 1 atStart 0 (w .before) (w .here) (w .rest) (w .stage) (w .body) c f (w .leads) (w .fails), w .own) (refl, refl, refl)
+  why-check b c l f (faultAt w) =
+      let a = at-fault 1 atStart 0 (w .before) (w .here) (w .rest) (w .stage) (w .body) c f (w .leads) (w .fails) in
+      rw (w .whole, a .1, w .own) (a .2, refl, a .3)
   why-check b c l f (atItsEnd q m w u d) = rw (at-the-end 1 atStart 0 (linesOf b) q m w u, d .0, d .1, d .2) (refl, refl, refl)
 
   -- ---- lines and fields by the code

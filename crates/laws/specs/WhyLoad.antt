@@ -21,7 +21,7 @@ use Rattle.meaning.specs.File.{Frame, Sheet, readFile, writeFile}
 use Rattle.meaning.specs.Holding.{Held, sound, unsound, readHolding}
 use Rattle.meaning.specs.Load.{outcome, fromStart, onFile, onHolding, load, checked, checkFile, heldNumbers, checkHolding, applied, apply, Undone, undone, undoFile}
 use Rattle.meaning.specs.Steps.{keyCode, fits, runSteps}
-use Rattle.meaning.specs.Answers.{Read, Answer, ofField, Refusal, atLine, alone}
+use Rattle.meaning.specs.Answers.{Read, Answer, Refusal, atLine, alone}
 use Rattle.meaning.specs.Undo.{undoSheet, undoHeld, undoBytes}
 use Rattle.laws.specs.Regular.{Regular}
 use Rattle.laws.specs.SoundHolding.{SoundHolding, sound-held, held-is-sound}
@@ -39,6 +39,10 @@ use Rattle.meaning.specs.Codes.{holdingTooLong, holdingUnsound, undoTooLong, al
 -- code, line and field are these
 abbrev pub Numbered : ℕ → ℕ → ℕ → ℕ → ℕ → ℕ → Type 0
 Numbered code line field c l f = (code ≡ c) × (line ≡ l) × (field ≡ f)
+
+-- a refusal with those numbers
+abbrev RefusedWith : Answer → ℕ → ℕ → ℕ → Type 0
+RefusedWith x c l f = (r : Refusal) × (x ≡ refused r) × Numbered (r .code) (r .line) (r .field) c l f
 
 -- ---- a holding or a file is one of two
 
@@ -159,22 +163,22 @@ module _ (F : Format) where
         holds (sound st) e = files st (held-is-sound F regular old st e) (readFile F b) refl
 
     -- for such a reason it refuses, with the reason's numbers
-    why-load : (room : ℕ) (old b : List ℕ) (c l f : ℕ) → Reason room old b c l f → load F room old b ≡ refused (atLine l (ofField c f))
+    why-load : (room : ℕ) (old b : List ℕ) (c l f : ℕ) → Reason room old b c l f → RefusedWith (load F room old b) c l f
     unfolding load onHolding onFile fromStart outcome checkHolding heldNumbers checkFile checked
     why-load room old b c l f (badHolding n e) = go (readHolding F old) refl (e .1)
       where
-        go : (h : Held) → readHolding F old ≡ h → l ≡ heldNumbers (readHolding F old) .line → onHolding F room b h ≡ refused (atLine l (ofField c f))
+        go : (h : Held) → readHolding F old ≡ h → l ≡ heldNumbers (readHolding F old) .line → RefusedWith (onHolding F room b h) c l f
         go (sound st) q d = absurd (n (record { state = st; sounds = held-is-sound F regular old st q }))
-        go (unsound m) q d = rw (e .0, e .2, d, q)
+        go (unsound m) q d = (_, refl, rw (e .0, e .2, d, q) (refl, refl, refl))
     why-load room old b c l f (badFile s n e) = rw (sound-held F regular old (s .state) (s .sounds)) (go (readFile F b) refl)
       where
-        go : (r : Read Sheet) → readFile F b ≡ r → onFile F room (s .state) r ≡ refused (atLine l (ofField c f))
-        go (fault r) q = rw (e .0, e .1, e .2, q)
+        go : (r : Read Sheet) → readFile F b ≡ r → RefusedWith (onFile F room (s .state) r) c l f
+        go (fault r) q = (r, refl, rw (e .0, e .1, e .2, q) (refl, refl, refl))
         go (file x) q = absurd (n (record { frame = x .0; changes = x .1; sounds = read-sound F b (x .0) (x .1) q }))
     why-load room old b c l f (noStart m n e) =
-        rw (sound-held F regular old (m .st) (m .held), sound-read F b (m .fr) (m .cs) (m .lines), no-true (fits room (m .st)) n, e .0, e .1, e .2)
+        rw (sound-held F regular old (m .st) (m .held), sound-read F b (m .fr) (m .cs) (m .lines), no-true (fits room (m .st)) n, e .0, e .1, e .2) (_, refl, (refl, refl, refl))
     why-load room old b c l f (badStep m t r e) =
-        rw (sound-held F regular old (m .st) (m .held), sound-read F b (m .fr) (m .cs) (m .lines), T-true (fits room (m .st)) t, refused-stops F 2 room (m .st) (m .cs) l c r, e)
+        rw (sound-held F regular old (m .st) (m .held), sound-read F b (m .fr) (m .cs) (m .lines), T-true (fits room (m .st)) t, refused-stops F 2 room (m .st) (m .cs) l c r, e) (_, refl, (refl, refl, refl))
 
     -- ---- what each code says of its reason
 
@@ -219,11 +223,11 @@ module _ (F : Format) where
     -- ---- the check of a holding
 
     -- 14 exactly if the holding is unsound
-    pub check-14 : (old : List ℕ) → (checkHolding F old .code ≡ 14) ↔ Unsound old
+    pub check-14 : (old : List ℕ) → (checkHolding F old .code ≡ holdingUnsound) ↔ Unsound old
     unfolding checkHolding heldNumbers
     check-14 old = go (readHolding F old) refl
       where
-        go : (h : Held) → readHolding F old ≡ h → (heldNumbers h .code ≡ 14) ↔ Unsound old
+        go : (h : Held) → readHolding F old ≡ h → (heldNumbers h .code ≡ holdingUnsound) ↔ Unsound old
         go (sound st) e = (λ z. absurd (omega (arith, z)), λ u. absurd (u (record { state = st; sounds = held-is-sound F regular old st e })))
         go (unsound n) e = (λ z. unsound-is old n e, λ u. refl)
 
@@ -242,7 +246,7 @@ module _ (F : Format) where
       -- and where there is one, the numbers are its
       pub why-apply : (c l f : ℕ) → Reason room old b c l f → Numbered (apply F old b room .answer .code) (apply F old b room .answer .line) (apply F old b room .answer .field) c l f
       unfolding apply applied
-      why-apply c l f r = rw (why-load room old b c l f r) (refl, refl, refl)
+      why-apply c l f r = let w = why-load room old b c l f r in rw (w .1) (w .2)
 
       -- 14 exactly if the holding is unsound
       pub apply-14 : (apply F old b room .answer .code ≡ holdingUnsound) ↔ Unsound old
@@ -286,7 +290,7 @@ module _ (F : Format) where
       pub why-undo : (c l f : ℕ) → Reason space old b c l f
           → Numbered (undoFile F old b room space .answer .code) (undoFile F old b room space .answer .line) (undoFile F old b room space .answer .field) c l f
       unfolding undoFile undone
-      why-undo c l f r = rw (why-load space old b c l f r) (refl, refl, refl)
+      why-undo c l f r = let w = why-load space old b c l f r in rw (w .1) (w .2)
 
       -- a code that no load has is given only where all is allowed with the room of the work buffer
       undo-allowed : (w : ℕ) → (T (among w loadCodes) → ⊥) → undoFile F old b room space .answer .code ≡ w → Allowed F old b space
@@ -330,7 +334,7 @@ module _ (F : Format) where
       pub undo-17 : (undoFile F old b room space .answer .code ≡ undoTooLong) ↔ (Allowed F old b space × (room < length (undoBytes F old b)))
       undo-17 = (
         λ e.
-            let a = undo-allowed 17 (λ t. unfold among in t) e in
+            let a = undo-allowed undoTooLong (λ t. unfold among in t) e in
             (a, go (decLe (length (undoBytes F old b)) room) (sym (undo-code a) ∙ e)),
         λ w. undo-code (w .0) ∙ long-17 (w .1),
       )
