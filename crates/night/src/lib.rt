@@ -6,12 +6,13 @@ ghost use Prim.Native.Nat.{_≤_};
 ghost use lib.ListN.{length};
 use crate::input::read_file;
 use program::MOST;
+use program::ROOM;
 use program::print;
 
 pub mod input; // a file's bytes
 
 // One byte more than an input may have: what follows in a longer file doesn't matter (`cut-holding`, `cut-change` of the crate `program`).
-const ONE_MORE: usize = 65537;
+const ONE_MORE: usize = ROOM + 1;
 
 // How many bytes are to be printed for the files of these names.
 pub fn night(holding: &[u8], change: &[u8], printed: &mut [u8; MOST]) -> usize

@@ -1,7 +1,13 @@
 -- The words in which the code says what is printed of an answer and an output.
 use mathlib.Core.List.{List, [], _∷_, _++_}
-use Prim.Native.Nat.{ℕ, zero, suc}
+use Prim.Native.Nat.{ℕ, zero, suc, _+_, _*_}
+use lib.ListN.{length}
 use Rattle.theory.specs.Decimal.{dec}
+use Rattle.meaning.specs.Answers.{alone, numberList, refusedWith}
+
+-- the most bytes of an answer's numbers: none has more than 20 digits, and after each stands a comma, after the last CR LF
+abbrev pub mostOfNumbers : ℕ
+mostOfNumbers = 1 + 21 * length (numberList (refusedWith (alone 0)))
 
 -- a number, and what stands after it
 unfoldable pub numberThen : ℕ → List ℕ → List ℕ

@@ -5,7 +5,7 @@ ghost use lib.ListN.{length};
 ghost use Rattle.meaning.specs.Program.{printNumbers};
 ghost use Rattle.text.specs.Front.{inFront};
 ghost use Rattle.answers.specs.Meant.{numbersMeant};
-ghost use Rattle.printed.specs.Printed.{numberThen, threeThen};
+ghost use Rattle.printed.specs.Printed.{mostOfNumbers, numberThen, threeThen};
 use answers::numbers::Answer;
 use text::put;
 
@@ -30,10 +30,13 @@ fn put_three(out: &mut [u8], a: u64, b: u64, c: u64, mark: &[u8]) -> usize
     end + put_number(&mut out[end..], c, mark)
 }
 
-// All of them: no number has more than 20 digits, so 127 bytes are enough.
+// The most bytes of them all: none has more than 20 digits, and after each stands a comma, after the last CR LF.
+pub const MOST_OF_NUMBERS: usize = 1 + 21 * Answer::NUMBERS;
+
+// All of them.
 pub fn put_numbers(out: &mut [u8], a: Answer) -> usize
-    requires { ⌜ 127 ≤ length (now out) ⌝ }
-    ensures { λ r. ⌜ (r ≡ length (printNumbers (numbersMeant a))) × (r ≤ 127) × (now (out .exit) ≡ inFront (printNumbers (numbersMeant a)) (now (out .entry))) ⌝ }
+    requires { ⌜ mostOfNumbers ≤ length (now out) ⌝ }
+    ensures { λ r. ⌜ (r ≡ length (printNumbers (numbersMeant a))) × (r ≤ mostOfNumbers) × (now (out .exit) ≡ inFront (printNumbers (numbersMeant a)) (now (out .entry))) ⌝ }
 {
     let at = put_three(&mut *out, a.code, a.line, a.field, b",");
     at + put_three(&mut out[at..], a.inserts, a.updates, a.deletes, b"\r\n")

@@ -3,7 +3,7 @@ use mathlib.Core.Path.{_≡_, refl, sym, ap, _∙_}
 use mathlib.Core.Bool.{Bool, true, false, _||_}
 use mathlib.Core.Option.{Option, some, Option·getD}
 use mathlib.Core.List.{List, []}
-use Prim.Native.Nat.{ℕ, _≤_, _<_}
+use Prim.Native.Nat.{ℕ, suc, _≤_, _<_}
 use native.Mathlib.Decide.{decLe}
 use native.Mathlib.Omega.{arith}
 use lib.Dec.{lt→ltb}
@@ -31,22 +31,22 @@ second-18 old b e = go (unusable old)
     go false = rw (← e)
 
 -- more than 65,536 bytes are unusable
-too-long : (s : List ℕ) → 65536 < length s → true ≡ unusable (some s)
+too-long : (s : List ℕ) → programRoom < length s → true ≡ unusable (some s)
 unfolding unusable
-too-long s h = sym (T-true (unusable (some s)) (lt→ltb 65536 (length s) h))
+too-long s h = sym (T-true (unusable (some s)) (lt→ltb programRoom (length s) h))
 
 -- the cut of a holding is answered as the whole of it
-pub cut-holding : (s : List ℕ) (b : Option (List ℕ)) → program scottish (some (take 65537 s)) b ≡ program scottish (some s) b
-cut-holding s b = go (decLe (length s) 65537)
+pub cut-holding : (s : List ℕ) (b : Option (List ℕ)) → program scottish (some (take (suc programRoom) s)) b ≡ program scottish (some s) b
+cut-holding s b = go (decLe (length s) (suc programRoom))
   where
-    go : Dec (length s ≤ 65537) → program scottish (some (take 65537 s)) b ≡ program scottish (some s) b
-    go (yes h) = ap (λ t. program scottish (some t) b) (take-all 65537 s h)
-    go (no h) = sym (first-18 (some (take 65537 s)) b (too-long (take 65537 s) (omega (arith, length-take-le 65537 s (omega arith))))) ∙ first-18 (some s) b (too-long s (omega arith))
+    go : Dec (length s ≤ (suc programRoom)) → program scottish (some (take (suc programRoom) s)) b ≡ program scottish (some s) b
+    go (yes h) = ap (λ t. program scottish (some t) b) (take-all (suc programRoom) s h)
+    go (no h) = sym (first-18 (some (take (suc programRoom) s)) b (too-long (take (suc programRoom) s) (omega (arith, length-take-le (suc programRoom) s (omega arith))))) ∙ first-18 (some s) b (too-long s (omega arith))
 
 -- and so is that of a change
-pub cut-change : (old : Option (List ℕ)) (s : List ℕ) → program scottish old (some (take 65537 s)) ≡ program scottish old (some s)
-cut-change old s = go (decLe (length s) 65537)
+pub cut-change : (old : Option (List ℕ)) (s : List ℕ) → program scottish old (some (take (suc programRoom) s)) ≡ program scottish old (some s)
+cut-change old s = go (decLe (length s) (suc programRoom))
   where
-    go : Dec (length s ≤ 65537) → program scottish old (some (take 65537 s)) ≡ program scottish old (some s)
-    go (yes h) = ap (λ t. program scottish old (some t)) (take-all 65537 s h)
-    go (no h) = sym (second-18 old (some (take 65537 s)) (too-long (take 65537 s) (omega (arith, length-take-le 65537 s (omega arith))))) ∙ second-18 old (some s) (too-long s (omega arith))
+    go : Dec (length s ≤ (suc programRoom)) → program scottish old (some (take (suc programRoom) s)) ≡ program scottish old (some s)
+    go (yes h) = ap (λ t. program scottish old (some t)) (take-all (suc programRoom) s h)
+    go (no h) = sym (second-18 old (some (take (suc programRoom) s)) (too-long (take (suc programRoom) s) (omega (arith, length-take-le (suc programRoom) s (omega arith))))) ∙ second-18 old (some s) (too-long s (omega arith))

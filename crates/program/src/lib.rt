@@ -11,20 +11,21 @@ ghost use Rattle.meaning.specs.Answers.{alone, refusedWith};
 ghost use Rattle.meaning.specs.Load.{load};
 ghost use Rattle.meaning.specs.Program.{unusable, printNumbers, printLoad, programRoom};
 ghost use Rattle.text.specs.Front.{inFront};
-ghost use Rattle.program.specs.Outcome.{inputOf, PrintOutcome};
+ghost use Rattle.program.specs.Outcome.{inputOf, mostPrinted, PrintOutcome};
 use answers::codes::INPUT_UNUSABLE;
 use answers::numbers::refused;
 use answers::refusal::Refusal;
 use apply::apply;
 use printed::bare::bare_length;
+use printed::numbers::MOST_OF_NUMBERS;
 use printed::numbers::put_numbers;
 use text::put;
 
 // The most bytes of an input, and the bytes of the output that apply is given.
 pub const ROOM: usize = 65536;
 
-// The most bytes that are printed: the numbers of an answer, 20 digits each, with their commas and CR LF, and a holding.
-pub const MOST: usize = 65663;
+// The most bytes that are printed: the numbers of an answer, and a holding.
+pub const MOST: usize = MOST_OF_NUMBERS + ROOM;
 
 // An input that couldn't be read, or is over 65,536 bytes.
 fn is_unusable(readable: bool, s: &[u8]) -> bool
@@ -38,16 +39,16 @@ fn is_unusable(readable: bool, s: &[u8]) -> bool
 
 // 18, which comes first of all.
 fn print_unusable(printed: &mut [u8]) -> usize
-    requires { ⌜ 65663 ≤ length (now printed) ⌝ }
-    ensures { λ r. ⌜ (r ≡ length (printNumbers (refusedWith (alone inputUnusable)))) × (r ≤ 65663) × (now (printed .exit) ≡ inFront (printNumbers (refusedWith (alone inputUnusable))) (now (printed .entry))) ⌝ }
+    requires { ⌜ mostPrinted ≤ length (now printed) ⌝ }
+    ensures { λ r. ⌜ (r ≡ length (printNumbers (refusedWith (alone inputUnusable)))) × (r ≤ mostPrinted) × (now (printed .exit) ≡ inFront (printNumbers (refusedWith (alone inputUnusable))) (now (printed .entry))) ⌝ }
 {
     put_numbers(&mut *printed, refused(Refusal::alone(INPUT_UNUSABLE)))
 }
 
 // The numbers of apply, and what stands in its output before the zeros: after a refusal that is nothing.
 fn print_load(holding: &[u8], change: &[u8], printed: &mut [u8]) -> usize
-    requires { ⌜ 65663 ≤ length (now printed) ⌝ }
-    ensures { λ r. ⌜ (r ≡ length (printLoad (load scottish programRoom (now (holding .entry)) (now (change .entry))))) × (r ≤ 65663)
+    requires { ⌜ mostPrinted ≤ length (now printed) ⌝ }
+    ensures { λ r. ⌜ (r ≡ length (printLoad (load scottish programRoom (now (holding .entry)) (now (change .entry))))) × (r ≤ mostPrinted)
         × (now (printed .exit) ≡ inFront (printLoad (load scottish programRoom (now (holding .entry)) (now (change .entry)))) (now (printed .entry))) ⌝ }
 {
     let mut out = [0u8; ROOM];
