@@ -1,7 +1,7 @@
 """Counts and times every operation of bench/driver.c and bench/sqlite.c on every corpus, and prints one table.
 
-measure.py FOLDER [EMULATED]: FOLDER has driver, sqlite, insns.so and the corpora; with EMULATED times would be an emulator's, and are left
-out.
+measure.py FOLDER OWN WASM MACHINE ..: FOLDER has insns.so, the corpora, and for each MACHINE a folder with driver and sqlite, which are
+counted; OWN is the machine that this runs on, whose programs are timed too, and WASM is muiwash.wasm, timed by node, or empty.
 """
 import os
 import subprocess
@@ -9,7 +9,7 @@ import sys
 
 from corpus import CORPORA
 
-FOLDER, EMULATED = sys.argv[1], len(sys.argv) > 2
+FOLDER, OWN, WASM, MACHINES = sys.argv[1], sys.argv[2], sys.argv[3], sys.argv[4:]
 RUNS = "7"
 # column: program, operation
 MEASURED = {"check_file": ("driver", "check_file"), "check_holding": ("driver", "check_holding"), "apply": ("driver", "apply"),
@@ -22,21 +22,27 @@ def output(stream, *command):
     return getattr(subprocess.run(command, check=True, capture_output=True, text=True), stream)
 
 
-def executed(program, operation, corpus):
-    said = output("stderr", "qemu-x86_64", "-plugin", os.path.join(FOLDER, "insns.so"), "-d", "plugin",
-                  os.path.join(FOLDER, program), operation, os.path.join(FOLDER, corpus))
+def executed(machine, program, operation, corpus):
+    said = output("stderr", "qemu-" + machine, "-plugin", os.path.join(FOLDER, "insns.so"), "-d", "plugin",
+                  os.path.join(FOLDER, machine, program), operation, os.path.join(FOLDER, corpus))
     return int(said.split("instructions: ")[1])
 
 
-def instructions(corpus):
+def instructions(machine, corpus):
     """Those of each column, with an empty run taken off."""
-    empty = {program: executed(program, "none", corpus) for program in ("driver", "sqlite")}
-    return {column: executed(*what, corpus) - empty[what[0]] for column, what in MEASURED.items()}
+    empty = {program: executed(machine, program, "none", corpus) for program in ("driver", "sqlite")}
+    return {column: executed(machine, *what, corpus) - empty[what[0]] for column, what in MEASURED.items()}
 
 
 def times(corpus):
-    return {column: float(output("stdout", os.path.join(FOLDER, program), operation, os.path.join(FOLDER, corpus), RUNS))
+    return {column: float(output("stdout", os.path.join(FOLDER, OWN, program), operation, os.path.join(FOLDER, corpus), RUNS))
             for column, (program, operation) in MEASURED.items()}
+
+
+def wasm_times(corpus, native):
+    """Those of muiwash.wasm, beside SQLite and the floor as this machine's own code."""
+    return {column: float(output("stdout", "node", "bench/driver.mjs", WASM, operation, os.path.join(FOLDER, corpus), RUNS))
+            if program == "driver" and operation != "floor" else native[column] for column, (program, operation) in MEASURED.items()}
 
 
 def million(n):
@@ -47,30 +53,34 @@ def microseconds(n):
     return "{:,.0f} µs".format(n)
 
 
-def row(title, of, shown, a_byte):
+def row(title, of, shown, a_byte=""):
     both = of["apply"] + of["undo"]
     return [title, shown(of["check_file"]), a_byte, shown(of["check_holding"]), shown(of["apply"]), shown(of["SQLite"]),
             "%.2f" % (of["apply"] / of["SQLite"]), shown(of["undo"]), shown(of["SQLite with undo"]),
             "%.2f" % (both / of["SQLite with undo"]), shown(of["floor"])]
 
 
-def large_to_half(large, half):
+def large_to_half(machine, large, half):
     """The floor has no ratio: memcpy goes another way about long copies."""
     ratio = {column: "%.2f" % (large[column] / half[column]) for column in MEASURED}
-    return ["large to half", ratio["check_file"], "", ratio["check_holding"], ratio["apply"], ratio["SQLite"], "", ratio["undo"],
-            ratio["SQLite with undo"], "", ""]
+    return ["large to half, " + machine, ratio["check_file"], "", ratio["check_holding"], ratio["apply"], ratio["SQLite"], "",
+            ratio["undo"], ratio["SQLite with undo"], "", ""]
 
 
 def main():
     rows, counted = [], {}
     for corpus, (records, changes, _) in CORPORA.items():
-        counted[corpus] = instructions(corpus)
+        rows.append(["{}: {:,} lines, {:,} changes".format(corpus, records, changes)] + [""] * (len(HEADS) - 1))
         length = os.path.getsize(os.path.join(FOLDER, corpus, "change.csv"))
-        rows.append(row("{}: {:,} lines, {:,} changes".format(corpus, records, changes), counted[corpus], million,
-                        "%.1f" % (counted[corpus]["check_file"] / length)))
-        if not EMULATED:
-            rows.append(row(corpus + ", time", times(corpus), microseconds, ""))
-    rows.append(large_to_half(counted["large"], counted["half"]))
+        for machine in MACHINES:
+            of = counted[machine, corpus] = instructions(machine, corpus)
+            rows.append(row(machine + ", instructions", of, million, "%.1f" % (of["check_file"] / length)))
+        if OWN in MACHINES:
+            native = times(corpus)
+            rows.append(row(OWN + ", time", native, microseconds))
+            if WASM:
+                rows.append(row("wasm32 in node, time", wasm_times(corpus, native), microseconds))
+    rows += [large_to_half(machine, counted[machine, "large"], counted[machine, "half"]) for machine in MACHINES]
     for cells in [HEADS, ["---"] * len(HEADS)] + rows:
         print("| " + " | ".join(cells) + " |")
 

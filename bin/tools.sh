@@ -1,6 +1,6 @@
 # shellcheck shell=bash
-# Sourced, at the top of the repository, by the scripts that build and run: the kit, and what makes and runs programs for x86-64, for
-# which Rattle's code is. On x86-64 those are the machine's own compilers; on another machine Debian's cross compilers and an emulator.
+# Sourced, at the top of the repository, by the scripts that build and run: the kit, and what makes and runs programs for this machine, or
+# for another one, which takes Debian's cross compiler and an emulator.
 export PATH="$PATH:/opt/rattle/bin:${CARGO_HOME:-${HOME:-/root}/.cargo}/bin"
 if ! command -v rt >/dev/null; then
   echo "$0 needs the Rattle kit: its command rt is neither on PATH nor in /opt/rattle/bin" >&2
@@ -10,16 +10,22 @@ fi
 # far as each has 2 GiB of memory.
 export RT_JOBS=${RT_JOBS:-$(awk -v most=$((2 * $(nproc))) '/^MemAvailable:/ { n = int($2 / 2 ^ 21); print (n > most ? most : n > 1 ? n : 1) }' /proc/meminfo)}
 kit=${RATTLE_HOME:-$(cd "$(dirname "$(readlink -f "$(command -v rt)")")/.." && pwd)}
-toolchain=$kit/on/$(uname -m)/toolchain
-cc=cc cxx=c++ emulator=
-if [ "$(uname -m)" != x86_64 ]; then
-  cc=x86_64-linux-gnu-gcc cxx=x86_64-linux-gnu-g++ emulator=$toolchain/bin/qemu-x86_64
-  [ -x "$emulator" ] || emulator=qemu-x86_64
-  # where the emulator finds the cross compilers' libraries
-  export QEMU_LD_PREFIX=/usr/x86_64-linux-gnu
-fi
-# The seven operations for C.
-archive=target/staticlib/libmuiwash.a
+machine=$(uname -m)
+toolchain=$kit/on/$machine/toolchain
+
+# MACHINE: from here on `archive` is the seven operations for it, `cc` and `cxx` make programs for it, and `emulator` runs them, which is
+# empty for this machine itself.
+aim_at() {
+  archive=target/$1/libmuiwash.a cc=cc cxx=c++ emulator=
+  if [ "$1" != "$machine" ]; then
+    cc=$1-linux-gnu-gcc cxx=$1-linux-gnu-g++ emulator=qemu-$1
+    # the kit has one for Rattle's own programs, where they need it
+    if [ -x "$toolchain/bin/$emulator" ]; then emulator=$toolchain/bin/$emulator; fi
+    # where the emulator finds the cross compiler's libraries
+    export QEMU_LD_PREFIX=/usr/$1-linux-gnu
+  fi
+}
+aim_at "$machine"
 
 # COMMAND: the Debian packages that have it; nothing for rustc, which Debian has too old.
 packages_of() {
@@ -27,9 +33,10 @@ packages_of() {
   cc) echo gcc libc6-dev ;;
   c++) echo g++ ;;
   x86_64-linux-gnu-gcc) echo gcc-x86-64-linux-gnu libc6-dev-amd64-cross ;;
-  x86_64-linux-gnu-g++) echo g++-x86-64-linux-gnu libc6-dev-amd64-cross ;;
-  qemu-x86_64) echo qemu-user ;;
-  python3) echo python3-minimal ;;
+  aarch64-linux-gnu-gcc) echo gcc-aarch64-linux-gnu libc6-dev-arm64-cross ;;
+  qemu-x86_64 | qemu-aarch64) echo qemu-user ;;
+  node) echo nodejs ;;
+  python3 | make | pkg-config) echo "$1" ;;
   esac
 }
 
@@ -79,17 +86,19 @@ quick_folder() {
   fi
 }
 
-# Proves the operations and writes the archive, unless it is newer than every source.
-make_archive() {
-  if [ -e $archive ] && [ -z "$(find crates.txt crates \( -name '*.rt' -o -name crates.txt \) -newer $archive -print -quit)" ]; then
-    return
+# FILE: whether it is there and newer than every source of the code and than what compiles it.
+is_fresh() {
+  [ -e "$1" ] && [ -z "$(find bin crates.txt crates \( -name '*.rt' -o -name crates.txt -o -name archive -o -name module.sh \) -newer "$1" -print -quit)" ]
+}
+
+# FILE ..: proves the operations and writes these of target/, each an archive or muiwash.wasm, but for those that are fresh.
+make_archives() {
+  local file old=()
+  for file; do
+    if ! is_fresh "$file"; then old+=("$(basename "$(dirname "$file")")"); fi
+  done
+  if [ ${#old[@]} -gt 0 ]; then
+    echo "proving the operations for C, and compiling them for ${old[*]}" >&2
+    bin/archive "${old[@]}" >&2
   fi
-  echo "proving the operations for C, for $archive" >&2
-  local log
-  log=$(mktemp)
-  if ! rt staticlib muiwash >"$log" 2>&1; then
-    cat "$log" >&2
-    exit 1
-  fi
-  rm -f "$log"
 }

@@ -13,7 +13,13 @@
  * Memory. Nothing is allocated, kept or freed, and nothing is read or written but what is lent. A call needs up to 256 KiB of stack: give
  *   a thread of your own that much and some for itself.
  * Threads. There is no state: any number of threads may call at once, so long as no one writes what another call was lent.
- * Linking. libmuiwash.a (made by `rt staticlib muiwash`) is x86-64 code for Linux, position independent, and needs C's memset alone.
+ * Machines. `bin/archive MACHINE ..` proves these functions and compiles the one module that is proved for each machine: libmuiwash.a is
+ *   code for Linux, position independent, and muiwash.wasm a module for a browser or for node. What they need of C, and what was measured:
+ *   x86_64   libmuiwash.a needs memset, and a call takes 212 KiB of stack;
+ *   aarch64  libmuiwash.a needs memset, and a call takes 212 KiB of stack;
+ *   wasm32   muiwash.wasm needs nothing, and a call takes 210 KiB of stack, which the module has, with as much to spare.
+ * Lengths. A length is 64 bits on every machine. On wasm32 a pointer is 32 bits, so from JavaScript a pointer is a number and a length a
+ *   BigInt, as muiwash.mjs passes them; a module has one stack, so one call at a time.
  */
 #ifndef MUIWASH_H
 #define MUIWASH_H
@@ -56,17 +62,17 @@ enum muiwash_code {
 
 /* Checks a whole change file.
  * answer: code, line, field, and the body lines with CHANGE_TYPE I, U and D. Codes 0 to 9. */
-void muiwash_check_file(const uint8_t *file, size_t file_len, uint64_t answer[6]);
+void muiwash_check_file(const uint8_t *file, uint64_t file_len, uint64_t answer[6]);
 
 /* Checks a whole holding; no bytes at all is a sound one.
  * answer: code, line, field. Codes 0 and 14. */
-void muiwash_check_holding(const uint8_t *holding, size_t holding_len, uint64_t answer[3]);
+void muiwash_check_holding(const uint8_t *holding, uint64_t holding_len, uint64_t answer[3]);
 
 /* Takes a change file into a holding.
  * out: the new holding, then zeros to out_len (no holding has a zero byte, so it ends where the zeros begin); on a refusal all zeros.
  * out_len: the holding must fit it before the first step and after each (else 13); MUIWASH_ROOM(holding_len, file_len) is always enough.
  * answer: code, line, field, and the inserts, updates and deletes made. Codes 0 to 14 and 16. */
-void muiwash_apply(const uint8_t *holding, size_t holding_len, const uint8_t *file, size_t file_len, uint8_t *out, size_t out_len,
+void muiwash_apply(const uint8_t *holding, uint64_t holding_len, const uint8_t *file, uint64_t file_len, uint8_t *out, uint64_t out_len,
                    uint64_t answer[6]);
 
 /* Writes the undo of a change file, made against the holding that the file meets: a change file in the same layout that, applied to the
@@ -75,23 +81,23 @@ void muiwash_apply(const uint8_t *holding, size_t holding_len, const uint8_t *fi
  * out_len: MUIWASH_UNDO_ROOM(holding_len, file_len) is always enough (else 17).
  * work: all zeros afterwards. work_len stands for apply's out_len: give it the same length.
  * answer: code, line, field, and the file's own inserts, updates and deletes. Codes 0 to 14, 16 and 17. */
-void muiwash_undo(const uint8_t *holding, size_t holding_len, const uint8_t *file, size_t file_len, uint8_t *out, size_t out_len,
-                  uint8_t *work, size_t work_len, uint64_t answer[6]);
+void muiwash_undo(const uint8_t *holding, uint64_t holding_len, const uint8_t *file, uint64_t file_len, uint8_t *out, uint64_t out_len,
+                  uint8_t *work, uint64_t work_len, uint64_t answer[6]);
 
 /* Finds the line of a street (kind 11) or a BLPU (kind 21) by its USRN or UPRN.
  * answer: code, line, field, and where the line stands in `holding`, without CR LF: its start and its length. Codes 0, 11, 14 and 15. */
-void muiwash_find(const uint8_t *holding, size_t holding_len, uint64_t kind, uint64_t number, uint64_t answer[5]);
+void muiwash_find(const uint8_t *holding, uint64_t holding_len, uint64_t kind, uint64_t number, uint64_t answer[5]);
 
 /* The record of a street or a BLPU that would be in force if the file were taken: the last body line that names it, unless that is a
  * delete (11); where none names it, the held line. The file is checked; its steps aren't judged.
  * answer: code, line, field, then 0 if the line stands in `holding` or 1 if it stands in `file`, its start there and its length, without
  * CR LF. Codes 0 to 9, 11, 14 and 15. */
-void muiwash_in_force(const uint8_t *holding, size_t holding_len, const uint8_t *file, size_t file_len, uint64_t kind, uint64_t number,
+void muiwash_in_force(const uint8_t *holding, uint64_t holding_len, const uint8_t *file, uint64_t file_len, uint64_t kind, uint64_t number,
                       uint64_t answer[6]);
 
 /* One field of a line of any bytes, both counted from 1; neither the line nor the field is judged.
  * answer: code, line, field, and where the field stands in `bytes`, with its quotes: its start and its length. Codes 0 and 19. */
-void muiwash_field(const uint8_t *bytes, size_t bytes_len, uint64_t line, uint64_t field, uint64_t answer[5]);
+void muiwash_field(const uint8_t *bytes, uint64_t bytes_len, uint64_t line, uint64_t field, uint64_t answer[5]);
 
 #ifdef __cplusplus
 }

@@ -1,15 +1,22 @@
 #!/usr/bin/env bash
-# The static library against an independent reference of the rules: differential.sh [CASES [SEED [FIRST CASE]]].
-# The reference is this machine's own code, and speaks over pipes with tests/driver.c, which is x86-64 code and may be emulated.
+# The compiled operations against an independent reference of the rules: differential.sh [CASES [SEED [FIRST CASE [MACHINE]]]], with
+# MACHINE x86_64, aarch64 or wasm32, and this machine where none is named.
+# The reference is this machine's own code, and speaks over pipes with tests/driver.c, which may be emulated, or with tests/driver.mjs.
 set -eu
 cd "$(dirname "$0")/.."
 . bin/tools.sh
-if ! tools $cc $emulator rustc cc; then
-  echo "differential: not run on this machine: $lacks"
+aimed=${4:-$machine} made=target/tests/${4:-$machine}
+case $aimed in
+wasm32) archive=target/wasm32/muiwash.wasm needs=node driver="node tests/driver.mjs $archive" ;;
+*) aim_at "$aimed" && needs="$cc $emulator" driver="$emulator $made/driver" ;;
+esac
+if ! tools $needs rustc cc; then
+  echo "differential, $aimed: not run on this machine: $lacks"
   exit 0
 fi
-make_archive
-mkdir -p target/tests
-$cc -std=c99 -Wall -Wextra -O2 -o target/tests/driver tests/driver.c $archive
-rustc --edition 2021 -O -D warnings -o target/tests/differential tests/differential/main.rs
-exec target/tests/differential "${1:-100000}" "${2:-1}" "${3:-0}" $emulator target/tests/driver
+make_archives $archive
+mkdir -p "$made"
+if [ "$aimed" != wasm32 ]; then $cc -std=c99 -Wall -Wextra -O2 -o "$made/driver" tests/driver.c $archive; fi
+rustc --edition 2021 -O -D warnings -o "$made/differential" tests/differential/main.rs
+echo "differential, $aimed:"
+exec "$made/differential" "${1:-250000}" "${2:-1}" "${3:-0}" $driver

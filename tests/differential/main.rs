@@ -1,4 +1,4 @@
-//! differential CASES SEED FIRST COMMAND...: calls of the library, made by COMMAND (tests/driver.c), against the reference.
+//! differential CASES SEED FIRST COMMAND...: calls of the library, made by COMMAND (tests/driver.c, tests/driver.mjs), against the reference.
 //! Every number and every lent byte is compared. FIRST is the number of the first case, so that one case can be run again.
 mod calls;
 mod damage;
@@ -11,6 +11,7 @@ use reference::answers::{answer, Answer, Call};
 use std::io::{BufReader, BufWriter, Read, Write};
 use std::process::{exit, Child, ChildStdin, ChildStdout, Command, Stdio};
 use std::sync::mpsc::{sync_channel, SyncSender};
+use std::time::{Duration, Instant};
 
 /// Calls that may be under way; they are flushed more often than that, so neither side waits for the other for good.
 const UNDER_WAY: usize = 256;
@@ -85,7 +86,7 @@ fn show_difference(seed: u64, case: u64, call: &Call, expected: &Answer, found: 
     }
 }
 
-fn show_counts(plan: &Plan, times: &[[u64; CODES]; 7]) {
+fn show_counts(plan: &Plan, times: &[[u64; CODES]; 7], took: Duration) {
     for (name, times) in NAMES.iter().zip(times) {
         let reached: Vec<_> = (0..CODES).filter(|code| times[*code] > 0).map(|code| format!("{code}: {}", times[code])).collect();
         println!("{name:13} {}", reached.join(", "));
@@ -94,7 +95,7 @@ fn show_counts(plan: &Plan, times: &[[u64; CODES]; 7]) {
     let each: Vec<_> = of_all.iter().enumerate().map(|(code, times)| format!("{code}: {times}")).collect();
     println!("{:13} {}", "all", each.join(", "));
     println!("seed {}: {} taken, {} refused", plan.seed, of_all[0], plan.cases - of_all[0]);
-    println!("{} cases, 0 differences", plan.cases);
+    println!("{} cases, 0 differences; {:.0} cases a minute", plan.cases, 60.0 * plan.cases as f64 / took.as_secs_f64());
 }
 
 fn started(command: &[String]) -> (Child, ChildStdin, BufReader<ChildStdout>) {
@@ -147,7 +148,7 @@ fn main() {
         exit(2);
     };
     let (plan, command) = (Plan { cases, seed, first }, &arguments[3..]);
-    let mut times = [[0; CODES]; 7];
+    let (began, mut times) = (Instant::now(), [[0; CODES]; 7]);
     std::thread::scope(|scope| {
         let running: Vec<_> = shares(&plan).map(|share| scope.spawn(move || compared(&share, command))).collect();
         for share in running {
@@ -155,5 +156,5 @@ fn main() {
             times.iter_mut().flatten().zip(told.iter().flatten()).for_each(|(all, of_share)| *all += of_share);
         }
     });
-    show_counts(&plan, &times);
+    show_counts(&plan, &times, began.elapsed());
 }

@@ -1,0 +1,66 @@
+// Muiwash for JavaScript, in a browser or in node: the seven functions of muiwash.h, which says what each does, out of muiwash.wasm, which
+// `bin/archive wasm32` makes.
+//
+//   const muiwash = await open(wasm);                 // the bytes of muiwash.wasm
+//   const { answer, out } = muiwash.apply(holding, file);
+//
+// What is lent is a Uint8Array and is only read. An answer is an array of numbers that begins with code, line, field. `out` is the new
+// holding, or the undo, without the zeros behind it: no bytes on a refusal. Buffers are as long as is always enough, so 13 isn't answered
+// for want of room, and neither is 17; give `room`, or `undoRoom`, for another length. A call runs to its end on the thread that makes it.
+
+// How long a buffer is always enough for the new holding, and for the undo, as muiwash.h says it.
+const enough = (holding, file) => holding.length + file.length + 24576;
+const enoughForUndo = (holding, file) => holding.length + 2 * file.length + 12288;
+
+// A number that the functions take: 64 bits and no sign.
+function word(number) {
+  const whole = BigInt(number);
+  if (whole !== BigInt.asUintN(64, whole)) throw new RangeError(`${number} isn't a number of 64 bits`);
+  return whole;
+}
+
+// What stands before the zeros.
+function bare(bytes) {
+  let length = bytes.length;
+  while (length > 0 && bytes[length - 1] === 0) length--;
+  return bytes.slice(0, length);
+}
+
+export async function open(wasm) {
+  const { instance } = await WebAssembly.instantiate(wasm);
+  const { memory, __heap_base: heap, ...functions } = instance.exports;
+
+  // Lends `inputs`, buffers of the lengths `rooms` and an answer of `count` numbers, side by side in the module's memory, where a pointer is
+  // a number and a length a BigInt; hands back the answer and the buffers.
+  function call(name, count, inputs, rooms = [], words = []) {
+    let end = heap.value;
+    const place = (length) => {
+      const start = Math.ceil(end / 8) * 8;
+      end = start + length;
+      return start;
+    };
+    const lent = [...inputs.map((input) => input.length), ...rooms].map((length) => [place(length), BigInt(length)]);
+    const answer = place(8 * count);
+    const missing = end - memory.buffer.byteLength;
+    if (missing > 0) memory.grow(Math.ceil(missing / 65536));
+    const bytes = new Uint8Array(memory.buffer);
+    inputs.forEach((input, i) => bytes.set(input, lent[i][0]));
+    functions[name](...lent.flat(), ...words.map(word), answer);
+    return {
+      answer: Array.from(new BigUint64Array(memory.buffer, answer, count), Number),
+      buffers: lent.slice(inputs.length).map(([start, length]) => bytes.subarray(start, start + Number(length))),
+    };
+  }
+  const written = ({ answer, buffers }) => ({ answer, out: bare(buffers[0]) });
+
+  return {
+    checkFile: (file) => call('muiwash_check_file', 6, [file]).answer,
+    checkHolding: (holding) => call('muiwash_check_holding', 3, [holding]).answer,
+    apply: (holding, file, room = enough(holding, file)) => written(call('muiwash_apply', 6, [holding, file], [room])),
+    undo: (holding, file, undoRoom = enoughForUndo(holding, file), room = enough(holding, file)) =>
+      written(call('muiwash_undo', 6, [holding, file], [undoRoom, room])),
+    find: (holding, kind, number) => call('muiwash_find', 5, [holding], [], [kind, number]).answer,
+    inForce: (holding, file, kind, number) => call('muiwash_in_force', 6, [holding, file], [], [kind, number]).answer,
+    field: (bytes, line, field) => call('muiwash_field', 5, [bytes], [], [line, field]).answer,
+  };
+}

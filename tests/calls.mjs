@@ -1,0 +1,48 @@
+// What is said of muiwash.wasm's buffers and stack, tried, as tests/calls.c tries the archives: node calls.mjs WASM HOLDING CHANGE. Bytes
+// beyond what is lent are tests/driver.mjs's.
+import { readFileSync } from 'node:fs';
+
+const ROOM = 65536, MARK = 0xa5, STATED = 256 * 1024;
+const [wasm, holding, change] = process.argv.slice(2).map((path) => readFileSync(path));
+const { instance } = await WebAssembly.instantiate(wasm);
+const { memory, __heap_base: heap, __stack_pointer: stack, ...functions } = instance.exports;
+// Where each buffer stands; the answer comes last.
+const start = (i) => Math.ceil(heap.value / 8) * 8 + i * ROOM;
+memory.grow(5);
+const bytes = Buffer.from(memory.buffer);
+const answer = new BigUint64Array(memory.buffer, start(4), 7);
+const [OUT_OF_PLACE, DONE, ABSENT, NO_SUCH_PART] = [3, 0, 11, 19];
+// Name, numbers, code where nothing is lent, and how it is called with a holding, a file, an output and a work buffer.
+const CALLS = [
+  ['check_file', 6, OUT_OF_PLACE, (h, f) => f],
+  ['check_holding', 3, DONE, (h) => h],
+  ['apply', 6, OUT_OF_PLACE, (h, f, o) => [...h, ...f, ...o]],
+  ['undo', 6, OUT_OF_PLACE, (h, f, o, w) => [...h, ...f, ...o, ...w]],
+  ['find', 5, ABSENT, (h) => [...h, 11n, 40000102n]],
+  ['in_force', 6, OUT_OF_PLACE, (h, f) => [...h, ...f, 21n, 130000001n]],
+  ['field', 5, NO_SUCH_PART, (h) => [...h, 1n, 1n]],
+];
+let faults = 0, most = 0;
+function expect(holds, what) {
+  if (holds) return;
+  console.log(`FAILED: ${what}`);
+  faults++;
+}
+for (const [name, numbers, onNothing, words] of CALLS) {
+  const call = (...lent) => functions[`muiwash_${name}`](...words(...lent), start(4));
+  const top = stack.value;
+  bytes.fill(MARK, 0, top);
+  bytes.fill(MARK, start(0), start(4) + 56);
+  holding.copy(bytes, start(0));
+  change.copy(bytes, start(1));
+  call([start(0), BigInt(holding.length)], [start(1), BigInt(change.length)], [start(2), BigInt(ROOM)], [start(3), BigInt(ROOM)]);
+  expect(stack.value === top, 'the stack is left as it was found');
+  most = Math.max(most, top - bytes.findIndex((byte, i) => i >= top || byte !== MARK));
+  expect(answer[0] === 0n, 'the night is taken, and every enquiry is answered');
+  expect(answer[numbers - 1] !== answer[6] && answer[numbers] === answer[6], 'as many numbers as are stated');
+  call([0, 0n], [0, 0n], [0, 0n], [0, 0n]);
+  expect(answer[0] === BigInt(onNothing), 'nothing lent is met');
+}
+expect(most <= STATED, '256 KiB of stack are enough');
+console.log(`calls: ${faults} faults; the most stack that a call used: ${most} bytes`);
+process.exitCode = faults ? 1 : 0;
