@@ -32,15 +32,14 @@ use Rattle.volume.specs.declared.stages.Stage.{Stage as StageNamed}
 use Rattle.volume.specs.declared.lines.Opened.{Opened}
 use Rattle.volume.specs.declared.lines.Opened.the-variants.{Good, Bad}
 use Rattle.volume.specs.declared.walk.Walk.{Walk}
-use Rattle.answers.specs.declared.refusal.Refusal.{Refusal}
 use Rattle.answers.specs.declared.numbers.Answer.{Answer}
 use Rattle.volume.specs.Meant.{stageMeant}
 use Rattle.volume.specs.Judged.{opensAt, opensAs, opens, closes, judgedAs}
-use Rattle.volume.specs.Walk.{unwalked, tally, walkedOn, checkedFrom, leftOf, Within}
-use Rattle.answers.specs.Meant.{faultMeant, refusalOf, refusalMeant, answerOf}
+use Rattle.volume.specs.Walk.{unwalked, tally, walkedOn, checkedFrom, leftOf, stoppedAt, Within}
+use Rattle.answers.specs.Meant.{faultOf, faultMeant, answerOf}
 use Rattle.meaning.specs.Codes.{endingWrong, identifierUnknown, outOfPlace, fieldCountWrong, fieldMalformed, endBeforeStart, tooManyBodyLines}
 use Rattle.layout.proofs.PassLaws.{lowest}
-use Rattle.volume.proofs.WalkLaws.{within-on}
+use Rattle.volume.proofs.WalkLaws.{within-on, stopped-fault, stopped-none}
 
 -- ---- a line is judged before its fields, in its fields, and after them
 
@@ -198,18 +197,22 @@ read-start s w e = rw e (record {
   stands = omega arith;
 })
 
--- a refusal that was made of the file's fault
-pub read-refused : (s : List ℕ) (l : ℕ) (f : FaultTold) (x : Refusal) (r : Answer) → checkFile scottish s ≡ refusedWith (atLine l (faultMeant f)) → x ≡ refusalOf (atLine l (faultMeant f)) → r ≡ answerOf (refusedWith (refusalMeant x))
-    → r ≡ answerOf (checkFile scottish s)
-read-refused s l f x r c e q = q ∙ ap (λ y. answerOf (refusedWith (refusalMeant y))) e ∙ ap answerOf (sym c)
+-- a fault is the file's, at the line where the walk stopped
+pub record Faulty (s : List ℕ) (w : Walk) (f : FaultTold) : Type 0 where
+  pub refuses : checkFile scottish s ≡ refusedWith (atLine (w .line) (faultMeant f))
+  pub coded : f .code ≡ 0 → ⊥
 
--- a fault that was kept is the file's
-pub read-kept : (s : List ℕ) (l : ℕ) (f g : FaultTold) → f ≡ g → checkFile scottish s ≡ refusedWith (atLine l (faultMeant g)) → checkFile scottish s ≡ refusedWith (atLine l (faultMeant f))
-read-kept s l f g e c = c ∙ ap (λ x. refusedWith (atLine l (faultMeant x))) (sym e)
+-- so it is answered
+pub read-refused : (s : List ℕ) (w : Walk) (f : FaultTold) (r : Answer) → Faulty s w f → r ≡ answerOf (stoppedAt w (faultMeant f)) → r ≡ answerOf (checkFile scottish s)
+read-refused s w f r h e = e ∙ ap answerOf (stopped-fault w f (h .coded) ∙ sym (h .refuses))
+
+-- also where it was kept
+pub read-kept : (s : List ℕ) (w : Walk) (f g : FaultTold) → f ≡ g → Faulty s w g → Faulty s w f
+read-kept s w f g e h = rw e h
 
 -- it ends where no line is left
-pub read-done : (s : List ℕ) (w : Walk) (at : ℕ) (r : Answer) → Reading s w at → length s ≤ at → r ≡ answerOf (leftOf w []) → r ≡ answerOf (checkFile scottish s)
-read-done s w at r v h e = e ∙ ap answerOf (rw (lines-end s at h) at (v .left))
+pub read-done : (s : List ℕ) (w : Walk) (at : ℕ) (f : FaultTold) (r : Answer) → Reading s w at → length s ≤ at → f .code ≡ 0 → r ≡ answerOf (stoppedAt w (faultMeant f)) → r ≡ answerOf (checkFile scottish s)
+read-done s w at f r v h z e = e ∙ ap answerOf (stopped-none w f z ∙ rw (lines-end s at h) at (v .left))
 
 module _ (s : List ℕ) (w : Walk) (at e : ℕ) (h : at < length s) (q : e ≡ plainEnd s at) where
   -- the lines after this one
@@ -247,13 +250,12 @@ module _ (s : List ℕ) (w : Walk) (at e : ℕ) (h : at < length s) (q : e ≡ p
     line-opened = sym (v .left) ∙ line-left ∙ rw (j, i)
 
     -- 1, 2, 3, 9 or 4 is the file's fault
-    pub read-opened : (f : FaultTold) → o ≡ Bad f → checkFile scottish s ≡ refusedWith (atLine (w .line) (faultMeant f))
+    pub read-opened : (f : FaultTold) → o ≡ Bad f → Faulty s w f
     unfolding onLine checkedFrom
-    read-opened f d = line-opened ∙ rw d
-
-    -- which has a code
-    pub opened-coded : (f : FaultTold) → o ≡ Bad f → f .code ≡ 0 → ⊥
-    opened-coded f d z = opens-coded (stageMeant (w .stage)) (w .body) b (take (e - at) (drop at s)) (faultMeant f) (rw d at j) z
+    read-opened f d = record {
+      refuses = line-opened ∙ rw d;
+      coded = opens-coded (stageMeant (w .stage)) (w .body) b (take (e - at) (drop at s)) (faultMeant f) (rw d at j);
+    }
 
     module _ (kind : Named) (stage : StageNamed) (z : o ≡ Good kind stage) where
       -- a line without a fault so far
@@ -267,16 +269,18 @@ module _ (s : List ℕ) (w : Walk) (at e : ℕ) (h : at < length s) (q : e ≡ p
           sym (opened-fields (stageMeant (w .stage)) (w .body) b (take (e - at) (drop at s)) (kindMeant kind) (stageMeant stage) (rw z at j))
 
       -- 5 is the file's fault
-      pub read-malformed : (k : ℕ) → k + 1 ≡ lowest (kindMeant kind) (take (e - at) (drop at s)) → checkFile scottish s ≡ refusedWith (atLine (w .line) (ofField fieldMalformed (k + 1)))
+      pub read-malformed : (k : ℕ) → k + 1 ≡ lowest (kindMeant kind) (take (e - at) (drop at s)) → Faulty s w (faultOf (ofField fieldMalformed (k + 1)))
       unfolding onLine checkedFrom verdict
-      read-malformed k m = line-good ∙ rw (← m, ne-eqb (k + 1) 0 (λ u. omega (arith, u)))
+      read-malformed k m = record { refuses = line-good ∙ rw (← m, ne-eqb (k + 1) 0 (λ u. omega (arith, u))); coded = λ z. omega (arith, z) }
 
       module _ (y : 0 ≡ lowest (kindMeant kind) (take (e - at) (drop at s))) (f : FaultTold) (g : f ≡ told (closes (w .body) (kindMeant kind) (take (e - at) (drop at s)))) where
         -- 6, 7 or 8 is the file's fault
-        pub read-closed : (f .code ≡ 0 → ⊥) → checkFile scottish s ≡ refusedWith (atLine (w .line) (faultMeant f))
+        pub read-closed : (f .code ≡ 0 → ⊥) → Faulty s w f
         unfolding onLine checkedFrom verdict
-        read-closed m =
-            line-good ∙ rw (eq-eqb (lowest (kindMeant kind) (take (e - at) (drop at s))) 0 (sym y), told-some (closes (w .body) (kindMeant kind) (take (e - at) (drop at s))) f g m)
+        read-closed m = record {
+          refuses = line-good ∙ rw (eq-eqb (lowest (kindMeant kind) (take (e - at) (drop at s))) 0 (sym y), told-some (closes (w .body) (kindMeant kind) (take (e - at) (drop at s))) f g m);
+          coded = m;
+        }
 
         -- a good line is passed
         passed : f .code ≡ 0

@@ -6,6 +6,7 @@ use native.Mathlib.Nat.{add-zero}
 use native.Mathlib.Numerals.{add-one}
 use native.Mathlib.Omega.{arith}
 use borrow.Author.Needs.{needs}
+use borrow.Author.Tests.{eq-eqb, ne-eqb}
 use Rattle.theory.specs.Step.{Op, ins, upd, del}
 use Rattle.theory.specs.Answer.{count}
 use Rattle.meaning.specs.Kinds.{Role, headerLine, bodyLine, metadataLine, trailerLine, role}
@@ -23,9 +24,11 @@ use Rattle.volume.specs.declared.lines.Change.{Change}
 use Rattle.volume.specs.declared.lines.Change.the-variants.{Insert, Update, Delete}
 use Rattle.volume.specs.declared.walk.Walk.{Walk}
 use Rattle.volume.specs.Meant.{changeMeant}
-use Rattle.volume.specs.Walk.{tally, countedIn, walkedOn, checkedFrom, leftOf, Within}
+use Rattle.volume.specs.Walk.{tally, countedIn, walkedOn, checkedFrom, leftOf, stoppedAt, Within}
+use Rattle.answers.specs.declared.refusal.Fault.{Fault}
+use Rattle.answers.specs.declared.refusal.Refusal.{Refusal}
 use Rattle.answers.specs.declared.numbers.Answer.{Answer}
-use Rattle.answers.specs.Meant.{countsOf, answerOf}
+use Rattle.answers.specs.Meant.{faultMeant, refusalOf, refusalMeant, countsOf, answerOf}
 
 -- ---- one body line more
 
@@ -155,3 +158,26 @@ unfolding leftOf readFrom atEnd checkedFrom count
 end-trailer w r e q = q ∙ rw (e, add-zero (w .inserts), add-zero (w .updates), add-zero (w .deletes))
 
 pub ruleset ends = (needs, end-start, end-body, end-metadata, end-trailer)
+
+-- ---- the walk stopped
+
+module _ (w : Walk) (f : Fault) where
+  -- at a fault
+  pub stopped-fault : (f .code ≡ 0 → ⊥) → stoppedAt w (faultMeant f) ≡ refusedWith (atLine (w .line) (faultMeant f))
+  unfolding stoppedAt
+  stopped-fault z = rw (ne-eqb (f .code) 0 z)
+
+  -- at none
+  pub stopped-none : f .code ≡ 0 → stoppedAt w (faultMeant f) ≡ leftOf w []
+  unfolding stoppedAt
+  stopped-none z = rw (eq-eqb (f .code) 0 z)
+
+  -- a refusal that was made of the fault
+  pub stop-fault : (x : Refusal) (r : Answer) → (f .code ≡ 0 → ⊥) → x ≡ refusalOf (atLine (w .line) (faultMeant f)) → r ≡ answerOf (refusedWith (refusalMeant x)) → r ≡ answerOf (stoppedAt w (faultMeant f))
+  stop-fault x r z e q = q ∙ rw (e, stopped-fault z)
+
+  -- what was answered of no line left
+  pub stop-none : (r : Answer) → f .code ≡ 0 → r ≡ answerOf (leftOf w []) → r ≡ answerOf (stoppedAt w (faultMeant f))
+  stop-none r z q = q ∙ rw (stopped-none z)
+
+pub ruleset stops = (needs, stop-fault, stop-none)

@@ -1,13 +1,15 @@
 -- The walk of a file's lines: what is counted so far, and what is answered of the lines that are left.
-use mathlib.Core.List.{List}
+use mathlib.Core.List.{List, []}
 use Prim.Native.Nat.{ℕ, suc, _+_, _≤_}
+use lib.Dec.{eqb}
+use Rattle.base.specs.Lists.{pick}
 use Rattle.theory.specs.Step.{Op, ins, upd, del}
 use Rattle.theory.specs.Answer.{fault, file, isOp, count}
 use Rattle.meaning.specs.Lines as meant
 use Rattle.meaning.specs.Kinds.{Role, headerLine, bodyLine, metadataLine, trailerLine}
 use Rattle.meaning.specs.Table.{scottish}
 use Rattle.meaning.specs.File.{Sheet, bodyAfter, readFrom}
-use Rattle.meaning.specs.Answers.{Read, Numbers, takenWith, refusedWith}
+use Rattle.meaning.specs.Answers.{Read, Numbers, Fault, atLine, takenWith, refusedWith}
 use Rattle.volume.specs.declared.stages.Stage.{Stage}
 use Rattle.volume.specs.declared.stages.Stage.the-variants.{AtStart}
 use Rattle.volume.specs.declared.walk.Walk.{Walk}
@@ -54,6 +56,10 @@ checkedFrom w (file s) = takenWith (record { inserts = w .inserts + count ins (s
 -- what the walk answers of the lines that are left
 unfoldable pub leftOf : Walk → List meant.Line → Numbers
 leftOf w ls = checkedFrom w (readFrom scottish (w .line) (stageMeant (w .stage)) (w .body) ls)
+
+-- what the walk answers where it stopped: its line's fault if that has a code, else what it answers of no line left
+unfoldable pub stoppedAt : Walk → Fault → Numbers
+stoppedAt w f = pick (eqb (f .code) 0) (leftOf w []) (refusedWith (atLine (w .line) f))
 
 -- no number of the walk has passed the bytes before n
 pub record Within (w : Walk) (n : ℕ) : Type 0 where

@@ -5,8 +5,8 @@ ghost use Rattle.meaning.specs.Table.{scottish};
 ghost use Rattle.meaning.specs.Codes.{outOfPlace};
 ghost use Rattle.meaning.specs.Answers.{ofLine, atLine, refusedWith};
 ghost use Rattle.meaning.specs.Load.{checkFile};
-ghost use Rattle.answers.specs.Meant.{answerOf};
-ghost use Rattle.volume.specs.Walk.{leftOf};
+ghost use Rattle.answers.specs.Meant.{faultMeant, answerOf};
+ghost use Rattle.volume.specs.Walk.{leftOf, stoppedAt};
 use crate::lines::Opened;
 use crate::lines::close_line;
 use crate::lines::open_line;
@@ -50,6 +50,16 @@ fn ended(walk: Walk) -> Answer
     }
 }
 
+// What is answered where the walk stopped: the fault of its line, or what is answered where no line is left.
+fn stopped(walk: Walk, fault: Fault) -> Answer
+    ensures { λ r. ⌜ r ≡ answerOf (stoppedAt walk (faultMeant fault)) ⌝ }
+{
+    if fault.code != 0 {
+        return refused(Refusal::at(walk.line as u64, fault));
+    }
+    ended(walk)
+}
+
 // The check of a file.
 pub fn check_file(file: &[u8]) -> Answer
     ensures { λ r. ⌜ r ≡ answerOf (checkFile scottish (now (file .entry))) ⌝ }
@@ -90,8 +100,5 @@ pub fn check_file(file: &[u8]) -> Answer
             }
         }
     }
-    if bad.code != 0 {
-        return refused(Refusal::at(walk.line as u64, bad));
-    }
-    ended(walk)
+    stopped(walk, bad)
 }

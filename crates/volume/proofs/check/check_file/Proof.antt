@@ -1,6 +1,6 @@
 -- `volume::check::check_file` meets its contract.
 use borrow.Author.Needs.{needs}
-use mathlib.Core.Path.{_≡_, sym, ap, _∙_}
+use mathlib.Core.Path.{_≡_, ap, _∙_}
 use mathlib.Core.Logic.{⊎-elim}
 use Prim.Native.Nat.{_-_, _^_, _<_}
 use native.Mathlib.Omega.{arith}
@@ -10,7 +10,7 @@ use Rattle.answers.specs.Meant.{noFaultAt}
 use Rattle.layout.specs.Meant.{kindMeant}
 use Rattle.layout.proofs.PassLaws.{Passing, pass-start, pass-row, pass-few, pass-forward, pass-within, pass-stop, pass-turn, pass-done}
 use Rattle.volume.proofs.WalkLaws.{within-more}
-use Rattle.volume.proofs.FileLaws.{Reading, line-short, read-start, read-opened, opened-coded, read-fields, read-malformed, read-closed, read-turn, read-kept, read-refused, read-done}
+use Rattle.volume.proofs.FileLaws.{Reading, line-short, read-start, read-opened, read-fields, read-malformed, read-closed, read-turn, read-kept, read-refused, read-done}
 use Rattle.volume.proofs.check.check_file.Statement.{statement}
 use Rattle.volume.proofs.check.check_file.Tie as tie
 
@@ -55,8 +55,5 @@ check-file-spec =
     (λ c. let t = c .before .before .before .before .before in let o = t .before .before .before .before .before .before in let e = o .before .before .before .before .before .before in let l = e .before .before in let h = l .lines .inv .3 in omega (arith, e .plain-end .ensures .2, e .before .lines-test .taken))  -- add-at
     (λ c. let t = c .before .before .before .before .before in let o = t .before .before .before .before .before .before in let e = o .before .before .before .before .before .before in let l = e .before .before in let h = l .lines .inv .3 in omega (arith, e .plain-end .ensures .1, e .plain-end .ensures .2, e .before .lines-test .taken))  -- lines-less
     (λ c. let t = c .before .before .before .before .before in let o = t .before .before .before .before .before .before in let e = o .before .before .before .before .before .before in let l = e .before .before in (read-turn _ _ _ _ (e .before .lines-test .taken) (e .plain-end .ensures .0) (l .lines .inv .0) _ (o .before .ends-at .ensures) (o .open-line .result) (o .open-line .ensures) _ _ (t .before .before .before .before .kind .given .1) (pass-done _ _ _ _ _ _ (t .before .loop .inv .0) (t .loop-test .left)) (c .before .before .before .close-line .result) (c .before .before .before .close-line .ensures) (c .before .if2 .left) _ (c .after-line .ensures) (e .plain-end .ensures .1) (e .plain-end .ensures .2), t .before .loop .inv .1, o .before .before .before .split .ensures .2 ∙ l .lines .inv .2, l .lines .inv .3))  -- lines-again
-    (λ c κs. search needs)  -- at-requires
-    (λ c κs. search needs)  -- refused-requires
-    (λ c. let b = c .before .before in let k = b .before .before in let l = k .before in read-refused _ _ _ _ _ (⊎-elim (λ w. absurd (b .if3 .taken (ap (λ f. f .code) (w .1 ∙ l .lines .inv .1)))) (⊎-elim (λ w. read-kept _ _ _ _ (w .11) (read-opened _ _ _ _ (w .0 .taken) (w .1 .ensures .0) (l .lines .inv .0) _ (w .6 .ensures) (w .7 .result) (w .7 .ensures) _ (w .9 .given .1))) (⊎-elim (λ w. read-kept _ _ _ _ (w .18 ∙ w .17 .ensures) (read-malformed _ _ _ _ (w .0 .taken) (w .1 .ensures .0) (l .lines .inv .0) _ (w .6 .ensures) (w .7 .result) (w .7 .ensures) _ _ (w .9 .given .1) _ (pass-stop _ _ _ _ _ _ (w .12 .inv .0) (w .13 .taken) _ (w .15 .ensures) (not-true _ (w .16 .taken))))) (λ w. read-kept _ _ _ _ (w .18) (read-closed _ _ _ _ (w .0 .taken) (w .1 .ensures .0) (l .lines .inv .0) _ (w .6 .ensures) (w .7 .result) (w .7 .ensures) _ _ (w .9 .given .1) (pass-done _ _ _ _ _ _ (w .12 .inv .0) (w .13 .left)) (w .15 .result) (w .15 .ensures) (w .17 .taken))))) (k .lines-test .came)) (c .before .at .ensures) (c .refused .ensures))  -- returns
-    (λ c κs. search needs)  -- ended-requires
-    (λ c. let b = c .before in let k = b .before .before in let l = k .before in ⊎-elim (λ w. read-done _ _ _ _ (l .lines .inv .0) (w .0 .left) (c .ended .ensures)) (⊎-elim (λ w. absurd (opened-coded _ _ _ _ (w .0 .taken) (w .1 .ensures .0) (l .lines .inv .0) _ (w .6 .ensures) (w .7 .result) (w .7 .ensures) _ (w .9 .given .1) (ap (λ f. f .code) (sym (w .11)) ∙ b .if3 .left))) (⊎-elim (λ w. absurd (omega (arith, ap (λ f. f .code) (w .18 ∙ w .17 .ensures), b .if3 .left))) (λ w. absurd (w .17 .taken (ap (λ f. f .code) (sym (w .18)) ∙ b .if3 .left))))) (k .lines-test .came)))  -- returns-2
+    (λ c κs. search needs)  -- stopped-requires
+    (λ c. let k = c .before in let l = k .before in ⊎-elim (λ w. read-done _ _ _ _ _ (l .lines .inv .0) (w .0 .left) (ap (λ f. f .code) (w .1 ∙ l .lines .inv .1)) (c .stopped .ensures)) (λ v. read-refused _ _ _ _ (⊎-elim (λ w. read-kept _ _ _ _ (w .11) (read-opened _ _ _ _ (w .0 .taken) (w .1 .ensures .0) (l .lines .inv .0) _ (w .6 .ensures) (w .7 .result) (w .7 .ensures) _ (w .9 .given .1))) (⊎-elim (λ w. read-kept _ _ _ _ (w .18 ∙ w .17 .ensures) (read-malformed _ _ _ _ (w .0 .taken) (w .1 .ensures .0) (l .lines .inv .0) _ (w .6 .ensures) (w .7 .result) (w .7 .ensures) _ _ (w .9 .given .1) _ (pass-stop _ _ _ _ _ _ (w .12 .inv .0) (w .13 .taken) _ (w .15 .ensures) (not-true _ (w .16 .taken))))) (λ w. read-kept _ _ _ _ (w .18) (read-closed _ _ _ _ (w .0 .taken) (w .1 .ensures .0) (l .lines .inv .0) _ (w .6 .ensures) (w .7 .result) (w .7 .ensures) _ _ (w .9 .given .1) (pass-done _ _ _ _ _ _ (w .12 .inv .0) (w .13 .left)) (w .15 .result) (w .15 .ensures) (w .17 .taken)))) v) (c .stopped .ensures)) (k .lines-test .came)))  -- returns
