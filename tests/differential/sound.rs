@@ -134,11 +134,17 @@ pub fn steps(random: &mut Random, held: &mut Held, wanted: usize, changes: &[u8]
         let draft = Draft { kind: random.pick(&HELD_KINDS), change: random.pick(changes), order: taken.len() + 1, spread };
         let line = body_line(random, &draft);
         let made: Record = record(draft.kind, &line);
-        let mut after = held.clone();
-        if step(&mut after, &made).is_ok() {
-            *held = after;
+        let before = held.get(&made.key).cloned();
+        if step(held, &made).is_ok() {
             taken.push(line);
-        } else if random.one_in(bad) {
+            continue;
+        }
+        // A step touches the record of its own key alone.
+        match before {
+            Some(record) => held.insert(made.key, record),
+            None => held.remove(&made.key),
+        };
+        if random.one_in(bad) {
             taken.push(line);
         }
     }
