@@ -13,17 +13,21 @@ kit=${RATTLE_HOME:-$(cd "$(dirname "$(readlink -f "$(command -v rt)")")/.." && p
 machine=$(uname -m)
 toolchain=$kit/on/$machine/toolchain
 
-# MACHINE: from here on `archive` is the seven operations for it, `cc` and `cxx` make programs for it, and `emulator` runs them, which is
-# empty for this machine itself.
+# MACHINE: from here on `archive` is the seven operations for it, `cc` makes programs for it and `emulator` runs them: empty for this
+# machine itself. For wasm32 nothing is made, and node runs what is written in JavaScript.
 aim_at() {
-  archive=target/$1/libmuiwash.a cc=cc cxx=c++ emulator=
-  if [ "$1" != "$machine" ]; then
-    cc=$1-linux-gnu-gcc cxx=$1-linux-gnu-g++ emulator=qemu-$1
+  archive=target/$1/libmuiwash.a cc=cc emulator=
+  case $1 in
+  "$machine") ;;
+  wasm32) archive=target/$1/muiwash.wasm cc='' emulator=node ;;
+  *)
+    cc=$1-linux-gnu-gcc emulator=qemu-$1
     # the kit has one for Rattle's own programs, where they need it
     if [ -x "$toolchain/bin/$emulator" ]; then emulator=$toolchain/bin/$emulator; fi
     # where the emulator finds the cross compiler's libraries
     export QEMU_LD_PREFIX=/usr/$1-linux-gnu
-  fi
+    ;;
+  esac
 }
 aim_at "$machine"
 

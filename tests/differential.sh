@@ -6,17 +6,19 @@ set -eu
 cd "$(dirname "$0")/.."
 . bin/tools.sh
 aimed=${4:-$machine} made=target/tests/${4:-$machine}
-case $aimed in
-wasm32) archive=target/wasm32/muiwash.wasm needs=node driver="node tests/driver.mjs $archive" ;;
-*) aim_at "$aimed" && needs="$cc $emulator" driver="$emulator $made/driver" ;;
-esac
-if ! tools $needs rustc cc; then
+aim_at "$aimed"
+if ! tools $cc $emulator rustc cc; then
   echo "differential, $aimed: not run on this machine: $lacks"
   exit 0
 fi
 make_archives $archive
 mkdir -p "$made"
-if [ "$aimed" != wasm32 ]; then $cc -std=c99 -Wall -Wextra -O2 -o "$made/driver" tests/driver.c $archive; fi
+if [ "$aimed" = wasm32 ]; then
+  driver="node tests/driver.mjs $archive"
+else
+  $cc -std=c99 -Wall -Wextra -O2 -o "$made/driver" tests/driver.c $archive
+  driver="$emulator $made/driver"
+fi
 rustc --edition 2021 -O -D warnings -o "$made/differential" tests/differential/main.rs
 echo "differential, $aimed:"
 exec "$made/differential" "${1:-250000}" "${2:-1}" "${3:-0}" $driver
