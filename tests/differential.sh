@@ -21,4 +21,4 @@ else
 fi
 rustc --edition 2021 -O -D warnings -o "$made/differential" tests/differential/main.rs
 echo "differential, $aimed:"
-exec "$made/differential" "${1:-250000}" "${2:-1}" "${3:-0}" $driver
+exec "$made/differential" "${1:-450000}" "${2:-1}" "${3:-0}" $driver
