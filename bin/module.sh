@@ -1,6 +1,6 @@
 # shellcheck shell=bash
-# Sourced behind bin/tools.sh: proves a crate with rt and keeps the module that its code is compiled from, so that the kit's own compiler
-# makes code of it for other machines. The proofs end at that module; no proof covers what is compiled of it, for any machine.
+# Sourced behind bin/tools.sh: proves a crate with rt and keeps the module that rt makes of what is proved, so that the kit's own compiler
+# makes code of it for other machines. No proof covers how the module is made, nor what is compiled of it for any machine.
 modules=$PWD/target/module
 clang=$toolchain/bin/clang
 
