@@ -10,7 +10,7 @@ import sys
 from corpus import CORPORA
 
 FOLDER, OWN, WASM, MACHINES = sys.argv[1], sys.argv[2], sys.argv[3], sys.argv[4:]
-RUNS = "7"
+RUNS = "25"
 # column: program, operation
 MEASURED = {"check_file": ("driver", "check_file"), "check_holding": ("driver", "check_holding"), "apply": ("driver", "apply"),
             "undo": ("driver", "undo"), "SQLite": ("sqlite", "apply"), "SQLite with undo": ("sqlite", "undo"), "floor": ("driver", "floor")}
