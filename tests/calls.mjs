@@ -44,5 +44,20 @@ for (const [name, numbers, onNothing, words] of CALLS) {
   expect(answer[0] === BigInt(onNothing), 'nothing lent is met');
 }
 expect(most <= STATED, '256 KiB of stack are enough');
+
+// With too little stack left a load traps, and writes neither over the rest of the stack nor over anything else that it wasn't lent. The
+// module isn't used after that: a trap leaves its stack pointer where it was.
+const LEFT = 65536, top = stack.value, whole = Buffer.from(bytes);
+const lent = [start(0), BigInt(holding.length), start(1), BigInt(change.length), start(2), BigInt(ROOM), start(4)];
+let trapped = false;
+stack.value = LEFT;
+try {
+  functions.muiwash_apply(...lent);
+} catch (error) {
+  trapped = error instanceof WebAssembly.RuntimeError;
+}
+expect(trapped, 'a call without its stack traps');
+expect(top > LEFT && bytes.compare(whole, LEFT, start(2), LEFT, start(2)) === 0, 'and writes over nothing below the output');
+expect(bytes.compare(whole, start(3), start(4), start(3), start(4)) === 0, 'nor behind it');
 console.log(`calls: ${faults} faults; the most stack that a call used: ${most} bytes`);
 process.exitCode = faults ? 1 : 0;
