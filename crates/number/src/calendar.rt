@@ -1,5 +1,6 @@
 // Dates CCYY-MM-DD, real Gregorian days from the year 1583 on, and times HHMMSS.
 ghost use mathlib.Core.Path.{_≡_};
+ghost use Prim.Native.Nat.{_≤_};
 ghost use Rattle.meaning.specs.Forms.{isLeap, daysIn, isDay, isDate, isTime};
 use crate::has_digits;
 use crate::is_digits;
@@ -18,29 +19,18 @@ pub fn is_leap(y: u64) -> bool
     y % 400 == 0
 }
 
-// How many days a month has.
-pub fn days_in(y: u64, m: u64) -> u64
+// How many days a month has. But for February 31 and 30 take turns; m / 8 is 1 from August on, which has 31 as July has.
+fn days_in(y: u64, m: u64) -> u64
+    requires { ⌜ (1 ≤ m) × (m ≤ 12) ⌝ }
     ensures { λ r. ⌜ r ≡ daysIn y m ⌝ }
 {
-    if m == 2 {
-        if is_leap(y) {
-            return 29;
-        }
-        return 28;
+    if m != 2 {
+        return 30 + (m + m / 8) % 2;
     }
-    if m == 4 {
-        return 30;
+    if is_leap(y) {
+        return 29;
     }
-    if m == 6 {
-        return 30;
-    }
-    if m == 9 {
-        return 30;
-    }
-    if m == 11 {
-        return 30;
-    }
-    31
+    28
 }
 
 // Whether a year, a month and a day are a real day.

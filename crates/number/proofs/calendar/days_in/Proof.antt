@@ -1,5 +1,7 @@
 -- `number::calendar::days_in` meets its contract.
+use borrow.Author.Needs.{needs}
 use Rattle.number.proofs.AnswerLaws.{flags}
+use Rattle.number.proofs.MonthLaws.{by-turns}
 use Rattle.meaning.specs.Forms.{daysIn}
 use Rattle.number.proofs.calendar.days_in.Statement.{statement}
 use Rattle.number.proofs.calendar.days_in.Tie as tie
@@ -9,11 +11,9 @@ unfolding daysIn
 days-in-spec =
     tie.close
     (tie.spec
-    (λ c κs. search flags depth 20)  -- is-leap-requires
-    (λ c. search flags depth 20)  -- returns
+    (λ c. search needs)  -- add-result
+    (λ c. search needs)  -- add-result-2
+    (λ c. search by-turns)  -- returns
+    (λ c κs. search needs)  -- is-leap-requires
     (λ c. search flags depth 20)  -- returns-2
-    (λ c. search flags depth 20)  -- returns-3
-    (λ c. search flags depth 20)  -- returns-4
-    (λ c. search flags depth 20)  -- returns-5
-    (λ c. search flags depth 20)  -- returns-6
-    (λ c. search flags depth 20))  -- returns-7
+    (λ c. search flags depth 20))  -- returns-3
