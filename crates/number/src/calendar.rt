@@ -19,7 +19,7 @@ pub fn is_leap(y: u64) -> bool
     y % 400 == 0
 }
 
-// How many days a month has. But for February 31 and 30 take turns; m / 8 is 1 from August on, which has 31 as July has.
+// How many days a month has. Months of 31 and of 30 take turns, but for February; m / 8 is 1 from August on, which has 31 as July has.
 fn days_in(y: u64, m: u64) -> u64
     requires { ⌜ (1 ≤ m) × (m ≤ 12) ⌝ }
     ensures { λ r. ⌜ r ≡ daysIn y m ⌝ }
