@@ -9,9 +9,13 @@ use lib.Dec.{eqb}
 use Rattle.base.specs.Lists.{pick}
 use Rattle.meaning.specs.Forms.{isLeap, daysIn}
 
+-- months of 31 and of 30 days take turns, and from August on the other way round
+abbrev byTurns : ℕ → ℕ
+byTurns m = 30 + (m + m / 8) % 2
+
 -- a month's last day by arithmetic
 lastDay : ℕ → ℕ → ℕ
-lastDay y m = pick (eqb m 2) (pick (isLeap y) 29 28) (30 + (m + m / 8) % 2)
+lastDay y m = pick (eqb m 2) (pick (isLeap y) 29 28) (byTurns m)
 
 -- the numbers from n down to 1
 downFrom : ℕ → List ℕ
@@ -38,6 +42,6 @@ last-day : (y m : ℕ) → 1 ≤ m → m ≤ 12 → lastDay y m ≡ daysIn y m
 last-day y m = alike (lastDay y) (daysIn y) 12 m (the-calendar y)
 
 -- any month but February
-pub by-turns : (y m : ℕ) → 1 ≤ m → m ≤ 12 → (m ≡ 2 → ⊥) → 30 + (m + m / 8) % 2 ≡ daysIn y m
+pub by-turns : (y m : ℕ) → 1 ≤ m → m ≤ 12 → (m ≡ 2 → ⊥) → byTurns m ≡ daysIn y m
 unfolding lastDay
 by-turns y m l h n = sym (rw (ne-eqb m 2 n)) ∙ last-day y m l h
