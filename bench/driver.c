@@ -13,7 +13,7 @@
 
 struct bytes { uint8_t *start; size_t length; };
 static struct bytes holding, change, out, undone, work;
-static uint64_t answer[6];
+static uint64_t answer[7];
 static volatile size_t lines;
 
 static void fail(const char *what) {

@@ -27,14 +27,14 @@ static void print(const char *what, const uint64_t *numbers, int count) {
 int main(int argc, char **argv) {
     if (argc != 4) return 2;
     size_t h = read_file(argv[1], holding), c = read_file(argv[2], change), r = read_file(argv[3], refused);
-    uint64_t answer[6];
+    uint64_t answer[7];
     muiwash_check_holding(holding, h, answer);
     print("the holding", answer, 3);
     muiwash_apply(holding, h, refused, r, taken, ROOM, answer);
-    print("refused", answer, 6);
+    print("refused", answer, 7);
     printf("bytes left in the output: %zu\n", length(taken));
     muiwash_apply(holding, h, change, c, taken, ROOM, answer);
-    print("taken", answer, 6);
+    print("taken", answer, 7);
     muiwash_find(holding, h, 11, 40000102, answer);
     printf("street 40000102: %.*s\n", (int)answer[4], (const char *)holding + answer[3]);
     muiwash_in_force(holding, h, change, c, 21, 130000001, answer);
@@ -43,9 +43,9 @@ int main(int argc, char **argv) {
     muiwash_field(holding, h, 2, 4, answer);
     printf("line 2, field 4: %.*s\n", (int)answer[4], (const char *)holding + answer[3]);
     muiwash_undo(holding, h, change, c, undo, ROOM, work, ROOM, answer);
-    print("its undo", answer, 6);
+    print("its undo", answer, 7);
     muiwash_apply(taken, length(taken), undo, length(undo), back, ROOM, answer);
-    print("the undo, taken", answer, 6);
+    print("the undo, taken", answer, 7);
     int same = length(back) == h && memcmp(back, holding, h) == 0;
     printf("handed back: %s\n", same ? "the old holding, byte for byte" : "NOT the old holding");
     return same ? 0 : 1;

@@ -24,7 +24,7 @@ template <std::size_t N> static void print(const char *what, const std::array<st
     for (std::size_t i = 0; i < N; i++) std::cout << numbers[i] << (i + 1 < N ? "," : "\n");
 }
 // The new holding, empty on a refusal.
-static Bytes apply(const Bytes &holding, const Bytes &file, std::array<std::uint64_t, 6> &answer) {
+static Bytes apply(const Bytes &holding, const Bytes &file, std::array<std::uint64_t, 7> &answer) {
     Bytes out(MUIWASH_ROOM(holding.size(), file.size()));
     muiwash_apply(holding.data(), holding.size(), file.data(), file.size(), out.data(), out.size(), answer.data());
     trim(out);
@@ -37,13 +37,14 @@ int main(int argc, char **argv) {
     std::array<std::uint64_t, 3> three{};
     std::array<std::uint64_t, 5> five{};
     std::array<std::uint64_t, 6> six{};
+    std::array<std::uint64_t, 7> seven{};
     muiwash_check_holding(holding.data(), holding.size(), three.data());
     print("the holding", three);
-    const Bytes nothing = apply(holding, refused, six);
-    print("refused", six);
+    const Bytes nothing = apply(holding, refused, seven);
+    print("refused", seven);
     std::cout << "bytes left in the output: " << nothing.size() << "\n";
-    const Bytes taken = apply(holding, change, six);
-    print("taken", six);
+    const Bytes taken = apply(holding, change, seven);
+    print("taken", seven);
     muiwash_find(holding.data(), holding.size(), 11, 40000102, five.data());
     std::cout << "street 40000102: " << part(holding, five[3], five[4]) << "\n";
     muiwash_in_force(holding.data(), holding.size(), change.data(), change.size(), 21, 130000001, six.data());
@@ -51,11 +52,11 @@ int main(int argc, char **argv) {
     muiwash_field(holding.data(), holding.size(), 2, 4, five.data());
     std::cout << "line 2, field 4: " << part(holding, five[3], five[4]) << "\n";
     Bytes undo(MUIWASH_UNDO_ROOM(holding.size(), change.size())), work(MUIWASH_ROOM(holding.size(), change.size()));
-    muiwash_undo(holding.data(), holding.size(), change.data(), change.size(), undo.data(), undo.size(), work.data(), work.size(), six.data());
+    muiwash_undo(holding.data(), holding.size(), change.data(), change.size(), undo.data(), undo.size(), work.data(), work.size(), seven.data());
     trim(undo);
-    print("its undo", six);
-    const Bytes back = apply(taken, undo, six);
-    print("the undo, taken", six);
+    print("its undo", seven);
+    const Bytes back = apply(taken, undo, seven);
+    print("the undo, taken", seven);
     std::cout << "handed back: " << (back == holding ? "the old holding, byte for byte" : "NOT the old holding") << "\n";
     return back == holding ? 0 : 1;
 }

@@ -29,16 +29,16 @@ def muiwash_undo_room(holding, file):
 
 
 def apply(holding, file):
-    """The six numbers, and the new holding, empty on a refusal."""
+    """The seven numbers, and the new holding, empty on a refusal."""
     out = ctypes.create_string_buffer(muiwash_room(holding, file))
-    answer = call('muiwash_apply', 6, *lent(holding), *lent(file), out, ctypes.c_size_t(len(out)))
+    answer = call('muiwash_apply', 7, *lent(holding), *lent(file), out, ctypes.c_size_t(len(out)))
     return answer, out.raw.rstrip(b'\0')
 
 
 def undo(holding, file):
     out = ctypes.create_string_buffer(muiwash_undo_room(holding, file))
     work = ctypes.create_string_buffer(muiwash_room(holding, file))
-    answer = call('muiwash_undo', 6, *lent(holding), *lent(file), out, ctypes.c_size_t(len(out)), work, ctypes.c_size_t(len(work)))
+    answer = call('muiwash_undo', 7, *lent(holding), *lent(file), out, ctypes.c_size_t(len(out)), work, ctypes.c_size_t(len(work)))
     return answer, out.raw.rstrip(b'\0')
 
 

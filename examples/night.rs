@@ -3,8 +3,8 @@ use std::{env, fs, process};
 
 extern "C" {
     fn muiwash_check_holding(holding: *const u8, holding_len: usize, answer: *mut [u64; 3]);
-    fn muiwash_apply(holding: *const u8, holding_len: usize, file: *const u8, file_len: usize, out: *mut u8, out_len: usize, answer: *mut [u64; 6]);
-    fn muiwash_undo(holding: *const u8, holding_len: usize, file: *const u8, file_len: usize, out: *mut u8, out_len: usize, work: *mut u8, work_len: usize, answer: *mut [u64; 6]);
+    fn muiwash_apply(holding: *const u8, holding_len: usize, file: *const u8, file_len: usize, out: *mut u8, out_len: usize, answer: *mut [u64; 7]);
+    fn muiwash_undo(holding: *const u8, holding_len: usize, file: *const u8, file_len: usize, out: *mut u8, out_len: usize, work: *mut u8, work_len: usize, answer: *mut [u64; 7]);
     fn muiwash_find(holding: *const u8, holding_len: usize, kind: u64, number: u64, answer: *mut [u64; 5]);
     fn muiwash_in_force(holding: *const u8, holding_len: usize, file: *const u8, file_len: usize, kind: u64, number: u64, answer: *mut [u64; 6]);
     fn muiwash_field(bytes: *const u8, bytes_len: usize, line: u64, field: u64, answer: *mut [u64; 5]);
@@ -29,9 +29,9 @@ fn print(what: &str, numbers: &[u64]) {
 fn part(b: &[u8], start: u64, length: u64) -> String {
     String::from_utf8_lossy(&b[start as usize..(start + length) as usize]).into_owned()
 }
-// The six numbers, and the new holding, empty on a refusal.
-fn apply(h: &[u8], f: &[u8]) -> ([u64; 6], Vec<u8>) {
-    let (mut answer, mut out) = ([0; 6], vec![0; muiwash_room(h, f)]);
+// The seven numbers, and the new holding, empty on a refusal.
+fn apply(h: &[u8], f: &[u8]) -> ([u64; 7], Vec<u8>) {
+    let (mut answer, mut out) = ([0; 7], vec![0; muiwash_room(h, f)]);
     unsafe { muiwash_apply(h.as_ptr(), h.len(), f.as_ptr(), f.len(), out.as_mut_ptr(), out.len(), &mut answer) };
     (answer, trimmed(out))
 }
@@ -39,7 +39,7 @@ fn apply(h: &[u8], f: &[u8]) -> ([u64; 6], Vec<u8>) {
 fn main() {
     let read = |i: usize| fs::read(env::args().nth(i).expect("HOLDING CHANGE REFUSED")).expect("a file that can be read");
     let (h, c, refused) = (read(1), read(2), read(3));
-    let (mut three, mut five, mut six) = ([0; 3], [0; 5], [0; 6]);
+    let (mut three, mut five, mut six, mut seven) = ([0; 3], [0; 5], [0; 6], [0; 7]);
     unsafe { muiwash_check_holding(h.as_ptr(), h.len(), &mut three) };
     print("the holding", &three);
     let (answer, nothing) = apply(&h, &refused);
@@ -55,8 +55,8 @@ fn main() {
     unsafe { muiwash_field(h.as_ptr(), h.len(), 2, 4, &mut five) };
     println!("line 2, field 4: {}", part(&h, five[3], five[4]));
     let (mut undo, mut work) = (vec![0; muiwash_undo_room(&h, &c)], vec![0; muiwash_room(&h, &c)]);
-    unsafe { muiwash_undo(h.as_ptr(), h.len(), c.as_ptr(), c.len(), undo.as_mut_ptr(), undo.len(), work.as_mut_ptr(), work.len(), &mut six) };
-    print("its undo", &six);
+    unsafe { muiwash_undo(h.as_ptr(), h.len(), c.as_ptr(), c.len(), undo.as_mut_ptr(), undo.len(), work.as_mut_ptr(), work.len(), &mut seven) };
+    print("its undo", &seven);
     let (answer, back) = apply(&taken, &trimmed(undo));
     print("the undo, taken", &answer);
     println!("handed back: {}", if back == h { "the old holding, byte for byte" } else { "NOT the old holding" });

@@ -1,9 +1,11 @@
 /* What the loader answers, in a sentence: explain CHANGE checks a change file; explain HOLDING CHANGE takes it into a holding, as the
- * program `load` does. The status is 0 where it is sound or taken, 1 where it is refused, 2 where a file can't be read.
+ * program `load` does. The status is 0 where it is sound or taken, 1 where it is refused, 2 where a file can't be read. The sentence is the
+ * first line; below it, for a malformed field, byte.c shows the byte.
  *
  * The loader alone judges. Names, forms, keys and references are those of the one table (table.h, made by table.awk), and a field's bytes
  * are what muiwash_field finds. */
 #include "../include/muiwash.h"
+#include "byte.h"
 #include <inttypes.h>
 #include <stdio.h>
 #include <stdlib.h>
@@ -26,8 +28,9 @@ struct kind {
 #include "table.h"
 
 enum { PROGRAM_ROOM = 65536, SHOWN = 60 };
-struct bytes { const uint8_t *start; size_t length; };
 static const struct bytes nothing = {NULL, 0};
+static const char sound_header[] = "10,\"-\",1,2000-01-01,1,2000-01-01,000000,1.0,\"A\"\r\n";
+static const char sound_metadata[] = "29,\"-\",\"-\",\"-\",\"-\",\"-\",1,\"-\",\"-\",2000-01-01,\"-\",\"-\",2000-01-01,\"-\",\"-\"\r\n";
 
 /* ---- the parts of a file or a holding */
 
@@ -95,10 +98,9 @@ static struct bytes joined(struct bytes first, struct bytes second) {
 static struct bytes text(const char *text) { return (struct bytes){(const uint8_t *)text, strlen(text)}; }
 /* The holding as it was before a body line of a sound file. */
 static struct bytes before(struct bytes holding, struct bytes file, uint64_t line) {
-    static const char metadata[] = "29,\"-\",\"-\",\"-\",\"-\",\"-\",1,\"-\",\"-\",2000-01-01,\"-\",\"-\",2000-01-01,\"-\",\"-\"\r\n";
-    char ends[sizeof metadata + 64];
-    uint64_t answer[6];
-    snprintf(ends, sizeof ends, "%s99,0,%" PRIu64 ",2000-01-01,000000\r\n", metadata, line - 2);
+    char ends[sizeof sound_metadata + 64];
+    uint64_t answer[7];
+    snprintf(ends, sizeof ends, "%s99,0,%" PRIu64 ",2000-01-01,000000\r\n", sound_metadata, line - 2);
     struct bytes front = joined((struct bytes){file.start, (size_t)(line_of(file, line).start - file.start)}, text(ends));
     size_t room = MUIWASH_ROOM(holding.length, front.length);
     uint8_t *out = malloc(room);
@@ -185,11 +187,14 @@ static void wrong_count(struct bytes file, uint64_t line) {
     if (!has || !kind) printf("its quotes are odd in number, so that its fields can't be told apart");
     else printf("it has %" PRIu64 " fields, and a line of kind %s has %zu", has, kind->identifier, kind->count);
 }
-static void malformed(struct bytes file, uint64_t line, const struct field *field, uint64_t number) {
-    struct bytes found = field_of(file, line, number);
+/* What is wrong with the field, and below it at which byte. Behind a header, and a trailer behind metadata too, the line is in place. */
+static void malformed(struct bytes file, uint64_t line, const struct field *field, uint64_t number, uint64_t place) {
+    struct bytes found = field_of(file, line, number), front = line == 1 ? nothing : line_of(file, 1);
     if (field->filled && (!found.length || is(found, "\"\""))) printf("it is empty, and must be filled");
     else if (!found.length) printf("it is bare, and an empty text is \"\"");
     else print(found), printf(" "), print_form(field);
+    if (kind_of(file, line)->role == ROLE_trailerLine) front = joined(front, text(sound_metadata));
+    show_byte(front, line_of(file, line), number, place);
 }
 static void ends_before_start(struct bytes file, uint64_t line, const struct kind *kind, uint64_t number) {
     print(field_of(file, line, number));
@@ -217,18 +222,19 @@ static void unknown(struct bytes identifier) {
     printf(" is no identifier that is known");
 }
 /* The sentence of a refusal at a line of a file, after the line's number. */
-static void sentence(struct bytes holding, struct bytes file, uint64_t code, uint64_t line, uint64_t number) {
+static void sentence(struct bytes holding, struct bytes file, const uint64_t answer[7]) {
+    uint64_t line = answer[1], number = answer[2];
     const struct kind *kind = kind_of(file, line);
     /* Every kind begins with its identifier, an unknown one too. */
     const struct field *field = number ? &(kind ? kind : kinds)->fields[number - 1] : NULL;
     if (field) printf(", field %" PRIu64 " %s", number, field->name);
     printf(": ");
-    switch (code) {
+    switch (answer[0]) {
     case MUIWASH_LINE_ENDING: wrong_ending(line_of(file, line)); break;
     case MUIWASH_IDENTIFIER: unknown(field_of(file, line, 1)); break;
     case MUIWASH_OUT_OF_PLACE: out_of_place(file, line); break;
     case MUIWASH_FIELD_COUNT: wrong_count(file, line); break;
-    case MUIWASH_MALFORMED: malformed(file, line, field, number); break;
+    case MUIWASH_MALFORMED: malformed(file, line, field, number, answer[6]); break;
     case MUIWASH_END_BEFORE_START: ends_before_start(file, line, kind, number); break;
     case MUIWASH_PRO_ORDER: print(field_of(file, line, number)), printf(", and %" PRIu64 " is due", line - 1); break;
     case MUIWASH_RECORD_COUNT: print(field_of(file, line, number)), printf(", and there are %" PRIu64 " body lines", line - 3); break;
@@ -249,18 +255,18 @@ static int key_is_wrong(struct bytes holding, uint64_t line) {
 }
 /* What is wrong with a line of a holding: it is put behind a header, and check_file asked; if that finds nothing, it is its place. */
 static void unsound(struct bytes holding, uint64_t line) {
-    struct bytes file = joined(text("10,\"-\",1,2000-01-01,1,2000-01-01,000000,1.0,\"A\"\r\n"), line_of(holding, line));
+    struct bytes file = joined(text(sound_header), line_of(holding, line));
     const struct kind *kind = kind_of(file, 2);
-    uint64_t answer[6];
+    uint64_t answer[7];
     char number[24];
     muiwash_check_file(file.start, file.length, answer);
     snprintf(number, sizeof number, "%" PRIu64, line);
     if (kind && kind->role != ROLE_bodyLine) printf(": a line of kind %s is none of a holding", kind->identifier);
-    else if (answer[1] == 2 && answer[0] != MUIWASH_PRO_ORDER) sentence(nothing, file, answer[0], 2, answer[2]);
+    else if (answer[1] == 2 && answer[0] != MUIWASH_PRO_ORDER) sentence(nothing, file, answer);
     else if (!is(field_of(file, 2, 2), "\"I\"")) printf(", field 2 %s: a holding has \"I\" alone", kind->fields[1].name);
     else if (!is(field_of(file, 2, 3), number)) {
         printf(", field 3 %s: ", kind->fields[2].name), print(field_of(file, 2, 3)), printf(", and %s is due", number);
-    } else if (line > 8192) sentence(nothing, file, MUIWASH_TOO_MANY_RECORDS, 2, 0);
+    } else if (line > 8192) sentence(nothing, file, (const uint64_t[7]){MUIWASH_TOO_MANY_RECORDS, 2});
     else if (key_is_wrong(holding, line)) printf(": its key isn't above that of the line before it");
     else printf(": "), print_unmet(file, 2, kind, nothing);
 }
@@ -288,7 +294,7 @@ static void note_length(const char *path, struct bytes all) {
            PROGRAM_ROOM);
 }
 /* apply's answer, with a buffer as long as the program's, or as long as is always enough where an input is too long for the program. */
-static void take(struct bytes holding, struct bytes file, uint64_t answer[6]) {
+static void take(struct bytes holding, struct bytes file, uint64_t answer[7]) {
     size_t room = PROGRAM_ROOM;
     if (holding.length > room || file.length > room) room = MUIWASH_ROOM(holding.length, file.length);
     uint8_t *out = malloc(room);
@@ -298,7 +304,7 @@ static void take(struct bytes holding, struct bytes file, uint64_t answer[6]) {
 }
 
 int main(int argc, char **argv) {
-    uint64_t answer[6];
+    uint64_t answer[7];
     if (argc != 2 && argc != 3) {
         fprintf(stderr, "explain CHANGE, or explain HOLDING CHANGE\n");
         return 2;
@@ -311,7 +317,7 @@ int main(int argc, char **argv) {
     } else {
         int held = answer[0] == MUIWASH_UNSOUND_HOLDING;
         printf("refused, code %" PRIu64 ": %sline %" PRIu64, answer[0], held ? "the holding, " : "", answer[1]);
-        if (held) unsound(holding, answer[1]); else sentence(holding, file, answer[0], answer[1], answer[2]);
+        if (held) unsound(holding, answer[1]); else sentence(holding, file, answer);
     }
     printf("\n");
     for (int i = 1; i < argc; i++) note_length(argv[i], i == argc - 1 ? file : holding);

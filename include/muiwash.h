@@ -9,7 +9,10 @@
  *   length of its own, so an array that is shorter is the caller's fault. What is written must not overlap anything else that is lent to
  *   the same call; `holding` and `file` are only read, and may overlap each other.
  * Numbers. Every answer begins with code, line, field. Code 0 (MUIWASH_DONE) is success, any other a refusal. Lines and fields count from
- *   1, and 0 means none. On a refusal every output is all zeros and all numbers after the first three are 0.
+ *   1, and 0 means none. On a refusal every output is all zeros, and all numbers after the first three are 0 but for the place.
+ * Place. The last number of check_file, apply and undo: for a malformed field (5) the place, from 1 and with its quotes counted, of the
+ *   first byte of the field at which no sound field could go on, or one past the field's end where it stops too soon. With the start that
+ *   muiwash_field gives for that line and field, that byte is file[start + place - 1]. The place is 0 for every code but 5.
  * Memory. Nothing is allocated, kept or freed, and nothing is read or written but what is lent. A call needs up to 256 KiB of stack: give
  *   a thread of your own that much and some for itself.
  * Threads. There is no state: any number of threads may call at once, so long as no one writes what another call was lent.
@@ -38,7 +41,7 @@ enum muiwash_code {
     MUIWASH_IDENTIFIER = 2,         /* a record identifier is unknown: line, 1 */
     MUIWASH_OUT_OF_PLACE = 3,       /* header, metadata or trailer is missing or out of place: line, 0 */
     MUIWASH_FIELD_COUNT = 4,        /* wrong number of fields: line, 0 */
-    MUIWASH_MALFORMED = 5,          /* a field is malformed: line, the lowest such field */
+    MUIWASH_MALFORMED = 5,          /* a field is malformed: line, the lowest such field; and the place in it */
     MUIWASH_END_BEFORE_START = 6,   /* END_DATE is before START_DATE: line, END_DATE's field */
     MUIWASH_PRO_ORDER = 7,          /* PRO_ORDER isn't the running number: line, 3 */
     MUIWASH_RECORD_COUNT = 8,       /* RECORD_COUNT isn't the number of body lines: line, its field */
@@ -61,8 +64,8 @@ enum muiwash_code {
 #define MUIWASH_UNDO_ROOM(holding_len, file_len) ((holding_len) + 2 * (file_len) + 12288)
 
 /* Checks a whole change file.
- * answer: code, line, field, and the body lines with CHANGE_TYPE I, U and D. Codes 0 to 9. */
-void muiwash_check_file(const uint8_t *file, uint64_t file_len, uint64_t answer[6]);
+ * answer: code, line, field, the body lines with CHANGE_TYPE I, U and D, and the place. Codes 0 to 9. */
+void muiwash_check_file(const uint8_t *file, uint64_t file_len, uint64_t answer[7]);
 
 /* Checks a whole holding; no bytes at all is a sound one.
  * answer: code, line, field. Codes 0 and 14. */
@@ -71,18 +74,18 @@ void muiwash_check_holding(const uint8_t *holding, uint64_t holding_len, uint64_
 /* Takes a change file into a holding.
  * out: the new holding, then zeros to out_len (no holding has a zero byte, so it ends where the zeros begin); on a refusal all zeros.
  * out_len: the holding must fit it before the first step and after each (else 13); MUIWASH_ROOM(holding_len, file_len) is always enough.
- * answer: code, line, field, and the inserts, updates and deletes made. Codes 0 to 14 and 16. */
+ * answer: code, line, field, the inserts, updates and deletes made, and the place. Codes 0 to 14 and 16. */
 void muiwash_apply(const uint8_t *holding, uint64_t holding_len, const uint8_t *file, uint64_t file_len, uint8_t *out, uint64_t out_len,
-                   uint64_t answer[6]);
+                   uint64_t answer[7]);
 
 /* Writes the undo of a change file, made against the holding that the file meets: a change file in the same layout that, applied to the
  * holding that muiwash_apply leaves, gives this holding back byte for byte.
  * out: the undo, then zeros to out_len (no file has a zero byte in it); on a refusal all zeros.
  * out_len: MUIWASH_UNDO_ROOM(holding_len, file_len) is always enough (else 17).
  * work: all zeros afterwards. work_len stands for apply's out_len: give it the same length.
- * answer: code, line, field, and the file's own inserts, updates and deletes. Codes 0 to 14, 16 and 17. */
+ * answer: code, line, field, the file's own inserts, updates and deletes, and the place. Codes 0 to 14, 16 and 17. */
 void muiwash_undo(const uint8_t *holding, uint64_t holding_len, const uint8_t *file, uint64_t file_len, uint8_t *out, uint64_t out_len,
-                  uint8_t *work, uint64_t work_len, uint64_t answer[6]);
+                  uint8_t *work, uint64_t work_len, uint64_t answer[7]);
 
 /* Finds the line of a street (kind 11) or a BLPU (kind 21) by its USRN or UPRN.
  * answer: code, line, field, and where the line stands in `holding`, without CR LF: its start and its length. Codes 0, 11, 14 and 15. */

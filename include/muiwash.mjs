@@ -4,9 +4,10 @@
 //   const muiwash = await open(wasm);                 // the bytes of muiwash.wasm
 //   const { answer, out } = muiwash.apply(holding, file);
 //
-// What is lent is a Uint8Array and is only read. An answer is an array of numbers that begins with code, line, field. `out` is the new
-// holding, or the undo, without the zeros behind it: no bytes on a refusal. Buffers are as long as is always enough, so 13 isn't answered
-// for want of room, and neither is 17; give `room`, or `undoRoom`, for another length. A call runs to its end on the thread that makes it.
+// What is lent is a Uint8Array and is only read. An answer is an array of numbers that begins with code, line, field; those of checkFile,
+// apply and undo end with the place. `out` is the new holding, or the undo, without the zeros behind it: no bytes on a refusal. Buffers are
+// as long as is always enough, so 13 isn't answered for want of room, and neither is 17; give `room`, or `undoRoom`, for another length. A
+// call runs to its end on the thread that makes it.
 
 // How long a buffer is always enough for the new holding, and for the undo, as muiwash.h says it.
 const enough = (holding, file) => holding.length + file.length + 24576;
@@ -54,11 +55,11 @@ export async function open(wasm) {
   const written = ({ answer, buffers }) => ({ answer, out: bare(buffers[0]) });
 
   return {
-    checkFile: (file) => call('muiwash_check_file', 6, [file]).answer,
+    checkFile: (file) => call('muiwash_check_file', 7, [file]).answer,
     checkHolding: (holding) => call('muiwash_check_holding', 3, [holding]).answer,
-    apply: (holding, file, room = enough(holding, file)) => written(call('muiwash_apply', 6, [holding, file], [room])),
+    apply: (holding, file, room = enough(holding, file)) => written(call('muiwash_apply', 7, [holding, file], [room])),
     undo: (holding, file, undoRoom = enoughForUndo(holding, file), room = enough(holding, file)) =>
-      written(call('muiwash_undo', 6, [holding, file], [undoRoom, room])),
+      written(call('muiwash_undo', 7, [holding, file], [undoRoom, room])),
     find: (holding, kind, number) => call('muiwash_find', 5, [holding], [], [kind, number]).answer,
     inForce: (holding, file, kind, number) => call('muiwash_in_force', 6, [holding, file], [], [kind, number]).answer,
     field: (bytes, line, field) => call('muiwash_field', 5, [bytes], [], [line, field]).answer,

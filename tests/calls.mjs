@@ -10,14 +10,14 @@ const { memory, __heap_base: heap, __stack_pointer: stack, ...functions } = inst
 const start = (i) => Math.ceil(heap.value / 8) * 8 + i * ROOM;
 memory.grow(5);
 const bytes = Buffer.from(memory.buffer);
-const answer = new BigUint64Array(memory.buffer, start(4), 7);
+const answer = new BigUint64Array(memory.buffer, start(4), 8);
 const [OUT_OF_PLACE, DONE, ABSENT, NO_SUCH_PART] = [3, 0, 11, 19];
 // Name, numbers, code where nothing is lent, and how it is called with a holding, a file, an output and a work buffer.
 const CALLS = [
-  ['check_file', 6, OUT_OF_PLACE, (h, f) => f],
+  ['check_file', 7, OUT_OF_PLACE, (h, f) => f],
   ['check_holding', 3, DONE, (h) => h],
-  ['apply', 6, OUT_OF_PLACE, (h, f, o) => [...h, ...f, ...o]],
-  ['undo', 6, OUT_OF_PLACE, (h, f, o, w) => [...h, ...f, ...o, ...w]],
+  ['apply', 7, OUT_OF_PLACE, (h, f, o) => [...h, ...f, ...o]],
+  ['undo', 7, OUT_OF_PLACE, (h, f, o, w) => [...h, ...f, ...o, ...w]],
   ['find', 5, ABSENT, (h) => [...h, 11n, 40000102n]],
   ['in_force', 6, OUT_OF_PLACE, (h, f) => [...h, ...f, 21n, 130000001n]],
   ['field', 5, NO_SUCH_PART, (h) => [...h, 1n, 1n]],
@@ -32,14 +32,14 @@ for (const [name, numbers, onNothing, words] of CALLS) {
   const call = (...lent) => functions[`muiwash_${name}`](...words(...lent), start(4));
   const top = stack.value;
   bytes.fill(MARK, 0, top);
-  bytes.fill(MARK, start(0), start(4) + 56);
+  bytes.fill(MARK, start(0), start(4) + 64);
   holding.copy(bytes, start(0));
   change.copy(bytes, start(1));
   call([start(0), BigInt(holding.length)], [start(1), BigInt(change.length)], [start(2), BigInt(ROOM)], [start(3), BigInt(ROOM)]);
   expect(stack.value === top, 'the stack is left as it was found');
   most = Math.max(most, top - bytes.findIndex((byte, i) => i >= top || byte !== MARK));
   expect(answer[0] === 0n, 'the night is taken, and every enquiry is answered');
-  expect(answer[numbers - 1] !== answer[6] && answer[numbers] === answer[6], 'as many numbers as are stated');
+  expect(answer[numbers - 1] !== answer[7] && answer[numbers] === answer[7], 'as many numbers as are stated');
   call([0, 0n], [0, 0n], [0, 0n], [0, 0n]);
   expect(answer[0] === BigInt(onNothing), 'nothing lent is met');
 }

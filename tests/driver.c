@@ -8,7 +8,7 @@
 #include <stdlib.h>
 #include <string.h>
 
-enum { GUARD = 64, MARK = 0xA5, NUMBERS = 6 };
+enum { GUARD = 64, MARK = 0xA5, NUMBERS = 7 };
 struct buffer { uint8_t *bytes; size_t length, room; };
 static struct buffer holding, file, out, work, holding_kept, file_kept;
 
@@ -51,10 +51,10 @@ static int call(int operation, uint64_t first, uint64_t second, uint64_t *answer
     const uint8_t *h = start(&holding), *f = start(&file);
     size_t hn = holding.length, fn = file.length;
     switch (operation) {
-    case 0: muiwash_check_file(f, fn, answer); return 6;
+    case 0: muiwash_check_file(f, fn, answer); return 7;
     case 1: muiwash_check_holding(h, hn, answer); return 3;
-    case 2: muiwash_apply(h, hn, f, fn, start(&out), out.length, answer); return 6;
-    case 3: muiwash_undo(h, hn, f, fn, start(&out), out.length, start(&work), work.length, answer); return 6;
+    case 2: muiwash_apply(h, hn, f, fn, start(&out), out.length, answer); return 7;
+    case 3: muiwash_undo(h, hn, f, fn, start(&out), out.length, start(&work), work.length, answer); return 7;
     case 4: muiwash_find(h, hn, first, second, answer); return 5;
     case 5: muiwash_in_force(h, hn, f, fn, first, second, answer); return 6;
     case 6: muiwash_field(h, hn, first, second, answer); return 5;

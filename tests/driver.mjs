@@ -1,10 +1,10 @@
 // muiwash.wasm behind a pipe, as tests/driver.c has the archive: node driver.mjs WASM. That file says what a call and an answer are.
 import { readFileSync, readSync, writeSync } from 'node:fs';
 
-const GUARD = 64, MARK = 0xa5, NUMBERS = 6;
+const GUARD = 64, MARK = 0xa5, NUMBERS = 7;
 // The operations in the header's order: their name, how many numbers they answer, and whether they take holding, file, out, work and words.
 const OPERATIONS = [
-  ['check_file', 6, 'f'], ['check_holding', 3, 'h'], ['apply', 6, 'hfo'], ['undo', 6, 'hfow'], ['find', 5, 'h12'], ['in_force', 6, 'hf12'],
+  ['check_file', 7, 'f'], ['check_holding', 3, 'h'], ['apply', 7, 'hfo'], ['undo', 7, 'hfow'], ['find', 5, 'h12'], ['in_force', 6, 'hf12'],
   ['field', 5, 'h12'],
 ];
 const { instance } = await WebAssembly.instantiate(readFileSync(process.argv[2]));

@@ -2,8 +2,9 @@
 use crate::random::Random;
 use crate::reference::forms::Form;
 use crate::reference::lines::{fields, lines, Line};
-use crate::reference::table::{columns, kind_of, place, HELD_KINDS, KINDS};
+use crate::reference::table::{columns, kind_of, position, HELD_KINDS, KINDS};
 use crate::sound::{any_line, field, joined, quote, DATES};
+use std::ops::Range;
 
 const BYTES: &[u8] = b"\r\n\"\",,-./:+ 01239AILUDXx\x00\x1F\x20\x7F\x80\xFF";
 const FIELDS: [&str; 20] = [
@@ -16,12 +17,20 @@ const DATE_EDGES: [&str; 20] = [
     "9999-12-31", "10000-01-01",
 ];
 const TIME_EDGES: [&str; 8] = ["000000", "235959", "240000", "236000", "235960", "23595", "2359590", "23:959"];
+/// Fields of every form, the rarer ones as often as any.
+const OF_EACH_FORM: [&str; 20] = [
+    "CHANGE_TYPE", "FILE_TYPE", "XREF_TYPE", "XREF_KEY", "LPI_KEY", "USRN", "UPRN", "PARENT_UPRN", "PRO_ORDER", "XREF_ID", "RECORD_COUNT",
+    "START_X", "LEVEL", "START_DATE", "TIME_STAMP", "SOURCE", "LANGUAGE", "SUB_LOCALITY", "SAO_TEXT", "POSTALLY_ADDRESSABLE",
+];
 const ENDS: [&str; 6] = ["\n", "\r", "\r\r\n", "\n\r", "\r\n\r\n", ""];
 
 /// One fault, or a change that is none.
 pub fn damage(random: &mut Random, bytes: &mut Vec<u8>) {
     if random.one_in(6) {
         return one_rule(random, bytes);
+    }
+    if random.one_in(6) {
+        return within_field(random, bytes);
     }
     match random.below(8) {
         0 => one_byte(random, bytes),
@@ -103,16 +112,7 @@ fn one_field(random: &mut Random, bytes: &mut Vec<u8>) {
 /// A field that a rule of its own speaks of, with a value close to one that is right: dates, PRO_ORDER, RECORD_COUNT, keys, references.
 fn one_rule(random: &mut Random, bytes: &mut Vec<u8>) {
     let name = random.pick(&["END_DATE", "END_DATE", "PRO_ORDER", "RECORD_COUNT", "USRN", "UPRN", "PARENT_UPRN", "XREF_ID", "CHANGE_TYPE"]);
-    let named = |line: &Line| {
-        let at = place(kind_of(line.identifier())?, name)?;
-        let part = fields(line.text)?.get(at)?.clone();
-        Some(line.start + part.start..line.start + part.end)
-    };
-    let places: Vec<_> = lines(bytes).iter().filter_map(named).collect();
-    if places.is_empty() {
-        return;
-    }
-    let hit = random.below(places.len());
+    let Some((hit, _)) = one_named(random, bytes, name) else { return };
     let small = random.below(14);
     let new = match name {
         "END_DATE" => random.pick(&DATES).to_string(),
@@ -120,7 +120,35 @@ fn one_rule(random: &mut Random, bytes: &mut Vec<u8>) {
         _ if random.one_in(3) => format!("{small:08}"),
         _ => small.to_string(),
     };
-    bytes.splice(places[hit].clone(), new.into_bytes());
+    bytes.splice(hit, new.into_bytes());
+}
+
+/// Where a field of that name stands, and its form: one of all that there are.
+fn one_named(random: &mut Random, bytes: &[u8], name: &str) -> Option<(Range<usize>, Form)> {
+    let named = |line: &Line| {
+        let kind = kind_of(line.identifier())?;
+        let at = position(kind, name)?;
+        let part = fields(line.text)?.get(at)?.clone();
+        Some((line.start + part.start..line.start + part.end, columns(kind)[at].form))
+    };
+    let mut all: Vec<_> = lines(bytes).iter().filter_map(named).collect();
+    (!all.is_empty()).then(|| all.swap_remove(random.below(all.len())))
+}
+
+/// One field, of a form that is rare elsewhere too: cut short, at the edge of its form, or with one byte changed, put in or taken out.
+fn within_field(random: &mut Random, bytes: &mut Vec<u8>) {
+    let name = random.pick(&OF_EACH_FORM);
+    let Some((hit, form)) = one_named(random, bytes, name) else { return };
+    let mut field = bytes[hit.clone()].to_vec();
+    match random.below(4) {
+        0 => {
+            let end = field.len() - usize::from(field.ends_with(b"\""));
+            field.drain(random.below(end + 1)..end);
+        }
+        1 => field = edge(random, form),
+        _ => one_byte(random, &mut field),
+    }
+    bytes.splice(hit, field);
 }
 
 /// A field at the edge of its form, on either side.

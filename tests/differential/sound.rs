@@ -3,7 +3,7 @@ use crate::random::Random;
 use crate::reference::forms::Form;
 use crate::reference::load::{step, Held};
 use crate::reference::records::{record, Record};
-use crate::reference::table::{columns, place, Column, HELD_KINDS};
+use crate::reference::table::{columns, position, Column, HELD_KINDS};
 
 pub const DATES: [&str; 10] = [
     "1583-01-01", "1600-02-29", "1999-12-31", "2000-02-29", "2001-01-01", "2001-01-02", "2004-02-29", "2024-06-30", "2100-02-28",
@@ -102,7 +102,7 @@ fn body_field(random: &mut Random, draft: &Draft, column: &Column) -> Vec<u8> {
 /// A sound line of a held kind, without CR LF.
 pub fn body_line(random: &mut Random, draft: &Draft) -> Vec<u8> {
     let mut fields: Vec<Vec<u8>> = columns(draft.kind).iter().map(|column| body_field(random, draft, column)).collect();
-    let at = |name| place(draft.kind, name).expect("every held kind has both dates");
+    let at = |name| position(draft.kind, name).expect("every held kind has both dates");
     let (start, end) = (at("START_DATE"), at("END_DATE"));
     if !fields[end].is_empty() && fields[end] < fields[start] {
         fields[end] = fields[start].clone();

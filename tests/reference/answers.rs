@@ -3,6 +3,9 @@ use super::enquiries::{field, find, in_force, Part};
 use super::load::load;
 use super::{file, holding, Fault};
 
+/// Where the place stands in an answer of seven numbers, from 0.
+pub const PLACE: usize = 6;
+
 #[derive(Debug, Clone, Copy, PartialEq, Eq)]
 #[repr(u8)]
 pub enum Operation {
@@ -39,7 +42,8 @@ impl Operation {
         match self {
             Operation::CheckHolding => 3,
             Operation::Find | Operation::Field => 5,
-            _ => 6,
+            Operation::InForce => 6,
+            _ => 7,
         }
     }
 }
@@ -61,25 +65,28 @@ pub fn answer(call: &Call) -> Answer {
             out = loaded.undo;
             Ok(loaded.counts.to_vec())
         }),
-        Operation::Find => find(old, call.first, call.second).map(place),
+        Operation::Find => find(old, call.first, call.second).map(span),
         Operation::InForce => in_force(old, change, call.first, call.second)
-            .map(|part| [vec![u64::from(part.in_file)], place(part)].concat()),
-        Operation::Field => field(old, call.first, call.second).map(place),
+            .map(|part| [vec![u64::from(part.in_file)], span(part)].concat()),
+        Operation::Field => field(old, call.first, call.second).map(span),
     };
     out.resize(call.out, 0);
     Answer { numbers: numbers(call.operation, rest), out, work: vec![0; call.work] }
 }
 
-fn place(part: Part) -> Vec<u64> {
+fn span(part: Part) -> Vec<u64> {
     vec![part.start as u64, part.length as u64]
 }
 
-/// Code, line and field, then the rest; on a refusal zeros.
+/// Code, line and field, then the rest; on a refusal zeros, and the place where the answer has one.
 fn numbers(operation: Operation, rest: Result<Vec<u64>, Fault>) -> Vec<u64> {
-    let mut all = match rest {
-        Ok(rest) => [vec![0; 3], rest].concat(),
-        Err(fault) => vec![fault.code, fault.line, fault.field],
+    let (mut all, place) = match rest {
+        Ok(rest) => ([vec![0; 3], rest].concat(), 0),
+        Err(fault) => (vec![fault.code, fault.line, fault.field], fault.place),
     };
     all.resize(operation.numbers(), 0);
+    if let Some(last) = all.get_mut(PLACE) {
+        *last = place;
+    }
     all
 }

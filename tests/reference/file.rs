@@ -3,7 +3,7 @@ use super::forms::number;
 use super::lines::{lines, Line};
 use super::records::{record, wrong, Record, Sound};
 use super::table::{kind_of, HELD_KINDS};
-use super::{fault, Fault};
+use super::{fault, placed, Fault};
 
 const MOST_BODY_LINES: usize = 4096;
 
@@ -67,8 +67,8 @@ fn take(file: &mut File, expected: Expected, at: usize, line: &Line) -> Result<E
     if held && file.body.len() == MOST_BODY_LINES {
         return fault(9, at, 0);
     }
-    if let Some((code, field)) = wrong(kind, line.text) {
-        return fault(code, at, field);
+    if let Some((code, field, place)) = wrong(kind, line.text) {
+        return placed(code, at, field, place);
     }
     if held {
         let record = record(kind, line.text);

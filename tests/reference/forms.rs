@@ -23,12 +23,17 @@ impl Form {
         matches!(self, Form::Text(_) | Form::Letter(_) | Form::Key(_))
     }
 
-    pub fn is_empty(self, field: &[u8]) -> bool {
+    fn is_empty(self, field: &[u8]) -> bool {
         if self.is_text() { field == b"\"\"" } else { field.is_empty() }
     }
 
+    /// Whether a field is sound, where it must be filled or may be empty.
+    pub fn is_sound(self, filled: bool, field: &[u8]) -> bool {
+        if self.is_empty(field) { !filled } else { self.suits(field) }
+    }
+
     /// Whether a field that isn't empty suits this form.
-    pub fn suits(self, field: &[u8]) -> bool {
+    fn suits(self, field: &[u8]) -> bool {
         match self {
             Form::Identifier => true,
             Form::Number(width) => is_number(field, width),
@@ -73,7 +78,7 @@ fn is_decimal(field: &[u8], width: usize, decimals: usize) -> bool {
     }
 }
 
-fn is_text(text: &[u8], width: usize) -> bool {
+pub fn is_text(text: &[u8], width: usize) -> bool {
     text.len() <= width && text.iter().all(|byte| *byte >= 0x20 && *byte != b'"' && *byte != 0x7F)
 }
 
@@ -90,7 +95,7 @@ fn is_date(field: &[u8]) -> bool {
     year >= 1583 && (1..=12).contains(&month) && (1..=days(year, month)).contains(&day)
 }
 
-fn days(year: u64, month: u64) -> u64 {
+pub fn days(year: u64, month: u64) -> u64 {
     let leap = year % 4 == 0 && (year % 100 != 0 || year % 400 == 0);
     match month {
         2 => 28 + u64::from(leap),

@@ -1,7 +1,7 @@
 //! One line by itself: whether it is sound, and what it says.
 use super::forms::{number, quoted};
 use super::lines::fields;
-use super::table::{columns, place};
+use super::table::{columns, position};
 use std::ops::Range;
 
 /// Ordered by kind, then by the numbers, then by the text.
@@ -29,23 +29,22 @@ pub struct Record {
     pub refers_to: Vec<Key>,
 }
 
-/// The code and field of what is wrong in the fields of a line: 4, 5 or 6.
-pub fn wrong(kind: u64, text: &[u8]) -> Option<(u64, usize)> {
+/// What is wrong in the fields of a line: the code 4, 5 or 6, the field, and the place in a malformed one.
+pub fn wrong(kind: u64, text: &[u8]) -> Option<(u64, usize, usize)> {
     let columns = columns(kind);
     let Some(parts) = fields(text).filter(|parts| parts.len() == columns.len()) else {
-        return Some((4, 0));
+        return Some((4, 0, 0));
     };
     for (at, column) in columns.iter().enumerate() {
-        let field = &text[parts[at].clone()];
-        let right = if column.form.is_empty(field) { column.may_be_empty } else { column.form.suits(field) };
-        if !right {
-            return Some((5, at + 1));
+        let place = column.form.place(!column.may_be_empty, &text[parts[at].clone()]);
+        if place != 0 {
+            return Some((5, at + 1, place));
         }
     }
-    let (start, end) = (place(kind, "START_DATE")?, place(kind, "END_DATE")?);
+    let (start, end) = (position(kind, "START_DATE")?, position(kind, "END_DATE")?);
     let (start_date, end_date) = (&text[parts[start].clone()], &text[parts[end].clone()]);
     // CCYY-MM-DD: the order of the bytes is the order of the days.
-    (!start_date.is_empty() && !end_date.is_empty() && end_date < start_date).then_some((6, end + 1))
+    (!start_date.is_empty() && !end_date.is_empty() && end_date < start_date).then_some((6, end + 1, 0))
 }
 
 /// A sound line with its fields found.
@@ -61,7 +60,7 @@ impl<'a> Sound<'a> {
     }
 
     fn named(&self, name: &str) -> &'a [u8] {
-        let at = place(self.kind, name).expect("a field of this kind");
+        let at = position(self.kind, name).expect("a field of this kind");
         &self.text[self.parts[at].clone()]
     }
 

@@ -90,6 +90,6 @@ pub fn kind_of(identifier: &[u8]) -> Option<u64> {
 }
 
 /// Where a field stands among those of its kind, from 0.
-pub fn place(kind: u64, name: &str) -> Option<usize> {
+pub fn position(kind: u64, name: &str) -> Option<usize> {
     columns(kind).iter().position(|column| column.name == name)
 }

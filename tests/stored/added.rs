@@ -1,5 +1,5 @@
 //! The loads that a person lists: what each shows, its lines and lengths, and what apply and undo answer.
-use crate::reference::answers::Operation;
+use crate::reference::answers::{Operation, PLACE};
 use crate::wants::{answered, Case};
 
 #[derive(Default)]
@@ -42,11 +42,12 @@ fn take(all: &mut Vec<Added>, line: &str) -> Option<()> {
 }
 
 impl Added {
-    /// The error says where the reference's code, line and field aren't those of the list.
+    /// The error says where the reference's code, line, field and place aren't those of the list.
     pub fn check(&self) -> Result<(), String> {
         for (operation, listed) in [(Operation::Apply, &self.apply), (Operation::Undo, &self.undo)] {
             let numbers = answered(&self.case, operation).numbers;
-            let given = numbers[..3].iter().map(u64::to_string).collect::<Vec<_>>().join(",");
+            let told = [numbers[0], numbers[1], numbers[2], numbers[PLACE]];
+            let given = told.map(|number| number.to_string()).join(",");
             if given != *listed {
                 return Err(format!("{}: {operation:?} answers {given}, and the list says {listed}", self.shows));
             }

@@ -1,5 +1,6 @@
-//! cases [--write]: the tables of crates/cases and crates/loads, answered anew by the reference.
+//! cases [--write]: the tables of crates/cases, crates/field_places and crates/loads, answered anew by the reference.
 mod added;
+mod forms;
 mod modules;
 #[path = "../reference/mod.rs"]
 #[allow(dead_code)]
@@ -11,7 +12,7 @@ mod wants;
 use std::path::{Path, PathBuf};
 use std::process::exit;
 
-const FOLDERS: [&str; 2] = ["crates/cases/specs", "crates/loads/specs"];
+const FOLDERS: [&str; 3] = ["crates/cases/specs", "crates/field_places/specs", "crates/loads/specs"];
 const LIST: &str = "tests/stored/added";
 /// The module whose table is made from the list.
 const LISTED: &str = "crates/loads/specs/Added.antt";

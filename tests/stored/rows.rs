@@ -1,4 +1,5 @@
 //! The rows of the tables: what each asks, and how it is written with the answer.
+use crate::forms::form;
 use crate::reference::answers::Operation;
 use crate::terms::{bytes, list, Left};
 use crate::wants::{self, Case};
@@ -11,6 +12,7 @@ pub enum Table {
     Tails,
     Steps,
     Prints,
+    Places,
 }
 
 impl Table {
@@ -21,6 +23,7 @@ impl Table {
             "List (List ℕ × List ℕ)" => Some(Table::Tails),
             "List (Change Rec × List ℕ)" => Some(Table::Steps),
             "List (List ℕ × List ℕ × List ℕ)" => Some(Table::Prints),
+            "List (Form × List ℕ × List ℕ)" => Some(Table::Places),
             _ => None,
         }
     }
@@ -34,6 +37,7 @@ impl Table {
             Table::Tails => tail(&mut left),
             Table::Steps => step(&mut left),
             Table::Prints => print(&mut left),
+            Table::Places => places(&mut left),
         }
     }
 }
@@ -103,4 +107,13 @@ fn print(left: &mut Left) -> Option<String> {
     left.pass(", ")?;
     let change = left.bytes()?;
     Some(format!("({}, {}, {})", bytes(&old), bytes(&change), bytes(&wants::of_print(&old, &change))))
+}
+
+fn places(left: &mut Left) -> Option<String> {
+    left.pass("(")?;
+    let (from, form) = (left.0, form(left)?);
+    let name = from.strip_suffix(left.0)?;
+    left.pass(", ")?;
+    let field = left.bytes()?;
+    Some(format!("({name}, {}, {})", bytes(&field), list(&wants::of_field(form, &field))))
 }

@@ -1,5 +1,6 @@
 //! What the reference answers to what a row asks.
 use crate::reference::answers::{answer, Answer, Call, Operation};
+use crate::reference::forms::Form;
 use crate::terms::{bytes, list};
 
 /// A holding, a file, and the lengths of apply's output, undo's output and undo's work buffer.
@@ -101,4 +102,9 @@ pub fn of_print(old: &[u8], change: &[u8]) -> Vec<u8> {
     let answer = answer(&Call { out: PROGRAM_ROOM, ..call(Operation::Apply, old, change) });
     let numbers = answer.numbers.iter().map(u64::to_string).collect::<Vec<_>>().join(",");
     [numbers.as_bytes(), b"\r\n", result(&answer)].concat()
+}
+
+/// The place in a field where it must be filled, and where it may be empty.
+pub fn of_field(form: Form, field: &[u8]) -> Vec<u64> {
+    [true, false].map(|filled| form.place(filled, field) as u64).to_vec()
 }

@@ -13,23 +13,23 @@ use Rattle.answers.specs.declared.numbers.Verdict.{Verdict}
 
 -- a fault of the meaning
 abbrev pub faultOf : meant.Fault → Fault
-faultOf f = record { code = f .code; field = f .field }
+faultOf f = record { code = f .code; field = f .field; place = f .place }
 
--- no fault is two zeros
+-- no fault is three zeros
 abbrev pub noFaultAt : Fault
 noFaultAt = faultOf (meant.ofLine 0)
 
 -- the fault that is meant
 abbrev pub faultMeant : Fault → meant.Fault
-faultMeant f = record { code = f .code; field = f .field }
+faultMeant f = record { code = f .code; field = f .field; place = f .place }
 
 -- a refusal of the meaning
 abbrev pub refusalOf : meant.Refusal → Refusal
-refusalOf r = record { code = r .code; line = r .line; field = r .field }
+refusalOf r = record { code = r .code; line = r .line; field = r .field; place = r .place }
 
 -- the refusal that is meant
 abbrev pub refusalMeant : Refusal → meant.Refusal
-refusalMeant r = record { code = r .code; line = r .line; field = r .field }
+refusalMeant r = record { code = r .code; line = r .line; field = r .field; place = r .place }
 
 -- ---- numbers
 
@@ -39,15 +39,15 @@ countsOf i u d = record { inserts = i; updates = u; deletes = d }
 
 -- the numbers of the meaning
 abbrev pub answerOf : Numbers → Answer
-answerOf n = record { code = n .code; line = n .line; field = n .field; inserts = n .inserts; updates = n .updates; deletes = n .deletes }
+answerOf n = record { code = n .code; line = n .line; field = n .field; inserts = n .inserts; updates = n .updates; deletes = n .deletes; place = n .place }
 
 -- the numbers that are meant
 abbrev pub numbersMeant : Answer → Numbers
-numbersMeant a = record { code = a .code; line = a .line; field = a .field; inserts = a .inserts; updates = a .updates; deletes = a .deletes }
+numbersMeant a = record { code = a .code; line = a .line; field = a .field; inserts = a .inserts; updates = a .updates; deletes = a .deletes; place = a .place }
 
 -- what an answer refuses
 abbrev pub refusalIn : Answer → Refusal
-refusalIn a = record { code = a .code; line = a .line; field = a .field }
+refusalIn a = record { code = a .code; line = a .line; field = a .field; place = a .place }
 
 -- the three numbers of the meaning
 abbrev pub verdictOf : Three → Verdict

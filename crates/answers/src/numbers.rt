@@ -5,7 +5,7 @@ ghost use Rattle.answers.specs.Meant.{countsOf, refusalMeant, refusalIn,
 use crate::codes::ALL_DONE;
 use crate::refusal::Refusal;
 
-// Code, line, field, and the body lines with I, U and D.
+// Code, line, field, the body lines with I, U and D, and the place.
 pub struct Answer {
     pub code: u64,
     pub line: u64,
@@ -13,11 +13,12 @@ pub struct Answer {
     pub inserts: u64,
     pub updates: u64,
     pub deletes: u64,
+    pub place: u64,
 }
 
 impl Answer {
     // How many numbers there are.
-    pub const NUMBERS: usize = 6;
+    pub const NUMBERS: usize = 7;
 }
 
 // Code, line, field.
@@ -38,6 +39,7 @@ pub fn taken(inserts: u64, updates: u64, deletes: u64) -> Answer
         inserts,
         updates,
         deletes,
+        place: 0,
     }
 }
 
@@ -52,6 +54,7 @@ pub fn refused(refusal: Refusal) -> Answer
         inserts: 0,
         updates: 0,
         deletes: 0,
+        place: refusal.place,
     }
 }
 
@@ -66,6 +69,7 @@ pub fn in_order(answer: Answer) -> [u64; Answer::NUMBERS]
         answer.inserts,
         answer.updates,
         answer.deletes,
+        answer.place,
     ]
 }
 
@@ -77,6 +81,7 @@ pub fn refusal_in(answer: Answer) -> Refusal
         code: answer.code,
         line: answer.line,
         field: answer.field,
+        place: answer.place,
     }
 }
 

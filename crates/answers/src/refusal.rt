@@ -1,13 +1,14 @@
 // What is wrong with a line, and a refusal: a fault at a line.
 ghost use mathlib.Core.Path.{_≡_};
-ghost use Rattle.meaning.specs.Answers.{ofLine, ofField, atLine, alone};
+ghost use Rattle.meaning.specs.Answers.{ofLine, ofField, ofByte, atLine, alone};
 ghost use Rattle.answers.specs.Meant.{faultOf, faultMeant, noFaultAt, refusalOf};
 use crate::codes::ALL_DONE;
 
-// A line's first fault: its code and its field, or two zeros.
+// A line's first fault: its code, its field and the place in that field, or three zeros.
 pub struct Fault {
     pub code: u64,
     pub field: u64,
+    pub place: u64,
 }
 
 impl Fault {
@@ -15,32 +16,37 @@ impl Fault {
     pub fn none() -> Fault
         ensures { λ r. ⌜ r ≡ noFaultAt ⌝ }
     {
-        Fault {
-            code: ALL_DONE,
-            field: 0,
-        }
+        Self::of_line(ALL_DONE)
     }
 
     // A fault of no one field.
     pub fn of_line(code: u64) -> Fault
         ensures { λ r. ⌜ r ≡ faultOf (ofLine code) ⌝ }
     {
-        Fault { code, field: 0 }
+        Self::of_field(code, 0)
     }
 
     // A fault of one field.
     pub fn of_field(code: u64, field: u64) -> Fault
         ensures { λ r. ⌜ r ≡ faultOf (ofField code field) ⌝ }
     {
-        Fault { code, field }
+        Self::of_byte(code, field, 0)
+    }
+
+    // A fault of one byte of a field.
+    pub fn of_byte(code: u64, field: u64, place: u64) -> Fault
+        ensures { λ r. ⌜ r ≡ faultOf (ofByte code field place) ⌝ }
+    {
+        Fault { code, field, place }
     }
 }
 
-// Code, line and field of what is refused.
+// Code, line, field and place of what is refused.
 pub struct Refusal {
     pub code: u64,
     pub line: u64,
     pub field: u64,
+    pub place: u64,
 }
 
 impl Refusal {
@@ -52,6 +58,7 @@ impl Refusal {
             code: fault.code,
             line,
             field: fault.field,
+            place: fault.place,
         }
     }
 

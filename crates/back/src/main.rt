@@ -18,7 +18,7 @@ const ROOM: usize = 16384;
 // The bytes of a change file's name.
 const NAME: usize = 5;
 
-// Six numbers, after what they are of.
+// The numbers of an answer, after what they are of.
 fn say_answer(what: &[u8], a: Answer) {
     say(what);
     say_numbers(a);

@@ -13,11 +13,11 @@ empty line = record {
   room = 2;
   undoRoom = 3;
   space = 1;
-  fileWants = 3 ∷ line ∷ 0 ∷ 0 ∷ 0 ∷ 0 ∷ [];
+  fileWants = 3 ∷ line ∷ 0 ∷ 0 ∷ 0 ∷ 0 ∷ 0 ∷ [];
   heldWants = 0 ∷ 0 ∷ 0 ∷ [];
-  applyWants = 3 ∷ 1 ∷ 0 ∷ 0 ∷ 0 ∷ 0 ∷ [];
+  applyWants = 3 ∷ 1 ∷ 0 ∷ 0 ∷ 0 ∷ 0 ∷ 0 ∷ [];
   output = [];
-  undoWants = 3 ∷ 1 ∷ 0 ∷ 0 ∷ 0 ∷ 0 ∷ [];
+  undoWants = 3 ∷ 1 ∷ 0 ∷ 0 ∷ 0 ∷ 0 ∷ 0 ∷ [];
   undoOutput = [];
 }
 

@@ -1,4 +1,4 @@
--- Demand 1: each refusal has a number, a line and a field, and the output then holds nothing but zeros.
+-- Demand 1: each refusal has a number, a line and a field, and by paper 02, request 01, 5 has a place; and the output then holds nothing but zeros.
 -- That every input is met without a fault, and that each operation finishes, is no theorem: it is what a proved function without `requires` is.
 use mathlib.Core.Path.{_≡_, sym, ap, _∙_}
 use mathlib.Core.List.{List, []}
@@ -12,7 +12,7 @@ use Rattle.meaning.specs.Load.{thenZeros, checkFile, checkHolding}
 use Rattle.meaning.specs.Enquiries.{Found, find, inForce, fieldOf}
 use Rattle.meaning.specs.Answers.{Three}
 use Rattle.meaning.specs.Undo.{undoBytes}
-use Rattle.laws.specs.Rows.{Row, given, checkRows, holdingRows, applyRows, undoRows, findRows, forceRows, fieldRows, FoundIn, check-given, holding-given, apply-given, undo-given, find-given, force-given, field-given}
+use Rattle.laws.specs.Rows.{Row, given, pointed, checkRows, holdingRows, applyRows, undoRows, findRows, forceRows, fieldRows, FoundIn, check-given, holding-given, apply-given, undo-given, find-given, force-given, field-given, check-pointed, apply-pointed, undo-pointed}
 use Rattle.laws.specs.Checks.{refused-counts}
 use Rattle.laws.specs.Demand2.{refused-zeros}
 use Rattle.laws.specs.Demand3.{undo-done}
@@ -60,15 +60,15 @@ check-refused file r e n =
     let z = refused-counts scottish file (λ c. n (ap (λ x. x .code) e ∙ c)) in
     (ap (λ x. x .inserts) e ∙ z .0, ap (λ x. x .updates) e ∙ z .1, ap (λ x. x .deletes) e ∙ z .2)
 
--- ---- each refusal has a number, a line and a field
+-- ---- each refusal has a number, a line and a field, and 5 a place
 
--- the numbers stand in these rows of paper 01's table
+-- the numbers stand in these rows of paper 01's table, and a place stands beside 5 alone
 abbrev pub InTable : List Row → Answer → Type 0
-InTable rows r = T (given rows (r .code) (r .line) (r .field))
+InTable rows r = T (given rows (r .code) (r .line) (r .field)) × T (pointed (r .code) (r .place))
 
 -- check a file
 pub check-file-numbers : (file : List ℕ) (r : Answer) → r ≡ answerOf (checkFile scottish file) → InTable (checkRows scottish file) r
-check-file-numbers file r e = rw e (check-given scottish scottish-regular file)
+check-file-numbers file r e = rw e (check-given scottish scottish-regular file, check-pointed scottish file)
 
 -- check a holding
 pub check-holding-numbers : (old : List ℕ) (v : Verdict) → v ≡ verdictOf (checkHolding scottish old) → T (given (holdingRows old) (v .code) (v .line) (v .field))
@@ -76,11 +76,11 @@ check-holding-numbers old v e = rw e (holding-given scottish old)
 
 -- apply
 pub apply-numbers : (old file : List ℕ) (room : ℕ) (r : Answer) (out : List ℕ) → Outcome old file room r out → InTable (applyRows scottish old file) r
-apply-numbers old file room r out o = rw (o .0) (apply-given scottish scottish-regular old file room)
+apply-numbers old file room r out o = rw (o .0) (apply-given scottish scottish-regular old file room, apply-pointed scottish scottish-regular old file room)
 
 -- undo
 pub undo-numbers : (old file : List ℕ) (room space : ℕ) (r : Answer) (out work : List ℕ) → UndoOutcome old file room space r out work → InTable (undoRows scottish old file) r
-undo-numbers old file room space r out work o = rw (o .0) (undo-given scottish scottish-regular old file room space)
+undo-numbers old file room space r out work o = rw (o .0) (undo-given scottish scottish-regular old file room space, undo-pointed scottish scottish-regular old file room space)
 
 -- an enquiry's three numbers stand in these rows, and a refusal hands back an empty part
 pub record Told (rows : List Row) (answer part : List ℕ) : Type 0 where

@@ -3,6 +3,7 @@ use mathlib.Core.Path.{_≡_, refl, sym, ap, _∙_}
 use mathlib.Core.Logic.{_↔_}
 use mathlib.Core.List.{List}
 use Prim.Native.Nat.{ℕ, _≤_, _<_}
+use native.Mathlib.Omega.{arith}
 use lib.Dec.{T}
 use lib.ListN.{length}
 use Rattle.base.specs.Lists.{zeros}
@@ -16,20 +17,21 @@ use Rattle.meaning.specs.Holding.{written}
 use Rattle.meaning.specs.Load.{thenZeros, checkFile, undoFile}
 use Rattle.meaning.specs.Steps.{fits}
 use Rattle.meaning.specs.Undo.{undoBytes}
-use Rattle.meaning.specs.Codes.{holdingTooLong, holdingUnsound, undoTooLong}
+use Rattle.meaning.specs.Codes.{fieldMalformed, holdingTooLong, holdingUnsound, undoTooLong}
 use Rattle.laws.specs.SoundHolding.{SoundHolding}
 use Rattle.laws.specs.SoundFile.{sound-read}
 use Rattle.laws.specs.Rows.{applyRows, undoRows}
 use Rattle.laws.specs.Checks.{SomeHolding}
 use Rattle.laws.specs.Demand2.{Allowed, afterAll, Lawful, Roomy}
 use Rattle.laws.specs.Demand3.{undo-done}
-use Rattle.laws.specs.WhyLoad.{Numbered, Unsound, Faulty, BothSound, Reason, badFile, apply-why, why-apply, apply-14, apply-start, apply-13, undo-why, why-undo, undo-14, undo-start, undo-13, undo-0, undo-17, undo-body}
+use Rattle.laws.specs.WhyLoad.{reason-five, Located, Unsound, Faulty, BothSound, Reason, badFile, apply-why, why-apply, apply-14, apply-start, apply-13, undo-why, why-undo, undo-14, undo-start, undo-13, undo-0, undo-17, undo-body}
 use Rattle.laws.specs.Scottish.{scottish-regular}
 use Rattle.answers.specs.Meant.{answerOf}
 use Rattle.answers.specs.declared.numbers.Answer.{Answer}
 use Rattle.apply.specs.Outcome.{Outcome}
 use Rattle.undo.specs.Outcome.{UndoOutcome}
 use Rattle.claims.specs.Demand1.{Nothing, InTable, apply-refused, undo-refused, undo-filled, work-is-zeros, apply-numbers, undo-numbers}
+use Rattle.claims.specs.CheckClaims.{FiveClaims, file-claims}
 use Rattle.claims.specs.Demand2.{taken-if, taken-only, new-holding, counted}
 use Rattle.claims.specs.Demand3.{changes}
 
@@ -38,15 +40,26 @@ use Rattle.claims.specs.Demand3.{changes}
 -- the numbers of a file over a holding, where they aren't 0 and, for undo, not 17
 pub record WhyRefused (old file : List ℕ) (room : ℕ) (r : Answer) : Type 0 where
   -- where there is a reason, the numbers are its
-  pub exactly : (c l f : ℕ) → Reason scottish room old file c l f → Numbered (r .code) (r .line) (r .field) c l f
+  pub exactly : (c l f p : ℕ) → Reason scottish room old file c l f p → Located (r .code) (r .line) (r .field) (r .place) c l f p
   -- 14 exactly if the holding is unsound
   pub unsound : (r .code ≡ holdingUnsound) ↔ Unsound scottish old
   -- with a sound holding and a faulty file, the numbers of check_file
-  pub faulty : SomeHolding scottish old → Faulty scottish file → Numbered (r .code) (r .line) (r .field) (checkFile scottish file .code) (checkFile scottish file .line) (checkFile scottish file .field)
+  pub faulty : SomeHolding scottish old → Faulty scottish file
+      → Located (r .code) (r .line) (r .field) (r .place) (checkFile scottish file .code) (checkFile scottish file .line) (checkFile scottish file .field) (checkFile scottish file .place)
+  -- 5 is the file's: it names a malformed field, and the place in it
+  pub five : r .code ≡ fieldMalformed → FiveClaims file (r .line) (r .field) (r .place)
   -- with both sound, 13 at line 0 exactly if the holding doesn't fit at the start
   pub start : (m : BothSound scottish old file) → ((r .code ≡ holdingTooLong) × (r .line ≡ 0)) ↔ (T (fits room (m .st)) → ⊥)
   -- with every line and every step lawful, 13 exactly if not every state of the holding fits, the first and those after each step
   pub roomless : (st : List Rec) → SoundHolding scottish old st → Lawful scottish st file → (r .code ≡ holdingTooLong) ↔ (Roomy scottish room st file → ⊥)
+
+-- what is refused with 5 is told as check_file tells it
+five-told : (old file : List ℕ) (room : ℕ) (r : Answer) → Reason scottish room old file (r .code) (r .line) (r .field) (r .place) → r .code ≡ fieldMalformed
+    → FiveClaims file (r .line) (r .field) (r .place)
+five-told old file room r w e =
+    let d = reason-five scottish room old file (r .code) (r .line) (r .field) (r .place) w e in
+    let c = file-claims file (answerOf (checkFile scottish file)) refl in
+    rw (d .0 .1, d .0 .2, d .1) (c .five (sym (d .0 .0) ∙ e))
 
 -- ---- apply
 
@@ -54,7 +67,7 @@ pub record WhyRefused (old file : List ℕ) (room : ℕ) (r : Answer) : Type 0 w
 pub record ApplyClaims (old file : List ℕ) (room : ℕ) (r : Answer) (out : List ℕ) : Type 0 where
   -- the definition's numbers and bytes, and so one outcome only
   pub outcome : Outcome old file room r out
-  -- demand 1: a row of paper 01's table
+  -- demand 1: a row of paper 01's table, and a place beside 5 alone
   pub tabled : InTable (applyRows scottish old file) r
   -- and on refusal zeros, and nothing counted
   pub refused : (r .code ≡ 0 → ⊥) → Nothing room r out
@@ -67,7 +80,7 @@ pub record ApplyClaims (old file : List ℕ) (room : ℕ) (r : Answer) (out : Li
   -- each counted in the answer
   pub counts : (a : Allowed scottish old file room) → (r .inserts ≡ count ins (a .cs)) × (r .updates ≡ count upd (a .cs)) × (r .deletes ≡ count del (a .cs))
   -- a refusal has a reason
-  pub why : (r .code ≡ 0 → ⊥) → Reason scottish room old file (r .code) (r .line) (r .field)
+  pub why : (r .code ≡ 0 → ⊥) → Reason scottish room old file (r .code) (r .line) (r .field) (r .place)
   -- and each code is given exactly then
   pub whys : WhyRefused old file room r
 
@@ -83,9 +96,10 @@ apply-claims old file room r out o = record {
   counts = counted old file room r out o;
   why = λ n. rw (o .0) (apply-why scottish scottish-regular old file room (λ e. n (ap (λ x. x .code) (o .0) ∙ e)));
   whys = record {
-    exactly = λ c l f w. rw (o .0) (why-apply scottish scottish-regular old file room c l f w);
+    exactly = λ c l f p w. rw (o .0) (why-apply scottish scottish-regular old file room c l f p w);
     unsound = rw (o .0) (apply-14 scottish scottish-regular old file room);
-    faulty = λ h n. rw (o .0) (why-apply scottish scottish-regular old file room _ _ _ (badFile h n (refl, refl, refl)));
+    faulty = λ h n. rw (o .0) (why-apply scottish scottish-regular old file room _ _ _ _ (badFile h n ((refl, refl, refl), refl)));
+    five = λ e. five-told old file room r (rw (o .0) (apply-why scottish scottish-regular old file room (λ z. omega (arith, e, ap (λ x. x .code) (o .0), z)))) e;
     start = λ m. rw (o .0) (apply-start scottish scottish-regular old file room m);
     roomless = λ st h l. rw (o .0) (apply-13 scottish scottish-regular old file room st h l);
   };
@@ -97,7 +111,7 @@ apply-claims old file room r out o = record {
 pub record UndoClaims (old file : List ℕ) (room space : ℕ) (r : Answer) (out work : List ℕ) : Type 0 where
   -- the definition's numbers and bytes, and so one outcome only
   pub outcome : UndoOutcome old file room space r out work
-  -- demand 1: a row of paper 01's table
+  -- demand 1: a row of paper 01's table, and a place beside 5 alone
   pub tabled : InTable (undoRows scottish old file) r
   -- on refusal zeros, and nothing counted
   pub refused : (r .code ≡ 0 → ⊥) → Nothing room r out
@@ -114,7 +128,7 @@ pub record UndoClaims (old file : List ℕ) (room space : ℕ) (r : Answer) (out
   -- which is the file's own header, metadata and trailer around the steps taken backwards, numbered from 1
   pub body : (m : BothSound scottish old file) → undoBytes scottish old file ≡ writeFile (m .fr) (undo (after (keyed scottish)) (back (keyed scottish)) (m .st) (m .cs))
   -- another refusal has a load's reason, with the work buffer's length for 13
-  pub why : (r .code ≡ 0 → ⊥) → (r .code ≡ undoTooLong → ⊥) → Reason scottish space old file (r .code) (r .line) (r .field)
+  pub why : (r .code ≡ 0 → ⊥) → (r .code ≡ undoTooLong → ⊥) → Reason scottish space old file (r .code) (r .line) (r .field) (r .place)
   -- and each code is given exactly then
   pub whys : WhyRefused old file space r
 
@@ -140,9 +154,10 @@ undo-claims old file room space r out work o = record {
   body = undo-body scottish scottish-regular old file;
   why = λ n k. let e = ap (λ x. x .code) (o .0) in rw (o .0) (undo-why scottish scottish-regular old file room space (λ z. n (e ∙ z)) (λ z. k (e ∙ z)));
   whys = record {
-    exactly = λ c l f w. rw (o .0) (why-undo scottish scottish-regular old file room space c l f w);
+    exactly = λ c l f p w. rw (o .0) (why-undo scottish scottish-regular old file room space c l f p w);
     unsound = rw (o .0) (undo-14 scottish scottish-regular old file room space);
-    faulty = λ h n. rw (o .0) (why-undo scottish scottish-regular old file room space _ _ _ (badFile h n (refl, refl, refl)));
+    faulty = λ h n. rw (o .0) (why-undo scottish scottish-regular old file room space _ _ _ _ (badFile h n ((refl, refl, refl), refl)));
+    five = λ e. five-told old file space r (let q = ap (λ x. x .code) (o .0) in rw (o .0) (undo-why scottish scottish-regular old file room space (λ z. omega (arith, e, q, z)) (λ z. omega (arith, e, q, z)))) e;
     start = λ m. rw (o .0) (undo-start scottish scottish-regular old file room space m);
     roomless = λ st h l. rw (o .0) (undo-13 scottish scottish-regular old file room space st h l);
   };

@@ -7,7 +7,7 @@ use lib.Dec.{T, eqb}
 use lib.ListN.{length}
 use Rattle.base.specs.Lists.{all, zeros}
 use Rattle.meaning.specs.Load.{thenZeros}
-use Rattle.meaning.specs.Examples.{claims, paper-lines, lines, taken, oldIs, changeIs, newIs, undoIs, worked-example, printed-whole}
+use Rattle.meaning.specs.Examples.{claims, paper-lines, places, place-lines, lines, taken, oldIs, changeIs, newIs, undoIs, worked-example, printed-whole}
 use Rattle.text.specs.Front.{inFront}
 use Rattle.answers.specs.Meant.{answerOf}
 use Rattle.answers.specs.declared.numbers.Answer.{Answer}
@@ -18,6 +18,10 @@ use Rattle.program.specs.Outcome.{PrintOutcome}
 -- the lines marked [p]: each is answered as the paper says
 pub p-table : T (all (λ c. eqb (c .answer) (c .wanted)) claims)
 p-table = paper-lines
+
+-- places of fields, as paper 02's request 01 is read
+pub place-table : T (all (λ c. eqb (c .answer) (c .wanted)) places)
+place-table = place-lines
 
 -- the paper's file over the paper's holding: taken, with one insert and one update, and the new holding is the paper's
 pub worked : (r : Answer) (out : List ℕ) → Outcome oldIs changeIs 200 r out → (r ≡ answerOf (taken 1 1 0)) × (out ≡ thenZeros 200 newIs)
@@ -36,5 +40,5 @@ worked-back r out o = let w = worked-example .2 in (o .0 ∙ ap (λ x. answerOf 
 
 -- printed whole
 pub printed : (before after : List ℕ) (n : ℕ) → PrintOutcome true oldIs true changeIs before n after
-    → (n ≡ length (lines ("0,0,0,1,1,0" ∷ []) ++ newIs)) × (after ≡ inFront (lines ("0,0,0,1,1,0" ∷ []) ++ newIs) before)
+    → (n ≡ length (lines ("0,0,0,1,1,0,0" ∷ []) ++ newIs)) × (after ≡ inFront (lines ("0,0,0,1,1,0,0" ∷ []) ++ newIs) before)
 printed before after n o = let w = printed-whole .0 in (o .0 ∙ ap length w, o .1 ∙ ap (λ x. inFront x before) w)

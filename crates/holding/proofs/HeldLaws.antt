@@ -8,7 +8,6 @@ use native.Mathlib.Nat.{sub-zero}
 use native.Mathlib.Omega.{arith}
 use borrow.Author.Needs.{needs}
 use borrow.Author.Tests.{not-true, not-false}
-use lib.Dec.{eqb}
 use lib.ListN.{length, getD, take, drop}
 use Rattle.base.specs.Lists.{pick, ask, same, keepIf, bytes}
 use Rattle.theory.specs.Decimal.{dec, width}
@@ -18,7 +17,7 @@ use Rattle.meaning.specs.Lines.{Line, endsWell, fieldsOf, identifier, hasFields
 use Rattle.meaning.specs.Kinds.{Kind, role}
 use Rattle.meaning.specs.Format.{kindOf, named, fieldNumber, startDate, endDate}
 use Rattle.meaning.specs.Table.{fields, scottish}
-use Rattle.meaning.specs.Codes.{fieldCountWrong, fieldMalformed, endBeforeStart}
+use Rattle.meaning.specs.Codes.{fieldCountWrong, endBeforeStart}
 use Rattle.meaning.specs.Answers as meant
 use Rattle.meaning.specs.Answers.{ofLine, ofField}
 use Rattle.meaning.specs.Sound.{datesAgree, fieldFault, formFault}
@@ -32,8 +31,8 @@ use Rattle.layout.specs.declared.kinds.KindFound.{KindFound}
 use Rattle.layout.specs.declared.kinds.KindFound.the-variants.{Known, Unknown}
 use Rattle.layout.specs.Meant.{kindMeant, kindFound}
 use Rattle.layout.specs.Rows.{bare}
-use Rattle.layout.specs.Check.{lowestBad, told}
-use Rattle.layout.proofs.CheckLaws.{forms-is}
+use Rattle.layout.specs.Check.{lowestBad, firstOf, told}
+use Rattle.layout.proofs.CheckLaws.{forms-is, bad-coded}
 use Rattle.holding.specs.Held.{heldKindAs, heldAs, recordAs}
 
 -- ---- the line's own number
@@ -56,16 +55,16 @@ no-code : (k : Kind) (t : List ℕ) (f : Fault) → f ≡ told (formFault scotti
 unfolding formFault fieldFault
 no-code k t f e z =
     let u : told (formFault scottish k t none) .code ≡ 0 = sym (ap (λ x. x .code) e) ∙ z in
-    let n : ℕ = lowestBad 1 (map bare (fields k)) (fieldsOf t) in
-    rw (forms-is 0 (fields k) (fieldsOf t) _)
-    (go (hasFields (length (fields k)) t) (eqb n 0) (datesAgree (named startDate (fields k) (fieldsOf t)) (named endDate (fields k) (fieldsOf t))) (fieldNumber 1 endDate (fields k)) n
-    (rw (forms-is 0 (fields k) (fieldsOf t) _) at u))
+    rw (forms-is 1 (fields k) (fieldsOf t) _)
+    (go (hasFields (length (fields k)) t) (lowestBad 1 (map bare (fields k)) (fieldsOf t)) (bad-coded 1 (map bare (fields k)) (fieldsOf t)) (datesAgree (named startDate (fields k) (fieldsOf t)) (named endDate (fields k) (fieldsOf t))) (fieldNumber 1 endDate (fields k))
+    (rw (forms-is 1 (fields k) (fieldsOf t) _) at u))
   where
-    go : (a b c : Bool) (x y : ℕ) → told (ask {A = meant.Fault} a (ofLine fieldCountWrong) (pick b (ask c (ofField endBeforeStart x) none) (some (ofField fieldMalformed y)))) .code ≡ 0 → isSound (ask a (ofLine fieldCountWrong) (pick b (ask c (ofField endBeforeStart x) none) (some (ofField fieldMalformed y)))) ≡ true
-    go true true true x y z = unfold ask isSound in refl
-    go true true false x y z = unfold ask isSound in absurd (omega (arith, z))
-    go true false c x y z = unfold ask isSound in absurd (omega (arith, z))
-    go false b c x y z = unfold ask isSound in absurd (omega (arith, z))
+    go : (a : Bool) (b : Option meant.Fault) → (told b .code ≡ 0 → b ≡ none) → (c : Bool) (x : ℕ) → told (ask {A = meant.Fault} a (ofLine fieldCountWrong) (firstOf b (ask c (ofField endBeforeStart x) none))) .code ≡ 0
+        → isSound (ask a (ofLine fieldCountWrong) (firstOf b (ask c (ofField endBeforeStart x) none))) ≡ true
+    go true none h true x z = unfold ask isSound in refl
+    go true none h false x z = unfold ask isSound in absurd (omega (arith, z))
+    go true (some g) h c x z = let u : _≡_ {A = Option meant.Fault} (some g) none = h (unfold ask in z) in cc
+    go false b h c x z = unfold ask isSound in absurd (omega (arith, z))
 
 -- one with a code has one
 some-code : (k : Kind) (t : List ℕ) (f : Fault) → f ≡ told (formFault scottish k t none) → (f .code ≡ 0 → ⊥) → isSound (formFault scottish k t none) ≡ false

@@ -145,7 +145,7 @@ module _ (F : Format) where
 
   on-shaped : (i : ℕ) (t : List ℕ) (go : Kind → Stage → Read Sheet) → ((k : Kind) (q : Stage) → ReadShaped (go k q))
       → (j : Judged) → BadShaped j → ReadShaped (onLine i t j go)
-  unfolding onLine
+  unfolding onLine shaped
   on-shaped i t go h (bad f) b = b
   on-shaped i t go h (good k q) b = adds-shaped (role k) k t (go k q) (h k q)
 

@@ -1,4 +1,5 @@
 -- Paper 01, 'Numbers given back': the codes that each operation can give, with the line and the field that go with each; and that it gives no others.
+-- Paper 02, request 01: a place stands beside 5 alone.
 use mathlib.Core.Path.{_≡_, refl, ap, _∙_}
 use mathlib.Core.Bool.{Bool, true, false, _&&_, _||_}
 use mathlib.Core.Option.{Option, none, some}
@@ -6,7 +7,7 @@ use mathlib.Core.List.{List, [], _∷_, _++_}
 use Prim.Native.Nat.{ℕ, suc, _+_, _-_, _≤_, _<_}
 use native.Mathlib.Decide.{decLe}
 use native.Mathlib.Omega.{arith}
-use lib.Dec.{T, leb, eqb, le→leb}
+use lib.Dec.{T, leb, eqb, eqb→eq, le→leb}
 use lib.ListN.{length, length-append, getD, take}
 use Rattle.base.specs.Lists.{pick}
 use Rattle.base.specs.Tests.{and-in, T-true, or-l, or-r}
@@ -14,11 +15,13 @@ use Rattle.theory.specs.Decimal.{value}
 use Rattle.theory.specs.Step.{Op, ins, upd, del, Change}
 use Rattle.theory.specs.Run.{Out, done, stop, run}
 use Rattle.theory.specs.Answer.{fault, file, took, refused}
-use Rattle.meaning.specs.Lines.{linesOf, fieldsOf, oddQuotes}
+use Rattle.meaning.specs.Lines.{Line, linesOf, fieldsOf, oddQuotes}
 use Rattle.meaning.specs.Kinds.{Kind, ident, numberedAmong}
-use Rattle.meaning.specs.Format.{Format}
+use Rattle.meaning.specs.Format.{Format, Field}
+use Rattle.meaning.specs.Place.{place, placeAs}
+use Rattle.meaning.specs.Sound.{soundField, placeIn}
 use Rattle.meaning.specs.Records.{Rec, keyed}
-use Rattle.meaning.specs.File.{Sheet, readFile}
+use Rattle.meaning.specs.File.{Stage, atStart, Sheet, readFrom, readFile}
 use Rattle.meaning.specs.Holding.{Held, sound, unsound, readHolding}
 use Rattle.meaning.specs.Load.{outcome, fromStart, onFile, onHolding, load, checked, checkFile, heldNumbers, checkHolding, applied, apply, Undone, undone, undoFile}
 use Rattle.meaning.specs.Enquiries.{Found, refusal, spanned, partOf, heldAt, heldPart, findIn, findKind, find, lastNaming, unlessDeleted, inForcePart, inForceFile, inForceHeld, inForceKind, inForce, fieldPart, fieldIn, fieldOf, first, second}
@@ -34,6 +37,10 @@ use Rattle.laws.specs.FileRefusals.{endNumber, shaped, ReadShaped, file-
 use Rattle.laws.specs.FirstFault.{FaultAt, file-fault-at}
 use Rattle.laws.specs.HoldingRefusals.{HeldAt, holding-fault-at}
 use Rattle.laws.specs.LoadRefusals.{stepCodes, OutIn, run-in}
+use Rattle.laws.specs.StepFails.{no-true}
+use Rattle.laws.specs.LineFails.{LineFails, ending, unknown, misplaced, tooMany, miscounted, malformed, misdated, misnumbered, mistold, lowest-within}
+use Rattle.laws.specs.WhyLoad.{Reason, badHolding, badFile, noStart, badStep, LoadSays, load-says, step-code}
+use Rattle.laws.specs.WhyFile.{faultAt, atItsEnd, ReadFails, read-fails}
 
 -- ---- rows
 
@@ -126,6 +133,31 @@ refusal-in : (rs : List Row) (r : Refusal) → T (given rs (r .code) (r .line) (
 unfolding refusal
 refusal-in rs r t = record { numbers = t; empty = λ n. refl }
 
+-- whatever holds of each of two answers of undo holds of the one that is picked
+either : (P : Numbers → Type 0) (c : Bool) (x y : Undone) → P (x .answer) → P (y .answer) → P (pick c x y .answer)
+either P true x y p q = p
+either P false x y p q = q
+
+-- ---- a place
+
+-- 5 has a place, and no other code has
+unfoldable pub pointed : ℕ → ℕ → Bool
+pointed c p = pick (eqb c fieldMalformed) (leb 1 p) (eqb p 0)
+
+-- the numbers are so
+abbrev Pointed : Numbers → Type 0
+Pointed s = T (pointed (s .code) (s .place))
+
+-- beside another code the place is 0
+pub pointed-none : (c p : ℕ) → T (pointed c p) → (c ≡ fieldMalformed → ⊥) → p ≡ 0
+unfolding pointed
+pointed-none c p t n = eqb→eq p 0 (rw (no-true (eqb c fieldMalformed) (λ u. n (eqb→eq c fieldMalformed u))) at t)
+
+-- and 0 may stand there
+none-pointed : (c : ℕ) → (c ≡ fieldMalformed → ⊥) → T (pointed c 0)
+unfolding pointed
+none-pointed c n = rw (no-true (eqb c fieldMalformed) (λ u. n (eqb→eq c fieldMalformed u))) tt
+
 -- ---- one field of a line
 
 -- 0 or 19
@@ -171,7 +203,7 @@ unfoldable pub findRows : List ℕ → List Row
 findRows old = rows nought (allDone ∷ kindNotAsked ∷ keyAbsent ∷ []) ++ heldRows (length (linesOf old))
 
 module _ (F : Format) where
-  open Format F using (enquiries)
+  open Format F using (fields, enquiries)
 
   -- a file of n lines: a file that ends before its trailer gets 3 at the line after its last
   unfoldable pub fileRows : ℕ → List Row
@@ -272,6 +304,38 @@ module _ (F : Format) where
   unfolding forceRows
   more-in old b f i = record { numbers = given-l (findRows old) _ _ _ _ (i .numbers); empty = i .empty }
 
+  -- ---- a place: the file
+
+  -- a field that isn't sound has a place
+  has-place : (d : Field) (f : List ℕ) (p : ℕ) → (T (soundField F d f) → ⊥) → p ≡ placeIn F d f → 1 ≤ p
+  unfolding soundField placeIn placeAs place
+  has-place d f p n e = rw (e, no-true (soundField F d f) n) (omega arith)
+
+  -- a line that fails a test has a place with 5 alone
+  line-pointed : (p : Stage) (n : ℕ) (l : Line) (code field place : ℕ) → LineFails F p n l code field place → T (pointed code place)
+  unfolding pointed
+  line-pointed p n l code field place (ending w c f z) = rw (c, z) tt
+  line-pointed p n l code field place (unknown w i c f z) = rw (c, z) tt
+  line-pointed p n l code field place (misplaced k w i x c f z) = rw (c, z) tt
+  line-pointed p n l code field place (tooMany k s r c f z) = rw (c, z) tt
+  line-pointed p n l code field place (miscounted k s r h c f z) = rw (c, z) tt
+  line-pointed p n l code field place (malformed k s r h w c) =
+      let v = lowest-within F 1 (fields k) (fieldsOf (l .text)) field place w .2 in
+      rw c (le→leb 1 place (has-place _ _ place (v .0) (v .1)))
+  line-pointed p n l code field place (misdated k s r h w d c f z) = rw (c, z) tt
+  line-pointed p n l code field place (misnumbered k s w r d c f z) = rw (c, z) tt
+  line-pointed p n l code field place (mistold k s w r d c f z) = rw (c, z) tt
+
+  -- and so has the check of a file
+  pub check-pointed : (b : List ℕ) → Pointed (checkFile F b)
+  unfolding checkFile checked readFile pointed
+  check-pointed b = go (readFrom F 1 atStart 0 (linesOf b)) (read-fails F 1 atStart 0 (linesOf b))
+    where
+      go : (r : Read Sheet) → ReadFails F 1 atStart 0 (linesOf b) r → Pointed (checked r)
+      go (fault r) (faultAt w) = line-pointed (w .stage) (w .body) (w .here) (r .code) (r .field) (r .place) (w .fails)
+      go (fault r) (atItsEnd q m w u d) = rw (d .0 .0, d .1) tt
+      go (file s) w = tt
+
   module _ (regular : Regular F) where
     -- ---- the file
 
@@ -339,13 +403,37 @@ module _ (F : Format) where
     unfolding undoRows undoFile undone
     undo-given old b out space = go (load F space old b) (load-given space old b)
       where
-        either : (c : Bool) (x y : Undone) (rs : List Row) → NumbersIn rs (x .answer) → NumbersIn rs (y .answer) → NumbersIn rs (pick c x y .answer)
-        either true x y rs p q = p
-        either false x y rs p q = q
-
         go : (x : Answer) → RefusalIn (loadRows old b) x → NumbersIn (rows nought (allDone ∷ undoTooLong ∷ []) ++ loadRows old b) (undone out space (undoBytes F old b) x .answer)
-        go (took new n) t = either (leb (length (undoBytes F old b)) out) _ _ _ (unfold given in tt) (unfold given in tt)
+        go (took new n) t = either (NumbersIn _) (leb (length (undoBytes F old b)) out) _ _ (unfold given in tt) (unfold given in tt)
         go (refused r) t = given-r (rows nought (allDone ∷ undoTooLong ∷ [])) _ (r .code) (r .line) (r .field) t
+
+    -- ---- a place: apply and undo
+
+    -- what refuses a load has a place with 5 alone
+    reason-pointed : (room : ℕ) (old b : List ℕ) (c l f p : ℕ) → Reason F room old b c l f p → T (pointed c p)
+    unfolding pointed among
+    reason-pointed room old b c l f p (badHolding n d) = rw (d .0 .0, d .1) tt
+    reason-pointed room old b c l f p (badFile s n d) = rw (d .0 .0, d .1) (check-pointed b)
+    reason-pointed room old b c l f p (noStart m n d) = rw (d .0 .0, d .1) tt
+    reason-pointed room old b c l f p (badStep m t r d z) = rw z (none-pointed c (λ e. rw e at (step-code F room _ _ c (r .refuses))))
+
+    -- and so has apply
+    pub apply-pointed : (old b : List ℕ) (room : ℕ) → Pointed (apply F old b room .answer)
+    unfolding apply applied pointed
+    apply-pointed old b room = go (load F room old b) (load-says F regular room old b)
+      where
+        go : (x : Answer) → LoadSays F room old b x → Pointed (applied room x .answer)
+        go (took new n) w = tt
+        go (refused r) w = reason-pointed room old b (r .code) (r .line) (r .field) (r .place) w
+
+    -- and undo
+    pub undo-pointed : (old b : List ℕ) (out space : ℕ) → Pointed (undoFile F old b out space .answer)
+    unfolding undoFile undone pointed
+    undo-pointed old b out space = go (load F space old b) (load-says F regular space old b)
+      where
+        go : (x : Answer) → LoadSays F space old b x → Pointed (undone out space (undoBytes F old b) x .answer)
+        go (took new n) w = either Pointed (leb (length (undoBytes F old b)) out) _ _ tt tt
+        go (refused r) w = reason-pointed space old b (r .code) (r .line) (r .field) (r .place) w
 
     -- ---- the record in force
 

@@ -32,7 +32,7 @@ use Rattle.laws.specs.Checks.{SomeFile, SomeHolding, held-only}
 use Rattle.laws.specs.Demand2.{StepLawful, StepsAllowed, Allowed, Lawful, Roomy, allowed-takes, done-allowed, lawful-exactly}
 use Rattle.laws.specs.Demand3.{undo-only-17}
 use Rattle.laws.specs.StepFails.{no-true, false-no, FailsWith, atKey, tooMany, unmet, noRoom, FirstRefused, RunSays, run-says, refused-stops}
-use Rattle.meaning.specs.Codes.{holdingTooLong, holdingUnsound, undoTooLong, allDone}
+use Rattle.meaning.specs.Codes.{fieldMalformed, holdingTooLong, holdingUnsound, undoTooLong, allDone}
 
 -- ---- numbers
 
@@ -40,9 +40,13 @@ use Rattle.meaning.specs.Codes.{holdingTooLong, holdingUnsound, undoTooLong, al
 abbrev pub Numbered : ℕ → ℕ → ℕ → ℕ → ℕ → ℕ → Type 0
 Numbered code line field c l f = (code ≡ c) × (line ≡ l) × (field ≡ f)
 
+-- and so is the place
+abbrev pub Located : ℕ → ℕ → ℕ → ℕ → ℕ → ℕ → ℕ → ℕ → Type 0
+Located code line field place c l f p = Numbered code line field c l f × (place ≡ p)
+
 -- a refusal with those numbers
-abbrev RefusedWith : Answer → ℕ → ℕ → ℕ → Type 0
-RefusedWith x c l f = (r : Refusal) × (x ≡ refused r) × Numbered (r .code) (r .line) (r .field) c l f
+abbrev RefusedWith : Answer → ℕ → ℕ → ℕ → ℕ → Type 0
+RefusedWith x c l f p = (r : Refusal) × (x ≡ refused r) × Located (r .code) (r .line) (r .field) (r .place) c l f p
 
 -- ---- a holding or a file is one of two
 
@@ -77,27 +81,28 @@ module _ (F : Format) where
     pub lines : SoundFile F b fr cs
 
   -- why a file is refused over a holding with those numbers, where the holding may take `room` bytes: the four exclude one another
-  pub data Reason (room : ℕ) (old b : List ℕ) (code line field : ℕ) : Type 0 where
+  pub data Reason (room : ℕ) (old b : List ℕ) (code line field place : ℕ) : Type 0 where
     -- 14: the holding is unsound, and its check names the line
-    badHolding : Unsound old → Numbered code line field holdingUnsound (checkHolding F old .line) 0 → Reason room old b code line field
+    badHolding : Unsound old → Located code line field place holdingUnsound (checkHolding F old .line) 0 0 → Reason room old b code line field place
     -- the holding is sound and the file isn't: the numbers of its check
-    badFile : SomeHolding F old → Faulty b → Numbered code line field (checkFile F b .code) (checkFile F b .line) (checkFile F b .field) → Reason room old b code line field
+    badFile : SomeHolding F old → Faulty b → Located code line field place (checkFile F b .code) (checkFile F b .line) (checkFile F b .field) (checkFile F b .place)
+        → Reason room old b code line field place
     -- 13 at line 0: both are sound, and the holding is longer than its room before the first step
-    noStart : (m : BothSound old b) → (T (fits room (m .st)) → ⊥) → Numbered code line field holdingTooLong 0 0 → Reason room old b code line field
+    noStart : (m : BothSound old b) → (T (fits room (m .st)) → ⊥) → Located code line field place holdingTooLong 0 0 0 → Reason room old b code line field place
     -- there is room at the start, and a step is the first that is refused; the first body line stands on line 2
-    badStep : (m : BothSound old b) → T (fits room (m .st)) → FirstRefused F 2 room (m .st) (m .cs) line code → field ≡ 0 → Reason room old b code line field
+    badStep : (m : BothSound old b) → T (fits room (m .st)) → FirstRefused F 2 room (m .st) (m .cs) line code → field ≡ 0 → place ≡ 0 → Reason room old b code line field place
 
   -- what the end of a load says
-  abbrev LoadSays : ℕ → List ℕ → List ℕ → Answer → Type 0
+  abbrev pub LoadSays : ℕ → List ℕ → List ℕ → Answer → Type 0
   LoadSays room old b (took new n) = Allowed F old b room
-  LoadSays room old b (refused r) = Reason room old b (r .code) (r .line) (r .field)
+  LoadSays room old b (refused r) = Reason room old b (r .code) (r .line) (r .field) (r .place)
 
   -- a sound file is no fault, so a fault is no sound file
   pub fault-faulty : (b : List ℕ) (r : Refusal) → readFile F b ≡ fault r → Faulty b
   fault-faulty b r e s = subst IsFile (sym (sound-read F b (s .frame) (s .changes) (s .sounds)) ∙ e) tt
 
   -- a step's code is one of the steps'
-  step-code : (room : ℕ) (st : List Rec) (c : Change Rec) (w : ℕ) → FailsWith F room st c w → T (among w stepCodes)
+  pub step-code : (room : ℕ) (st : List Rec) (c : Change Rec) (w : ℕ) → FailsWith F room st c w → T (among w stepCodes)
   unfolding among
   step-code room st c w (atKey n e) = rw e (go (c .op))
     where
@@ -108,6 +113,15 @@ module _ (F : Format) where
   step-code room st c w (tooMany k n e) = rw e tt
   step-code room st c w (unmet k f n e) = rw e tt
   step-code room st c w (noRoom l n e) = rw e tt
+
+  -- 5 is the file's own
+  pub reason-five : (room : ℕ) (old b : List ℕ) (c l f p : ℕ) → Reason room old b c l f p → c ≡ fieldMalformed
+      → Located c l f p (checkFile F b .code) (checkFile F b .line) (checkFile F b .field) (checkFile F b .place)
+  unfolding among
+  reason-five room old b c l f p (badHolding n d) e = absurd (omega (arith, d .0 .0, e))
+  reason-five room old b c l f p (badFile s n d) e = d
+  reason-five room old b c l f p (noStart m n d) e = absurd (omega (arith, d .0 .0, e))
+  reason-five room old b c l f p (badStep m t r d z) e = absurd (rw e at (step-code room _ _ c (r .refuses)))
 
   -- ---- a step of a run that is lawful throughout
 
@@ -141,44 +155,44 @@ module _ (F : Format) where
     -- ---- the load
 
     -- a load takes only what is allowed, and refuses only for a reason
-    load-says : (room : ℕ) (old b : List ℕ) → LoadSays room old b (load F room old b)
+    pub load-says : (room : ℕ) (old b : List ℕ) → LoadSays room old b (load F room old b)
     unfolding load onHolding onFile fromStart outcome checkHolding heldNumbers checkFile checked
     load-says room old b = holds (readHolding F old) refl
       where
         ran : (m : BothSound old b) → T (fits room (m .st)) → (o : Out (List Rec)) → RunSays F 2 room (m .st) (m .cs) o → LoadSays room old b (outcome (m .cs) o)
         ran m t (done s) a = record { st = m .st; fr = m .fr; cs = m .cs; held = m .held; lines = m .lines; starts = t; steps = a }
-        ran m t (stop l w) r = badStep m t r refl
+        ran m t (stop l w) r = badStep m t r refl refl
 
         starts : (m : BothSound old b) (c : Bool) → fits room (m .st) ≡ c
             → LoadSays room old b (pick c (outcome (m .cs) (runSteps F room (m .st) (m .cs))) (refused (alone holdingTooLong)))
         starts m true e = ran m (rw e tt) (runSteps F room (m .st) (m .cs)) (run-says F 2 room (m .st) (m .cs))
-        starts m false e = noStart m (false-no _ e) (refl, refl, refl)
+        starts m false e = noStart m (false-no _ e) ((refl, refl, refl), refl)
 
         files : (st : List Rec) → SoundHolding F old st → (r : Read Sheet) → readFile F b ≡ r → LoadSays room old b (onFile F room st r)
-        files st h (fault r) e = badFile (record { state = st; sounds = h }) (fault-faulty b r e) (rw e, rw e, rw e)
+        files st h (fault r) e = badFile (record { state = st; sounds = h }) (fault-faulty b r e) ((rw e, rw e, rw e), rw e)
         files st h (file s) e = starts (record { st = st; fr = s .0; cs = s .1; held = h; lines = read-sound F b (s .0) (s .1) e }) (fits room st) refl
 
         holds : (h : Held) → readHolding F old ≡ h → LoadSays room old b (onHolding F room b h)
-        holds (unsound n) e = badHolding (unsound-is old n e) (refl, rw e, refl)
+        holds (unsound n) e = badHolding (unsound-is old n e) ((refl, rw e, refl), refl)
         holds (sound st) e = files st (held-is-sound F regular old st e) (readFile F b) refl
 
     -- for such a reason it refuses, with the reason's numbers
-    why-load : (room : ℕ) (old b : List ℕ) (c l f : ℕ) → Reason room old b c l f → RefusedWith (load F room old b) c l f
+    why-load : (room : ℕ) (old b : List ℕ) (c l f p : ℕ) → Reason room old b c l f p → RefusedWith (load F room old b) c l f p
     unfolding load onHolding onFile fromStart outcome checkHolding heldNumbers checkFile checked
-    why-load room old b c l f (badHolding n e) = go (readHolding F old) refl (e .1)
+    why-load room old b c l f p (badHolding n e) = go (readHolding F old) refl (e .0 .1)
       where
-        go : (h : Held) → readHolding F old ≡ h → l ≡ heldNumbers (readHolding F old) .line → RefusedWith (onHolding F room b h) c l f
+        go : (h : Held) → readHolding F old ≡ h → l ≡ heldNumbers (readHolding F old) .line → RefusedWith (onHolding F room b h) c l f p
         go (sound st) q d = absurd (n (record { state = st; sounds = held-is-sound F regular old st q }))
-        go (unsound m) q d = (_, refl, rw (e .0, e .2, d, q) (refl, refl, refl))
-    why-load room old b c l f (badFile s n e) = rw (sound-held F regular old (s .state) (s .sounds)) (go (readFile F b) refl)
+        go (unsound m) q d = (_, refl, rw (e .0 .0, e .0 .2, d, q, e .1) ((refl, refl, refl), refl))
+    why-load room old b c l f p (badFile s n e) = rw (sound-held F regular old (s .state) (s .sounds)) (go (readFile F b) refl)
       where
-        go : (r : Read Sheet) → readFile F b ≡ r → RefusedWith (onFile F room (s .state) r) c l f
-        go (fault r) q = (r, refl, rw (e .0, e .1, e .2, q) (refl, refl, refl))
+        go : (r : Read Sheet) → readFile F b ≡ r → RefusedWith (onFile F room (s .state) r) c l f p
+        go (fault r) q = (r, refl, rw (e .0 .0, e .0 .1, e .0 .2, e .1, q) ((refl, refl, refl), refl))
         go (file x) q = absurd (n (record { frame = x .0; changes = x .1; sounds = read-sound F b (x .0) (x .1) q }))
-    why-load room old b c l f (noStart m n e) =
-        rw (sound-held F regular old (m .st) (m .held), sound-read F b (m .fr) (m .cs) (m .lines), no-true (fits room (m .st)) n, e .0, e .1, e .2) (_, refl, (refl, refl, refl))
-    why-load room old b c l f (badStep m t r e) =
-        rw (sound-held F regular old (m .st) (m .held), sound-read F b (m .fr) (m .cs) (m .lines), T-true (fits room (m .st)) t, refused-stops F 2 room (m .st) (m .cs) l c r, e) (_, refl, (refl, refl, refl))
+    why-load room old b c l f p (noStart m n e) =
+        rw (sound-held F regular old (m .st) (m .held), sound-read F b (m .fr) (m .cs) (m .lines), no-true (fits room (m .st)) n, e .0 .0, e .0 .1, e .0 .2, e .1) (_, refl, ((refl, refl, refl), refl))
+    why-load room old b c l f p (badStep m t r e z) =
+        rw (sound-held F regular old (m .st) (m .held), sound-read F b (m .fr) (m .cs) (m .lines), T-true (fits room (m .st)) t, refused-stops F 2 room (m .st) (m .cs) l c r, e, z) (_, refl, ((refl, refl, refl), refl))
 
     -- ---- what each code says of its reason
 
@@ -191,26 +205,26 @@ module _ (F : Format) where
         go (file s) i e = omega (arith, e)
 
     -- 14: the holding is unsound
-    reason-14 : (room : ℕ) (old b : List ℕ) (c l f : ℕ) → Reason room old b c l f → c ≡ holdingUnsound → Unsound old
+    reason-14 : (room : ℕ) (old b : List ℕ) (c l f p : ℕ) → Reason room old b c l f p → c ≡ holdingUnsound → Unsound old
     unfolding among
-    reason-14 room old b c l f (badHolding n d) e = n
-    reason-14 room old b c l f (badFile s n d) e = absurd (check-code b (sym (d .0) ∙ e))
-    reason-14 room old b c l f (noStart m n d) e = absurd (omega (arith, d .0, e))
-    reason-14 room old b c l f (badStep m t r d) e = absurd (rw e at (step-code room _ _ c (r .refuses)))
+    reason-14 room old b c l f p (badHolding n d) e = n
+    reason-14 room old b c l f p (badFile s n d) e = absurd (check-code b (sym (d .0 .0) ∙ e))
+    reason-14 room old b c l f p (noStart m n d) e = absurd (omega (arith, d .0 .0, e))
+    reason-14 room old b c l f p (badStep m t r d y) e = absurd (rw e at (step-code room _ _ c (r .refuses)))
 
     -- line 0: the holding is longer than its room before the first step
-    reason-start : (room : ℕ) (old b : List ℕ) (c l f : ℕ) → Reason room old b c l f → l ≡ 0 → (m : BothSound old b) → T (fits room (m .st)) → ⊥
-    reason-start room old b c l f (badHolding n d) z m t = n (record { state = m .st; sounds = m .held })
-    reason-start room old b c l f (badFile s n d) z m t = n (record { frame = m .fr; changes = m .cs; sounds = m .lines })
-    reason-start room old b c l f (noStart w n d) z m t = n (subst (λ s. T (fits room s)) (same-both old b m w .0) t)
-    reason-start room old b c l f (badStep w u r d) z m t = omega (arith, r .own, z)
+    reason-start : (room : ℕ) (old b : List ℕ) (c l f p : ℕ) → Reason room old b c l f p → l ≡ 0 → (m : BothSound old b) → T (fits room (m .st)) → ⊥
+    reason-start room old b c l f p (badHolding n d) z m t = n (record { state = m .st; sounds = m .held })
+    reason-start room old b c l f p (badFile s n d) z m t = n (record { frame = m .fr; changes = m .cs; sounds = m .lines })
+    reason-start room old b c l f p (noStart w n d) z m t = n (subst (λ s. T (fits room s)) (same-both old b m w .0) t)
+    reason-start room old b c l f p (badStep w u r d y) z m t = omega (arith, r .own, z)
 
     -- where all is lawful: 13
-    reason-13 : (room : ℕ) (old b : List ℕ) (c l f : ℕ) → Reason room old b c l f → (st : List Rec) → SoundHolding F old st → Lawful F st b → c ≡ holdingTooLong
-    reason-13 room old b c l f (badHolding n d) st h w = absurd (n (record { state = st; sounds = h }))
-    reason-13 room old b c l f (badFile s n d) st h w = absurd (n (record { frame = w .fr; changes = w .cs; sounds = w .lines }))
-    reason-13 room old b c l f (noStart m n d) st h w = d .0
-    reason-13 room old b c l f (badStep m t r d) st h w =
+    reason-13 : (room : ℕ) (old b : List ℕ) (c l f p : ℕ) → Reason room old b c l f p → (st : List Rec) → SoundHolding F old st → Lawful F st b → c ≡ holdingTooLong
+    reason-13 room old b c l f p (badHolding n d) st h w = absurd (n (record { state = st; sounds = h }))
+    reason-13 room old b c l f p (badFile s n d) st h w = absurd (n (record { frame = w .fr; changes = w .cs; sounds = w .lines }))
+    reason-13 room old b c l f p (noStart m n d) st h w = d .0 .0
+    reason-13 room old b c l f p (badStep m t r d y) st h w =
         let q = same-both old b (record { st = st; fr = w .fr; cs = w .cs; held = h; lines = w .lines }) m in
         let s : Each (after (keyed F)) (StepLawful F) (m .st) (r .before ++ (r .step ∷ r .rest)) = rw (← r .whole, ← q .0, ← q .1) (w .steps) in
         lawful-13 room _ (r .step) c (each-at (m .st) (r .before) (r .step) (r .rest) s) (r .refuses)
@@ -235,35 +249,38 @@ module _ (F : Format) where
 
     module _ (old b : List ℕ) (room : ℕ) where
       -- a refusal has a reason
-      pub apply-why : (apply F old b room .answer .code ≡ 0 → ⊥) → Reason room old b (apply F old b room .answer .code) (apply F old b room .answer .line) (apply F old b room .answer .field)
+      pub apply-why : (apply F old b room .answer .code ≡ 0 → ⊥)
+          → Reason room old b (apply F old b room .answer .code) (apply F old b room .answer .line) (apply F old b room .answer .field) (apply F old b room .answer .place)
       unfolding apply applied
       apply-why n = go (load F room old b) (load-says room old b) n
         where
-          go : (x : Answer) → LoadSays room old b x → (applied room x .answer .code ≡ 0 → ⊥) → Reason room old b (applied room x .answer .code) (applied room x .answer .line) (applied room x .answer .field)
+          go : (x : Answer) → LoadSays room old b x → (applied room x .answer .code ≡ 0 → ⊥)
+              → Reason room old b (applied room x .answer .code) (applied room x .answer .line) (applied room x .answer .field) (applied room x .answer .place)
           go (took new m) a n = absurd (n refl)
           go (refused x) r n = r
 
       -- and where there is one, the numbers are its
-      pub why-apply : (c l f : ℕ) → Reason room old b c l f → Numbered (apply F old b room .answer .code) (apply F old b room .answer .line) (apply F old b room .answer .field) c l f
+      pub why-apply : (c l f p : ℕ) → Reason room old b c l f p
+          → Located (apply F old b room .answer .code) (apply F old b room .answer .line) (apply F old b room .answer .field) (apply F old b room .answer .place) c l f p
       unfolding apply applied
-      why-apply c l f r = let w = why-load room old b c l f r in rw (w .1) (w .2)
+      why-apply c l f p r = let w = why-load room old b c l f p r in rw (w .1) (w .2)
 
       -- 14 exactly if the holding is unsound
       pub apply-14 : (apply F old b room .answer .code ≡ holdingUnsound) ↔ Unsound old
-      apply-14 = (λ e. reason-14 room old b _ _ _ (apply-why (λ z. omega (arith, e, z))) e, λ u. why-apply holdingUnsound (checkHolding F old .line) 0 (badHolding u (refl, refl, refl)) .0)
+      apply-14 = (λ e. reason-14 room old b _ _ _ _ (apply-why (λ z. omega (arith, e, z))) e, λ u. why-apply holdingUnsound (checkHolding F old .line) 0 0 (badHolding u ((refl, refl, refl), refl)) .0 .0)
 
       -- 13 at line 0 exactly if a sound holding is longer than its room before the first step of a sound file
       pub apply-start : (m : BothSound old b) → ((apply F old b room .answer .code ≡ holdingTooLong) × (apply F old b room .answer .line ≡ 0)) ↔ (T (fits room (m .st)) → ⊥)
       apply-start m = (
-        λ e. reason-start room old b _ _ _ (apply-why (λ z. omega (arith, e .0, z))) (e .1) m,
-        λ n. let w = why-apply holdingTooLong 0 0 (noStart m n (refl, refl, refl)) in (w .0, w .1),
+        λ e. reason-start room old b _ _ _ _ (apply-why (λ z. omega (arith, e .0, z))) (e .1) m,
+        λ n. let w = why-apply holdingTooLong 0 0 0 (noStart m n ((refl, refl, refl), refl)) .0 in (w .0, w .1),
       )
 
       -- where all is lawful, 13 exactly if there isn't room at every step
       pub apply-13 : (st : List Rec) → SoundHolding F old st → Lawful F st b → (apply F old b room .answer .code ≡ holdingTooLong) ↔ (Roomy F room st b → ⊥)
       apply-13 st h l = (
         λ e w. omega (arith, e, lawful-exactly F regular old b room st h w .1 l),
-        λ n. reason-13 room old b _ _ _ (apply-why (λ z. n (allowed-roomy room old b st h (done-allowed F regular old b room z)))) st h l,
+        λ n. reason-13 room old b _ _ _ _ (apply-why (λ z. n (allowed-roomy room old b st h (done-allowed F regular old b room z)))) st h l,
       )
 
     -- ---- undo: a load with the room of its work buffer, and then 17
@@ -271,12 +288,12 @@ module _ (F : Format) where
     module _ (old b : List ℕ) (room space : ℕ) where
       -- but for 17, a refusal has a load's reason
       pub undo-why : (undoFile F old b room space .answer .code ≡ 0 → ⊥) → (undoFile F old b room space .answer .code ≡ undoTooLong → ⊥)
-          → Reason space old b (undoFile F old b room space .answer .code) (undoFile F old b room space .answer .line) (undoFile F old b room space .answer .field)
+          → Reason space old b (undoFile F old b room space .answer .code) (undoFile F old b room space .answer .line) (undoFile F old b room space .answer .field) (undoFile F old b room space .answer .place)
       unfolding undoFile undone
       undo-why n k = go (load F space old b) (load-says space old b) n k
         where
           Why : Undone → Type 0
-          Why x = (x .answer .code ≡ 0 → ⊥) → (x .answer .code ≡ undoTooLong → ⊥) → Reason space old b (x .answer .code) (x .answer .line) (x .answer .field)
+          Why x = (x .answer .code ≡ 0 → ⊥) → (x .answer .code ≡ undoTooLong → ⊥) → Reason space old b (x .answer .code) (x .answer .line) (x .answer .field) (x .answer .place)
 
           either : (c : Bool) (x y : Undone) → x .answer .code ≡ 0 → y .answer .code ≡ undoTooLong → Why (pick c x y)
           either true x y p q = λ n k. absurd (n p)
@@ -287,10 +304,10 @@ module _ (F : Format) where
           go (refused x) r = λ n k. r
 
       -- and where there is one, the numbers are its
-      pub why-undo : (c l f : ℕ) → Reason space old b c l f
-          → Numbered (undoFile F old b room space .answer .code) (undoFile F old b room space .answer .line) (undoFile F old b room space .answer .field) c l f
+      pub why-undo : (c l f p : ℕ) → Reason space old b c l f p
+          → Located (undoFile F old b room space .answer .code) (undoFile F old b room space .answer .line) (undoFile F old b room space .answer .field) (undoFile F old b room space .answer .place) c l f p
       unfolding undoFile undone
-      why-undo c l f r = let w = why-load space old b c l f r in rw (w .1) (w .2)
+      why-undo c l f p r = let w = why-load space old b c l f p r in rw (w .1) (w .2)
 
       -- a code that no load has is given only where all is allowed with the room of the work buffer
       undo-allowed : (w : ℕ) → (T (among w loadCodes) → ⊥) → undoFile F old b room space .answer .code ≡ w → Allowed F old b space
@@ -346,22 +363,22 @@ module _ (F : Format) where
       -- 14 exactly if the holding is unsound
       pub undo-14 : (undoFile F old b room space .answer .code ≡ holdingUnsound) ↔ Unsound old
       undo-14 = (
-        λ e. reason-14 space old b _ _ _ (undo-why (λ z. omega (arith, e, z)) (λ z. omega (arith, e, z))) e,
-        λ u. why-undo holdingUnsound (checkHolding F old .line) 0 (badHolding u (refl, refl, refl)) .0,
+        λ e. reason-14 space old b _ _ _ _ (undo-why (λ z. omega (arith, e, z)) (λ z. omega (arith, e, z))) e,
+        λ u. why-undo holdingUnsound (checkHolding F old .line) 0 0 (badHolding u ((refl, refl, refl), refl)) .0 .0,
       )
 
       -- 13 at line 0 exactly if a sound holding is longer than the work buffer before the first step of a sound file
       pub undo-start : (m : BothSound old b) → ((undoFile F old b room space .answer .code ≡ holdingTooLong) × (undoFile F old b room space .answer .line ≡ 0)) ↔ (T (fits space (m .st)) → ⊥)
       undo-start m = (
-        λ e. reason-start space old b _ _ _ (undo-why (λ z. omega (arith, e .0, z)) (λ z. omega (arith, e .0, z))) (e .1) m,
-        λ n. let w = why-undo holdingTooLong 0 0 (noStart m n (refl, refl, refl)) in (w .0, w .1),
+        λ e. reason-start space old b _ _ _ _ (undo-why (λ z. omega (arith, e .0, z)) (λ z. omega (arith, e .0, z))) (e .1) m,
+        λ n. let w = why-undo holdingTooLong 0 0 0 (noStart m n ((refl, refl, refl), refl)) .0 in (w .0, w .1),
       )
 
       -- where all is lawful, 13 exactly if the work buffer hasn't room at every step
       pub undo-13 : (st : List Rec) → SoundHolding F old st → Lawful F st b → (undoFile F old b room space .answer .code ≡ holdingTooLong) ↔ (Roomy F space st b → ⊥)
       undo-13 st h l = (
         λ e w. neither (decLe (length (undoBytes F old b)) room) (sym (undo-code (done-allowed F regular old b space (lawful-exactly F regular old b space st h w .1 l))) ∙ e),
-        λ n. reason-13 space old b _ _ _ (undo-why (λ z. n (allowed-roomy space old b st h (undo-0 .0 z .0))) (λ z. n (allowed-roomy space old b st h (undo-17 .0 z .0)))) st h l,
+        λ n. reason-13 space old b _ _ _ _ (undo-why (λ z. n (allowed-roomy space old b st h (undo-0 .0 z .0))) (λ z. n (allowed-roomy space old b st h (undo-17 .0 z .0)))) st h l,
       )
         where
           neither : Dec (length (undoBytes F old b) ≤ room) → undo-long ≡ holdingTooLong → ⊥

@@ -8,24 +8,25 @@ use Prim.Native.String.{String}
 use native.Mathlib.Numerals.{add-one}
 use native.Mathlib.Omega.{arith}
 use borrow.Author.Needs.{needs}
-use borrow.Author.Tests.{not-true, not-false, eq-eqb, ne-eqb, lt-ltb, le-ltb}
-use lib.Dec.{T, eqb, ltb, leb, leb→le}
+use borrow.Author.Tests.{not-true, not-false, lt-ltb, le-ltb}
+use lib.Dec.{T, ltb, leb, leb→le}
 use lib.Text.{eqt}
 use lib.ListN.{length, getD, take, drop, length-map, drop-of-length-le}
 use lib.Seq.{drop-cons}
 use Rattle.base.specs.Lists.{pick, ask}
 use Rattle.base.specs.Tests.{and-l, and-r}
-use Rattle.meaning.specs.Forms.{Form, soundAs}
+use Rattle.meaning.specs.Forms.{soundAs}
+use Rattle.meaning.specs.Place.{placeAs}
 use Rattle.meaning.specs.Lines.{fieldsFrom, fieldsOf, hasFields}
 use Rattle.meaning.specs.Kinds.{Kind, kinds}
 use Rattle.meaning.specs.Format.{Field, named, fieldNumber, startDate, endDate}
 use Rattle.meaning.specs.Table.{fields, scottish}
 use Rattle.meaning.specs.Codes.{fieldCountWrong, fieldMalformed, endBeforeStart}
 use Rattle.meaning.specs.Answers as meant
-use Rattle.meaning.specs.Answers.{ofLine, ofField}
+use Rattle.meaning.specs.Answers.{ofLine, ofField, ofByte}
 use Rattle.answers.specs.declared.refusal.Fault.{Fault}
 use Rattle.answers.specs.Meant.{noFaultAt, faultOf}
-use Rattle.meaning.specs.Sound.{soundField, forms, datesAgree, fieldFault, formFault, ifMalformed}
+use Rattle.meaning.specs.Sound.{soundField, placeIn, forms, datesAgree, fieldFault, formFault, ifMalformed}
 use Rattle.theory.specs.Tri.{isLt}
 use Rattle.theory.specs.Lex.{lex}
 use Rattle.text.specs.declared.order.Order.{Order}
@@ -34,9 +35,9 @@ use Rattle.laws.specs.Kinds.{every}
 use Rattle.laws.specs.FileRefusals.{none-named}
 use Rattle.text.specs.Places.{fieldCount, fieldLen, fieldEnd}
 use Rattle.text.proofs.FieldLaws.{fields-at, fields-wrong, fields-right, fields-many}
-use Rattle.layout.specs.Rows.{Row, bare, noRow, rowOf, decoded, formDecoded, filledDecoded, laidOut}
+use Rattle.layout.specs.Rows.{Row, bare, noRow, rowOf, decoded, formDecoded, filledDecoded, soundBy, laidOut}
 use Rattle.layout.specs.declared.records.Layout.{Layout}
-use Rattle.layout.specs.Check.{lowestBad, kindDates, Parted, told}
+use Rattle.layout.specs.Check.{badField, lowestBad, firstOf, kindDates, Parted, told}
 
 -- ---- the walk of the fields, k of them on
 
@@ -66,7 +67,7 @@ fields-first t at e p a =
     fields-at t at ∙ rw size
 
 -- the answer that is still to be found
-abbrev pub badAt : Kind → List ℕ → ℕ → ℕ → ℕ
+abbrev pub badAt : Kind → List ℕ → ℕ → ℕ → Option meant.Fault
 badAt kd t k at = lowestBad (suc k) (drop k (map bare (fields kd))) (fieldsFrom false (drop at t))
 
 -- at the start no field is passed
@@ -87,11 +88,16 @@ row-there kd k n h c = rw length-map at (rw c at h)
 pub count-there : (kd : Kind) (l : Layout) (k : ℕ) → l ≡ laidOut kd → k < l .count → k < length (fields kd)
 count-there kd l k e h = row-there kd k (l .count) h (count-rows kd l e)
 
--- a row says of its field what the table says
-pub sound-is : (row : ℕ) (p : Row) (m : Form) (b c : Bool) (f : List ℕ) → decoded row ≡ p → m ≡ formDecoded row → b ≡ filledDecoded row → c ≡ soundAs (scottish .textRule) m b f → c ≡ soundAs (scottish .textRule) (p .0) (p .1) f
-sound-is row p m b c f d e g h = rw (← d, ← e, ← g) h
+-- the fault of a malformed field, by its row
+pub malformed-is : (row : ℕ) (p : Row) (f : List ℕ) (n c : ℕ) (x : Fault) → decoded row ≡ p → c ≡ placeAs (scottish .textRule) (formDecoded row) (filledDecoded row) f
+    → x ≡ faultOf (ofByte fieldMalformed n c) → x ≡ faultOf (badField n p f)
+malformed-is row p f n c x d h q = q ∙ ap (λ y. faultOf (ofByte fieldMalformed n y)) (rw (← d) h)
 
-module _ (kd : Kind) (t : List ℕ) (k n at x e : ℕ) (b : Bool) (w : badAt kd t k at ≡ x) (h : k < n) (c : n ≡ length (map bare (fields kd))) (q : e ≡ fieldEnd t at) (a : at ≤ e)
+-- a row says of its field what the table says
+pub sound-is : (row : ℕ) (p : Row) (c : Bool) (f : List ℕ) → decoded row ≡ p → c ≡ soundBy row f → c ≡ soundAs (scottish .textRule) (p .0) (p .1) f
+sound-is row p c f d h = rw (← d) h
+
+module _ (kd : Kind) (t : List ℕ) (k n at : ℕ) (x : Option meant.Fault) (e : ℕ) (b : Bool) (w : badAt kd t k at ≡ x) (h : k < n) (c : n ≡ length (map bare (fields kd))) (q : e ≡ fieldEnd t at) (a : at ≤ e)
     (s : b ≡ soundAs (scottish .textRule) (rowOf kd k .0) (rowOf kd k .1) (take (e - at) (drop at t))) where
   -- the row beside the field
   here : drop k (map bare (fields kd)) ≡ rowOf kd k ∷ drop (k + 1) (map bare (fields kd))
@@ -99,43 +105,53 @@ module _ (kd : Kind) (t : List ℕ) (k n at x e : ℕ) (b : Bool) (w : badAt kd 
   here = at-row (map bare (fields kd)) k (rw c at h)
 
   -- a field that is malformed is the lowest
-  pub bad-stop : b ≡ false → k + 1 ≡ x
-  unfolding lowestBad
-  bad-stop f = add-one k ∙ (rw (here, fields-first t at e q a, sym s ∙ f) at w)
+  pub bad-stop : b ≡ false → some (badField (k + 1) (rowOf kd k) (take (e - at) (drop at t))) ≡ x
+  unfolding lowestBad ask
+  bad-stop f = rw (add-one k) (rw (here, fields-first t at e q a, sym s ∙ f) at w)
 
   -- a sound one that a separator ends is passed
   pub bad-turn : b ≡ true → (e ≡ length t → ⊥) → e ≤ length t → badAt kd t (k + 1) (e + 1) ≡ x
-  unfolding lowestBad
+  unfolding lowestBad ask
   bad-turn f m l = rw (ap suc (add-one k)) (rw (here, fields-more t at e q a m l, sym s ∙ f) at w)
 
   -- after the last field nothing is malformed
-  pub bad-last : b ≡ true → e ≡ length t → 0 ≡ x
+  pub bad-last : b ≡ true → e ≡ length t → none ≡ x
   bad-last f l = go (drop (k + 1) (map bare (fields kd))) (rw (here, fields-last t at e q a l) at w)
     where
-      go : (ds : List Row) → lowestBad (suc k) (rowOf kd k ∷ ds) (take (e - at) (drop at t) ∷ []) ≡ x → 0 ≡ x
-      go [] v = unfold lowestBad in (rw (sym s ∙ f) at v)
-      go (d ∷ ds) v = unfold lowestBad in (rw (sym s ∙ f) at v)
+      go : (ds : List Row) → lowestBad (suc k) (rowOf kd k ∷ ds) (take (e - at) (drop at t) ∷ []) ≡ x → none ≡ x
+      go [] v = unfold lowestBad ask in (rw (sym s ∙ f) at v)
+      go (d ∷ ds) v = unfold lowestBad ask in (rw (sym s ∙ f) at v)
 
 -- nor after the last row
-pub bad-done : (kd : Kind) (t : List ℕ) (k n at x : ℕ) → badAt kd t k at ≡ x → n ≤ k → n ≡ length (map bare (fields kd)) → 0 ≡ x
+pub bad-done : (kd : Kind) (t : List ℕ) (k n at : ℕ) (x : Option meant.Fault) → badAt kd t k at ≡ x → n ≤ k → n ≡ length (map bare (fields kd)) → none ≡ x
 unfolding lowestBad
 bad-done kd t k n at x w h c = rw (drop-of-length-le (map bare (fields kd)) {i = k} (rw c at h)) at w
 
 -- ---- what the meaning asks is what is answered
 
 -- 5 at the lowest field that is malformed, else the rest
-pub forms-is : (n : ℕ) (ds : List Field) (fs : List (List ℕ)) (rest : Option meant.Fault)
-    → forms scottish (suc n) ds fs rest ≡ pick (eqb (lowestBad (suc n) (map bare ds) fs) 0) rest (some (ofField fieldMalformed (lowestBad (suc n) (map bare ds) fs)))
-unfolding forms ifMalformed lowestBad soundField ask
+pub forms-is : (n : ℕ) (ds : List Field) (fs : List (List ℕ)) (rest : Option meant.Fault) → forms scottish n ds fs rest ≡ firstOf (lowestBad n (map bare ds) fs) rest
+unfolding forms ifMalformed lowestBad soundField placeIn ask
 forms-is n [] fs rest = refl
 forms-is n (d ∷ ds) [] rest = refl
 forms-is n (d ∷ ds) (f ∷ fs) rest = go (soundAs (scottish .textRule) (d .form) (d .filled) f) (forms-is (suc n) ds fs rest)
   where
-    go : (b : Bool) → forms scottish (suc (suc n)) ds fs rest ≡ pick (eqb (lowestBad (suc (suc n)) (map bare ds) fs) 0) rest (some (ofField fieldMalformed (lowestBad (suc (suc n)) (map bare ds) fs)))
-        → ask b (ofField fieldMalformed (suc n)) (forms scottish (suc (suc n)) ds fs rest)
-        ≡ pick (eqb (pick b (lowestBad (suc (suc n)) (map bare ds) fs) (suc n)) 0) rest (some (ofField fieldMalformed (pick b (lowestBad (suc (suc n)) (map bare ds) fs) (suc n))))
+    go : (b : Bool) → forms scottish (suc n) ds fs rest ≡ firstOf (lowestBad (suc n) (map bare ds) fs) rest
+        → ask b (badField n (bare d) f) (forms scottish (suc n) ds fs rest) ≡ firstOf (ask b (badField n (bare d) f) (lowestBad (suc n) (map bare ds) fs)) rest
     go true e = e
-    go false e = rw (ne-eqb (suc n) 0 (λ u. omega arith))
+    go false e = refl
+
+-- a fault that is told has a code
+pub bad-coded : (n : ℕ) (ds : List Row) (fs : List (List ℕ)) → told (lowestBad n ds fs) .code ≡ 0 → lowestBad n ds fs ≡ none
+unfolding lowestBad ask
+bad-coded n [] fs z = refl
+bad-coded n (d ∷ ds) [] z = refl
+bad-coded n (d ∷ ds) (f ∷ fs) z = go (soundAs (scottish .textRule) (d .0) (d .1) f) (bad-coded (suc n) ds fs) z
+  where
+    go : (b : Bool) → (told (lowestBad (suc n) ds fs) .code ≡ 0 → lowestBad (suc n) ds fs ≡ none)
+        → told (ask b (badField n d f) (lowestBad (suc n) ds fs)) .code ≡ 0 → ask b (badField n d f) (lowestBad (suc n) ds fs) ≡ none
+    go true r z = r z
+    go false r z = absurd (omega (arith, z))
 
 -- ---- dates
 
@@ -260,10 +276,9 @@ pub ruleset kinddates = (needs, start-there, end-there, noted-there, kind-no-sta
 -- the meaning's questions, by what is answered
 pub fault-is : (kd : Kind) (t : List ℕ) (rest : Option meant.Fault) → formFault scottish kd t rest
     ≡ ask (hasFields (length (fields kd)) t) (ofLine fieldCountWrong)
-    (pick (eqb (lowestBad 1 (map bare (fields kd)) (fieldsOf t)) 0) (ask (kindDates kd (fieldsOf t)) (ofField endBeforeStart (fieldNumber 1 endDate (fields kd))) rest)
-    (some (ofField fieldMalformed (lowestBad 1 (map bare (fields kd)) (fieldsOf t)))))
+    (firstOf (lowestBad 1 (map bare (fields kd)) (fieldsOf t)) (ask (kindDates kd (fieldsOf t)) (ofField endBeforeStart (fieldNumber 1 endDate (fields kd))) rest))
 unfolding formFault fieldFault kindDates
-fault-is kd t rest = rw (forms-is 0 (fields kd) (fieldsOf t) (ask (datesAgree (named startDate (fields kd) (fieldsOf t)) (named endDate (fields kd) (fieldsOf t))) (ofField endBeforeStart (fieldNumber 1 endDate (fields kd))) rest))
+fault-is kd t rest = rw (forms-is 1 (fields kd) (fieldsOf t) (ask (datesAgree (named startDate (fields kd) (fieldsOf t)) (named endDate (fields kd) (fieldsOf t))) (ofField endBeforeStart (fieldNumber 1 endDate (fields kd))) rest))
 
 module _ (kd : Kind) (t : List ℕ) (l : Layout) (e : l ≡ laidOut kd) where
   -- as many fields as the kind has
@@ -284,21 +299,42 @@ module _ (kd : Kind) (t : List ℕ) (l : Layout) (e : l ≡ laidOut kd) where
   unfolding ask
   fault-count c p f x m = m ∙ rw (fault-is kd t none, ← counted, ← fields-wrong t (l .count) c p f)
 
-  module _ (c : ℕ) (p : c ≡ fieldCount t) (f : c ≡ l .count) (n : ℕ) (q : n ≡ lowestBad 1 (map bare (fields kd)) (fieldsOf t)) where
-    -- 5 for the lowest that is malformed
-    pub fault-form : (n ≡ 0 → ⊥) → (x : Fault) → x ≡ faultOf (ofField fieldMalformed n) → x ≡ told (formFault scottish kd t none)
+  module _ (c : ℕ) (p : c ≡ fieldCount t) (f : c ≡ l .count) (n : Fault) (q : n ≡ told (lowestBad 1 (map bare (fields kd)) (fieldsOf t))) where
+    -- the first fault, by what was told of the fields
+    first-is : (rest : Option meant.Fault) → formFault scottish kd t rest
+        ≡ firstOf (lowestBad 1 (map bare (fields kd)) (fieldsOf t)) (ask (kindDates kd (fieldsOf t)) (ofField endBeforeStart (fieldNumber 1 endDate (fields kd))) rest)
     unfolding ask
-    fault-form m x v = v ∙ rw (fault-is kd t none, ← right-count c p f, ← q, ne-eqb n 0 m)
+    first-is rest = fault-is kd t rest ∙ rw (← right-count c p f)
 
-    module _ (z : n ≡ 0) (b : Bool) (r : b ≡ kindDates kd (fieldsOf t)) where
+    -- 5 for the lowest that is malformed
+    pub fault-form : (n .code ≡ 0 → ⊥) → n ≡ told (formFault scottish kd t none)
+    fault-form m = go (lowestBad 1 (map bare (fields kd)) (fieldsOf t)) refl q
+      where
+        go : (o : Option meant.Fault) → lowestBad 1 (map bare (fields kd)) (fieldsOf t) ≡ o → n ≡ told o → n ≡ told (formFault scottish kd t none)
+        go none u v = absurd (m (ap (λ x. x .code) v))
+        go (some x) u v = v ∙ rw (first-is none, u)
+
+    module _ (z : n .code ≡ 0) (b : Bool) (r : b ≡ kindDates kd (fieldsOf t)) where
+      -- none is malformed
+      sound-all : lowestBad 1 (map bare (fields kd)) (fieldsOf t) ≡ none
+      sound-all = bad-coded 1 (map bare (fields kd)) (fieldsOf t) (ap (λ x. x .code) (sym q) ∙ z)
+
       -- 6 for END_DATE before START_DATE
       pub fault-dates : b ≡ false → (x : Fault) → x ≡ faultOf (ofField endBeforeStart (l .end)) → x ≡ told (formFault scottish kd t none)
       unfolding ask laidOut
-      fault-dates g x m = let v : l .end ≡ fieldNumber 1 endDate (fields kd) = ap (λ x. x .end) e in m ∙ rw (fault-is kd t none, ← right-count c p f, ← q, eq-eqb n 0 z, sym r ∙ g, v)
+      fault-dates g x m = let v : l .end ≡ fieldNumber 1 endDate (fields kd) = ap (λ x. x .end) e in m ∙ rw (first-is none, sound-all, sym r ∙ g, v)
 
       -- else none
       pub fault-none : b ≡ true → (x : Fault) → x ≡ noFaultAt → x ≡ told (formFault scottish kd t none)
       unfolding ask
-      fault-none g x m = m ∙ rw (fault-is kd t none, ← right-count c p f, ← q, eq-eqb n 0 z, sym r ∙ g)
+      fault-none g x m = m ∙ rw (first-is none, sound-all, sym r ∙ g)
 
 pub ruleset faults = (needs, not-true, not-false, fault-count, fault-form, fault-dates, fault-none)
+
+-- ---- the fault of one field
+
+-- a field of a kind is one of at most 32
+pub field-few : (kd : Kind) (k : ℕ) → k < length (fields kd) → k < 32
+field-few kd k h = omega (arith, fields-high kd)
+
+pub ruleset misformed = (needs, sound-is, malformed-is)

@@ -1,6 +1,7 @@
 -- The laws of the walk over the fields of a line that has as many as its kind, by where they end: none is past the last.
 use mathlib.Core.Path.{_≡_, refl, sym, ap, _∙_}
 use mathlib.Core.Bool.{Bool, true, false}
+use mathlib.Core.Option.{Option, none, some}
 use mathlib.Core.List.{List, [], _∷_, map}
 use Prim.Native.Nat.{ℕ, zero, suc, _+_, _-_, _≤_, _<_}
 use native.Mathlib.Nat.{zero-add}
@@ -14,16 +15,19 @@ use Rattle.meaning.specs.Forms.{soundAs}
 use Rattle.meaning.specs.Lines.{fieldsFrom, fieldsOf}
 use Rattle.meaning.specs.Kinds.{Kind}
 use Rattle.meaning.specs.Table.{fields, scottish}
+use Rattle.meaning.specs.Answers as meant
 use Rattle.text.specs.Places.{fieldLen, fieldEnd, endsFrom, fieldEnds}
 use Rattle.text.proofs.FieldLaws.{fields-many}
 use Rattle.text.proofs.SplitLaws.{ends-at, len-le}
 use Rattle.layout.specs.Rows.{bare, rowOf, laidOut}
 use Rattle.layout.specs.declared.records.Layout.{Layout}
-use Rattle.layout.specs.Check.{lowestBad, Parted}
+use Rattle.layout.specs.Check.{badField, lowestBad, Parted, told}
+use Rattle.answers.specs.declared.refusal.Fault.{Fault}
+use Rattle.answers.specs.Meant.{noFaultAt, faultOf}
 use Rattle.layout.proofs.CheckLaws.{badAt, count-rows, fields-high, bad-start, bad-stop, bad-turn, bad-last, bad-done, row-there, fields-more, fields-last}
 
--- the lowest field that is malformed, counted from 1, or 0
-abbrev pub lowest : Kind → List ℕ → ℕ
+-- the fault of the lowest field that is malformed, or none
+abbrev pub lowest : Kind → List ℕ → Option meant.Fault
 lowest kd t = lowestBad 1 (map bare (fields kd)) (fieldsOf t)
 
 -- k of n fields are passed, and the next one starts at `at`
@@ -83,8 +87,12 @@ module _ (kd : Kind) (t a : List ℕ) (n k at : ℕ) (p : Passing kd t a n k at)
 
   module _ (b : Bool) (s : b ≡ soundAs (scottish .textRule) (rowOf kd k .0) (rowOf kd k .1) (take (getD a k 0 - at) (drop at t))) where
     -- a field that is malformed is the lowest
-    pub pass-stop : b ≡ false → k + 1 ≡ lowest kd t
+    pub pass-stop : b ≡ false → some (badField (k + 1) (rowOf kd k) (take (getD a k 0 - at) (drop at t))) ≡ lowest kd t
     pass-stop f = bad-stop kd t k n at (lowest kd t) (getD a k 0) b (p .left) h (p .rows) pass-end pass-forward s f
+
+    -- and is told
+    pub pass-told : b ≡ false → (x : Fault) → x ≡ faultOf (badField (k + 1) (rowOf kd k) (take (getD a k 0 - at) (drop at t))) → x ≡ told (lowest kd t)
+    pass-told f x m = m ∙ ap told (pass-stop f)
 
     -- a sound one is passed
     pub pass-turn : b ≡ true → Passing kd t a n (k + 1) (getD a k 0 + 1)
@@ -126,7 +134,11 @@ module _ (kd : Kind) (t a : List ℕ) (n k at : ℕ) (p : Passing kd t a n k at)
             }
 
 -- after the last field none is malformed
-pub pass-done : (kd : Kind) (t a : List ℕ) (n k at : ℕ) → Passing kd t a n k at → n ≤ k → 0 ≡ lowest kd t
+pub pass-done : (kd : Kind) (t a : List ℕ) (n k at : ℕ) → Passing kd t a n k at → n ≤ k → none ≡ lowest kd t
 pass-done kd t a n k at p h = bad-done kd t k n at (lowest kd t) (p .left) h (p .rows)
 
-pub ruleset passing = (needs, not-true, not-false, pass-start, pass-row, pass-room, pass-forward, pass-within, pass-stop, pass-turn, pass-done)
+-- and none is told
+pub pass-none : (kd : Kind) (t a : List ℕ) (n k at : ℕ) → Passing kd t a n k at → n ≤ k → (x : Fault) → x ≡ noFaultAt → x ≡ told (lowest kd t)
+pass-none kd t a n k at p h x m = m ∙ ap told (pass-done kd t a n k at p h)
+
+pub ruleset passing = (needs, not-true, not-false, pass-start, pass-row, pass-room, pass-forward, pass-within, pass-told, pass-turn, pass-none)

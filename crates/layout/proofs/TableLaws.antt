@@ -1,18 +1,20 @@
 -- The code's table says what the meaning's table says: its numbers are the meaning's rows, encoded; one computed test, and what follows at each row.
 use mathlib.Core.Path.{_≡_, refl, sym, _∙_}
+use mathlib.Core.Bool.{Bool}
 use mathlib.Core.List.{List, map}
 use Prim.Native.Nat.{ℕ, _+_, _*_, _≤_, _<_}
 use native.Mathlib.Omega.{arith}
+use borrow.Author.Needs.{needs}
 use lib.Dec.{leb, leb→le}
 use lib.ListN.{length, getD, List·getD-map}
 use mir.Syntax.{w64}
 use mir.Val.{Fits}
 use Rattle.base.specs.Lists.{pick}
-use Rattle.meaning.specs.Forms.{Form, number, atLeast1, decimal, date, time, text, changeType, xrefType, fileType, keyText}
+use Rattle.meaning.specs.Forms.{Form, number, atLeast1, decimal, date, time, text, changeType, xrefType, fileType, keyText, soundAs}
 use Rattle.meaning.specs.Kinds.{Kind, kinds}
-use Rattle.meaning.specs.Table.{fields}
+use Rattle.meaning.specs.Table.{fields, scottish}
 use Rattle.laws.specs.Kinds.{every, alike}
-use Rattle.layout.specs.Rows.{Row, bare, noRow, rowOf, decoded, formDecoded, filledDecoded}
+use Rattle.layout.specs.Rows.{Row, bare, noRow, rowOf, decoded, formDecoded, filledDecoded, soundBy}
 
 -- the number that says a form
 unfoldable pub formEncoded : Form → ℕ
@@ -65,3 +67,11 @@ module _ {Named : Type 0} (meant : Named → Kind) (kind : Named) (k : ℕ) wher
     pub row-is : (l : List ℕ) → l ≡ codes (meant kind′) → decoded (getD l k 0) ≡ rowOf (meant kind) k
     unfolding rowOf
     row-is l q = rw (q, e) (sym (List·getD-map decoded (codes (meant kind′)) k 0) ∙ rw (rows-right (meant kind′), no-row))
+
+-- ---- a field by its row
+
+-- a form and a status that a row says judge a field as the row does
+pub sound-row : (row : ℕ) (m : Form) (b c : Bool) (f : List ℕ) → m ≡ formDecoded row → b ≡ filledDecoded row → c ≡ soundAs (scottish .textRule) m b f → c ≡ soundBy row f
+sound-row row m b c f e g h = rw (← e, ← g) h
+
+pub ruleset rowed = (needs, sound-row)

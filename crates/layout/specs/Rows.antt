@@ -7,10 +7,10 @@ use lib.Dec.{eqb}
 use lib.ListN.{length, getD}
 use Rattle.base.specs.Lists.{pick, zeros}
 use Rattle.theory.specs.Decimal.{value}
-use Rattle.meaning.specs.Forms.{Form, number, atLeast1, decimal, date, time, text, changeType, xrefType, fileType, keyText}
+use Rattle.meaning.specs.Forms.{Form, number, atLeast1, decimal, date, time, text, changeType, xrefType, fileType, keyText, soundAs}
 use Rattle.meaning.specs.Kinds.{Kind, ident}
 use Rattle.meaning.specs.Format.{Field, fieldNumber, startDate, endDate}
-use Rattle.meaning.specs.Table.{fields, keyNames, refersTo}
+use Rattle.meaning.specs.Table.{fields, keyNames, refersTo, scottish}
 use Rattle.layout.specs.declared.records.Layout.{Layout}
 
 -- a field's form, and whether it must be filled
@@ -49,6 +49,10 @@ filledDecoded c = eqb (c / 65536 % 2) 1
 -- both
 abbrev pub decoded : ℕ → Row
 decoded c = (formDecoded c, filledDecoded c)
+
+-- a field is sound as the row has it that a number says
+abbrev pub soundBy : ℕ → List ℕ → Bool
+soundBy c f = soundAs (scottish .textRule) (formDecoded c) (filledDecoded c) f
 
 -- ---- places of fields, counted from 1
 

@@ -1,24 +1,26 @@
-// The check of one line's fields by the table: 4 for their number, 5 for the lowest that is malformed, 6 for END_DATE before START_DATE.
+// The check of one line's fields by the table: 4 for their number, 5 for the lowest that is malformed, with the place in it, 6 for END_DATE
+// before START_DATE.
 ghost use mathlib.Core.Path.{_≡_};
 ghost use mathlib.Core.List.{map};
 ghost use mathlib.Core.Option.{none};
-ghost use Prim.Native.Nat.{_<_};
+ghost use Prim.Native.Nat.{_+_, _<_};
 ghost use lib.ListN.{length};
 ghost use Rattle.meaning.specs.Forms.{soundAs};
 ghost use Rattle.meaning.specs.Lines.{identifier, fieldsOf};
 ghost use Rattle.meaning.specs.Format.{kindOf};
 ghost use Rattle.meaning.specs.Table.{fields, scottish};
 ghost use Rattle.meaning.specs.Sound.{datesAgree, formFault};
+ghost use Rattle.answers.specs.Meant.{faultOf};
 ghost use Rattle.layout.specs.Meant.{kindMeant, kindFound};
 ghost use Rattle.layout.specs.Rows.{bare, rowOf};
-ghost use Rattle.layout.specs.Check.{lowestBad, kindDates, Parted, told};
+ghost use Rattle.layout.specs.Check.{badField, lowestBad, kindDates, Parted, told};
 use crate::kinds::Kind;
 use crate::kinds::KindFound;
-use crate::rules::form_of;
-use crate::rules::is_mandatory;
+use crate::place::place_by;
 use crate::rules::kind_numbered;
 use crate::rules::layout;
 use crate::rules::row;
+use crate::rules::sound_by;
 use answers::codes::END_BEFORE_START;
 use answers::codes::FIELD_COUNT_WRONG;
 use answers::codes::FIELD_MALFORMED;
@@ -54,14 +56,22 @@ pub fn sound_at(kind: Kind, k: usize, f: &[u8]) -> bool
     requires { ⌜ k < length (fields (kindMeant kind)) ⌝ }
     ensures { λ r. ⌜ r ≡ soundAs (scottish .textRule) (rowOf (kindMeant kind) k .0) (rowOf (kindMeant kind) k .1) (now (f .entry)) ⌝ }
 {
-    let r = row(kind, k);
-    form::sound(form_of(r), is_mandatory(r), f)
+    sound_by(row(kind, k), f)
 }
 
-// The lowest field that is malformed, counted from 1, or 0.
-fn lowest_malformed(kind: Kind, line: &[u8], ends: &[usize]) -> usize
+// The fault of a malformed field, counted from 0, with the place in it.
+pub fn malformed_at(kind: Kind, k: usize, f: &[u8]) -> Fault
+    requires { ⌜ k < length (fields (kindMeant kind)) ⌝ }
+    ensures { λ r. ⌜ r ≡ faultOf (badField (k + 1) (rowOf (kindMeant kind) k) (now (f .entry))) ⌝ }
+{
+    let place = place_by(row(kind, k), f);
+    Fault::of_byte(FIELD_MALFORMED, (k + 1) as u64, place as u64)
+}
+
+// The fault of the lowest field that is malformed.
+fn lowest_malformed(kind: Kind, line: &[u8], ends: &[usize]) -> Fault
     requires { ⌜ Parted (kindMeant kind) (now line) (now ends) ⌝ }
-    ensures { λ r. ⌜ r ≡ lowestBad 1 (map bare (fields (kindMeant kind))) (fieldsOf (now (line .entry))) ⌝ }
+    ensures { λ r. ⌜ r ≡ told (lowestBad 1 (map bare (fields (kindMeant kind))) (fieldsOf (now (line .entry)))) ⌝ }
 {
     let l = layout(kind);
     let count = l.count;
@@ -69,13 +79,14 @@ fn lowest_malformed(kind: Kind, line: &[u8], ends: &[usize]) -> usize
     let mut at = 0;
     while k < count {
         let end = ends[k];
-        if !sound_at(kind, k, &line[at..end]) {
-            return k + 1;
+        let field = &line[at..end];
+        if !sound_at(kind, k, field) {
+            return malformed_at(kind, k, field);
         }
         at = end + 1;
         k += 1;
     }
-    0
+    Fault::none()
 }
 
 // Whether an END_DATE, where filled, isn't before a filled START_DATE: dates stand in the order of their bytes.
@@ -128,8 +139,8 @@ pub fn check_line(kind: Kind, line: &[u8]) -> Fault
         return Fault::of_line(FIELD_COUNT_WRONG);
     }
     let bad = lowest_malformed(kind, line, &ends);
-    if bad != 0 {
-        return Fault::of_field(FIELD_MALFORMED, bad as u64);
+    if bad.code != 0 {
+        return bad;
     }
     if !dates_agree(kind, line, &ends) {
         return Fault::of_field(END_BEFORE_START, end as u64);

@@ -6,5 +6,7 @@
 pub mod kinds; // the kinds, and which of them are held
 pub mod records; // the table
 pub mod rules; // a row of the table, read
+pub mod begins; // what a field that is sound by its row may begin with
+pub mod place; // which byte of a malformed field is wrong
 pub mod check; // the check of one line
 pub mod limits; // how many lines a holding and a file may have

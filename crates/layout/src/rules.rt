@@ -7,7 +7,7 @@ ghost use Rattle.meaning.specs.Table.{fields};
 ghost use Rattle.meaning.specs.Holding.{isHeld};
 ghost use Rattle.form.specs.Meant.{meant};
 ghost use Rattle.layout.specs.Meant.{heldMeant, kindMeant, kindFound};
-ghost use Rattle.layout.specs.Rows.{laidOut, rowOf, decoded, formDecoded, filledDecoded};
+ghost use Rattle.layout.specs.Rows.{laidOut, rowOf, decoded, formDecoded, filledDecoded, soundBy};
 use crate::kinds::HeldKind;
 use crate::kinds::Kind;
 use crate::kinds::KindFound;
@@ -128,4 +128,11 @@ pub fn is_mandatory(row: u32) -> bool
     ensures { λ r. ⌜ r ≡ filledDecoded row ⌝ }
 {
     row / 65536 % 2 == 1
+}
+
+// Whether a field is sound as a row has it.
+pub fn sound_by(row: u32, f: &[u8]) -> bool
+    ensures { λ r. ⌜ r ≡ soundBy row (now (f .entry)) ⌝ }
+{
+    form::sound(form_of(row), is_mandatory(row), f)
 }

@@ -81,6 +81,18 @@ TextRule = ℕ → List ℕ → Bool
 unfoldable pub byBytes : TextRule
 byBytes w t = leb (length t) w && all isTextByte t
 
+-- the values of CHANGE_TYPE
+abbrev pub changeTypes : List (List ℕ)
+changeTypes = bytes "\"I\"" ∷ bytes "\"U\"" ∷ bytes "\"D\"" ∷ []
+
+-- those of XREF_TYPE
+abbrev pub xrefTypes : List (List ℕ)
+xrefTypes = bytes "1" ∷ bytes "2" ∷ []
+
+-- those of FILE_TYPE
+abbrev pub fileTypes : List (List ℕ)
+fileTypes = bytes "\"A\"" ∷ bytes "\"B\"" ∷ bytes "\"C\"" ∷ bytes "\"D\"" ∷ bytes "\"E\"" ∷ bytes "\"F\"" ∷ bytes "\"G\"" ∷ bytes "\"H\"" ∷ []
+
 -- one of a list of values
 unfoldable pub oneOf : List (List ℕ) → List ℕ → Bool
 oneOf [] f = false
@@ -100,8 +112,12 @@ isTextual fileType = true
 isTextual (keyText letter) = true
 
 -- empty means: two quotes for text, no bytes for the rest
+abbrev pub emptyOf : Form → List ℕ
+emptyOf m = pick (isTextual m) (34 ∷ 34 ∷ []) []
+
+-- a field is empty
 unfoldable pub isEmpty : Form → List ℕ → Bool
-isEmpty m f = same f (pick (isTextual m) (34 ∷ 34 ∷ []) [])
+isEmpty m f = same f (emptyOf m)
 
 -- what keys compare: a number's value; the bytes of a text
 unfoldable pub valueOf : Form → List ℕ → List ℕ
@@ -126,10 +142,9 @@ module _ (rule : TextRule) where
   hasForm date f = isDate f
   hasForm time f = isTime f
   hasForm (text w) f = isText w f
-  hasForm changeType f = oneOf (bytes "\"I\"" ∷ bytes "\"U\"" ∷ bytes "\"D\"" ∷ []) f
-  hasForm xrefType f = oneOf (bytes "1" ∷ bytes "2" ∷ []) f
-  hasForm fileType f =
-      oneOf (bytes "\"A\"" ∷ bytes "\"B\"" ∷ bytes "\"C\"" ∷ bytes "\"D\"" ∷ bytes "\"E\"" ∷ bytes "\"F\"" ∷ bytes "\"G\"" ∷ bytes "\"H\"" ∷ []) f
+  hasForm changeType f = oneOf changeTypes f
+  hasForm xrefType f = oneOf xrefTypes f
+  hasForm fileType f = oneOf fileTypes f
   hasForm (keyText letter) f = isKey letter f
 
   -- a field is sound: empty where it need not be filled, else of its form

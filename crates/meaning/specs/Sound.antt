@@ -1,4 +1,4 @@
--- Paper 01, 'Lines and fields' and 'Numbers given back': codes 4, 5 and 6 of one line, driven by the table.
+-- Paper 01, 'Lines and fields' and 'Numbers given back': codes 4, 5 and 6 of one line, driven by the table; and the place that comes with 5.
 use mathlib.Core.Bool.{Bool, true, not}
 use mathlib.Core.Option.{Option}
 use mathlib.Core.List.{List, [], _∷_}
@@ -9,10 +9,11 @@ use Rattle.theory.specs.Lex.{lex}
 use Rattle.base.specs.Lists.{ask}
 use Rattle.meaning.specs.Lines.{fieldsOf, hasFields}
 use Rattle.meaning.specs.Forms.{soundAs}
+use Rattle.meaning.specs.Place.{placeAs}
 use Rattle.meaning.specs.Kinds.{Kind}
 use Rattle.meaning.specs.Format.{Format, Field, named, fieldNumber, startDate, endDate}
 use Rattle.meaning.specs.Codes.{fieldCountWrong, fieldMalformed, endBeforeStart}
-use Rattle.meaning.specs.Answers.{Fault, ofLine, ofField}
+use Rattle.meaning.specs.Answers.{Fault, ofLine, ofField, ofByte}
 
 -- END_DATE, where filled, isn't before a filled START_DATE of its line: dates stand in the order of their bytes
 unfoldable pub datesAgree : List ℕ → List ℕ → Bool
@@ -27,9 +28,13 @@ module _ (F : Format) where
   unfoldable pub soundField : Field → List ℕ → Bool
   soundField d f = soundAs textRule (d .form) (d .filled) f
 
-  -- 5 where field n is malformed; else the rest is asked
+  -- the place in a field as its row has it
+  unfoldable pub placeIn : Field → List ℕ → ℕ
+  placeIn d f = placeAs textRule (d .form) (d .filled) f
+
+  -- 5 where field n is malformed, with its place; else the rest is asked
   unfoldable pub ifMalformed : ℕ → Field → List ℕ → Option Fault → Option Fault
-  ifMalformed n d f rest = ask (soundField d f) (ofField fieldMalformed n) rest
+  ifMalformed n d f rest = ask (soundField d f) (ofByte fieldMalformed n (placeIn d f)) rest
 
   -- so at the lowest field that is malformed, counted from n
   unfoldable pub forms : ℕ → List Field → List (List ℕ) → Option Fault → Option Fault

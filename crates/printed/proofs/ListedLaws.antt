@@ -85,26 +85,41 @@ pub ruleset threefold = (needs, second-room, third-room, three-count, three-done
 
 -- ---- all numbers of an answer
 
--- they are the first three with a comma after them, then the counts with CR LF
-parts : (a : Numbers) → threeThen (a .code) (a .line) (a .field) (44 ∷ []) ++ threeThen (a .inserts) (a .updates) (a .deletes) (13 ∷ 10 ∷ []) ≡ printNumbers a
+-- code, line and field, with a comma after them
+abbrev told : Numbers → List ℕ
+told a = threeThen (a .code) (a .line) (a .field) (44 ∷ [])
+
+-- the counts, likewise
+abbrev counted : Numbers → List ℕ
+counted a = threeThen (a .inserts) (a .updates) (a .deletes) (44 ∷ [])
+
+-- the place, with CR LF
+abbrev placed : Numbers → List ℕ
+placed a = numberThen (a .place) (13 ∷ 10 ∷ [])
+
+-- these are all
+parts : (a : Numbers) → told a ++ (counted a ++ placed a) ≡ printNumbers a
 unfolding threeThen numberThen printNumbers commaSeparated
 parts a = simp append-assoc
 
-module _ (a : Numbers) (n : ℕ) (p : n ≡ length (threeThen (a .code) (a .line) (a .field) (44 ∷ []))) where
-  -- how much is written
-  pub listed-count : (m : ℕ) → m ≡ length (threeThen (a .inserts) (a .updates) (a .deletes) (13 ∷ 10 ∷ [])) → n + m ≡ length (printNumbers a)
-  listed-count m r =
-      omega (arith, length-append (threeThen (a .code) (a .line) (a .field) (44 ∷ [])) (threeThen (a .inserts) (a .updates) (a .deletes) (13 ∷ 10 ∷ [])), ap length (parts a))
+-- how much is written
+pub listed-count : (a : Numbers) (n m k : ℕ) → n ≡ length (told a) → m ≡ length (counted a) → k ≡ length (placed a) → n + m + k ≡ length (printNumbers a)
+listed-count a n m k p q r = omega (arith, length-append (told a) (counted a ++ placed a), length-append (counted a) (placed a), ap length (parts a))
 
-  module _ (old new : List ℕ) (q : new ≡ inFront (threeThen (a .code) (a .line) (a .field) (44 ∷ [])) old) where
-    -- the counts have room
-    pub counts-room : 127 ≤ length old → n ≤ 63 → 64 ≤ length (take (length new - n) (drop n new))
-    counts-room h k = front-room (threeThen (a .code) (a .line) (a .field) (44 ∷ [])) old new n 64 p q (omega arith)
+module _ (a : Numbers) (old new : List ℕ) (n : ℕ) (room : 148 ≤ length old) (p : n ≡ length (told a)) (s : n ≤ 63) (q : new ≡ inFront (told a) old) where
+  -- the counts have room
+  pub counts-room : 63 ≤ length (take (length new - n) (drop n new))
+  counts-room = front-room (told a) old new n 63 p q (omega arith)
 
-    -- with them all are there
-    pub listed-done : (last : List ℕ) → last ≡ inFront (threeThen (a .inserts) (a .updates) (a .deletes) (13 ∷ 10 ∷ [])) (take (length new - n) (drop n new))
-        → putMid n (length new - n) new last ≡ inFront (printNumbers a) old
-    listed-done last w =
-        front-then (threeThen (a .code) (a .line) (a .field) (44 ∷ [])) (threeThen (a .inserts) (a .updates) (a .deletes) (13 ∷ 10 ∷ [])) old new last n p q w ∙ ap (λ t. inFront t old) (parts a)
+  module _ (m : ℕ) (last : List ℕ) (r : m ≡ length (counted a)) (t : m ≤ 63) (u : last ≡ inFront (counted a) (take (length new - n) (drop n new))) where
+    -- and so has the place
+    pub place-room : 22 ≤ length (take (length (putMid n (length new - n) new last) - (n + m)) (drop (n + m) (putMid n (length new - n) new last)))
+    place-room = last-room (told a) (counted a) [] old new last [] n m p q r u 22 (omega arith)
 
-pub ruleset listed = (needs, listed-count, counts-room, listed-done)
+    -- with it all are there
+    pub listed-done : (end : List ℕ)
+        → end ≡ inFront (placed a) (take (length (putMid n (length new - n) new last) - (n + m)) (drop (n + m) (putMid n (length new - n) new last)))
+        → putMid (n + m) (length (putMid n (length new - n) new last) - (n + m)) (putMid n (length new - n) new last) end ≡ inFront (printNumbers a) old
+    listed-done end w = front-last (told a) (counted a) (placed a) old new last end n m p q r u w ∙ ap (λ t. inFront t old) (parts a)
+
+pub ruleset listed = (needs, listed-count, counts-room, place-room, listed-done)

@@ -39,5 +39,6 @@ pub fn put_numbers(out: &mut [u8], a: Answer) -> usize
     ensures { λ r. ⌜ (r ≡ length (printNumbers (numbersMeant a))) × (r ≤ mostOfNumbers) × (now (out .exit) ≡ inFront (printNumbers (numbersMeant a)) (now (out .entry))) ⌝ }
 {
     let at = put_three(&mut *out, a.code, a.line, a.field, b",");
-    at + put_three(&mut out[at..], a.inserts, a.updates, a.deletes, b"\r\n")
+    let end = at + put_three(&mut out[at..], a.inserts, a.updates, a.deletes, b",");
+    end + put_number(&mut out[end..], a.place, b"\r\n")
 }

@@ -1,7 +1,9 @@
 // Runs vectors from standard input, one to a line, and prints each behind its answer. `@11 04 0500` asks whether 0500 is sound as field 4
-// of kind 11; any other line that is not empty and no comment (`#`) is taken for a record and answered by code and field.
+// of kind 11, and if not at which place it is malformed; any other line that is not empty and no comment (`#`) is taken for a record and
+// answered by code, field and place.
 use layout::check::check_line;
 use layout::check::kind_of;
+use layout::check::malformed_at;
 use layout::check::sound_at;
 use layout::kinds::Kind;
 use layout::kinds::KindFound;
@@ -26,10 +28,13 @@ fn answer_field(kind: Kind, number: u64, f: &[u8]) {
         return;
     }
     if sound_at(kind, k, f) {
-        say(b"sound:     ");
-    } else {
-        say(b"malformed: ");
+        say(b"sound: ");
+        return;
     }
+    let fault = malformed_at(kind, k, f);
+    say(b"malformed at ");
+    say_number(fault.place);
+    say(b": ");
 }
 
 // The answer on a vector for one field.
@@ -42,11 +47,11 @@ fn field_vector(line: &[u8]) {
     let number = text::numbers::value(&line[4..6]);
     match found {
         KindFound::Known(kind) => answer_field(kind, number, &line[7..]),
-        KindFound::Unknown => say(b"no kind:   "),
+        KindFound::Unknown => say(b"no kind: "),
     }
 }
 
-// The answer on a record: its code and field.
+// The answer on a record: its code, field and place.
 fn record_vector(line: &[u8]) {
     let end = text::fields::identifier_end(line);
     match kind_of(&line[0..end]) {
@@ -55,8 +60,10 @@ fn record_vector(line: &[u8]) {
             say_number(fault.code);
             say(b",");
             say_number(fault.field);
+            say(b",");
+            say_number(fault.place);
         }
-        KindFound::Unknown => say(b"2,1"),
+        KindFound::Unknown => say(b"2,1,0"),
     }
     say(b": ");
 }

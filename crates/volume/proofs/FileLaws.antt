@@ -6,7 +6,6 @@ use mathlib.Core.List.{List, []}
 use Prim.Native.Nat.{ℕ, suc, _+_, _-_, _≤_, _<_}
 use native.Mathlib.Nat.{zero-add, add-zero, add-assoc}
 use native.Mathlib.Omega.{arith}
-use borrow.Author.Tests.{eq-eqb, ne-eqb}
 use lib.Dec.{eqb}
 use lib.ListN.{length, getD, take, drop, length-take, length-drop}
 use Rattle.base.specs.Lists.{pick, ask}
@@ -26,7 +25,8 @@ use Rattle.text.proofs.LineLaws.{lines-at, lines-end, ends-well-at, ends-there}
 use Rattle.layout.specs.declared.kinds.Kind.{Kind as Named}
 use Rattle.answers.specs.declared.refusal.Fault.{Fault as FaultTold}
 use Rattle.layout.specs.Meant.{kindMeant}
-use Rattle.layout.specs.Check.{kindDates, told}
+use Rattle.layout.specs.Check.{badField, firstOf, kindDates, told}
+use Rattle.layout.specs.Rows.{Row}
 use Rattle.layout.proofs.CheckLaws.{fault-is}
 use Rattle.volume.specs.declared.stages.Stage.{Stage as StageNamed}
 use Rattle.volume.specs.declared.lines.Opened.{Opened}
@@ -36,8 +36,8 @@ use Rattle.answers.specs.declared.numbers.Answer.{Answer}
 use Rattle.volume.specs.Meant.{stageMeant}
 use Rattle.volume.specs.Judged.{opensAt, opensAs, opens, closes, judgedAs}
 use Rattle.volume.specs.Walk.{unwalked, tally, walkedOn, checkedFrom, leftOf, stoppedAt, Within}
-use Rattle.answers.specs.Meant.{faultOf, faultMeant, answerOf}
-use Rattle.meaning.specs.Codes.{endingWrong, identifierUnknown, outOfPlace, fieldCountWrong, fieldMalformed, endBeforeStart, tooManyBodyLines}
+use Rattle.answers.specs.Meant.{noFaultAt, faultOf, faultMeant, answerOf}
+use Rattle.meaning.specs.Codes.{endingWrong, identifierUnknown, outOfPlace, fieldCountWrong, endBeforeStart, tooManyBodyLines}
 use Rattle.layout.proofs.PassLaws.{lowest}
 use Rattle.volume.proofs.WalkLaws.{within-on, stopped-fault, stopped-none}
 
@@ -46,7 +46,7 @@ use Rattle.volume.proofs.WalkLaws.{within-on, stopped-fault, stopped-no
 -- 5, then 6, 7 and 8, of a line that was opened
 abbrev fully : ℕ → List ℕ → Judged → Judged
 fully n t (bad f) = bad f
-fully n t (good k q) = verdict (pick (eqb (lowest k t) 0) (closes n k t) (some (ofField fieldMalformed (lowest k t)))) k q
+fully n t (good k q) = verdict (firstOf (lowest k t) (closes n k t)) k q
 
 -- that is the meaning's judgement
 judge-is : (p : Stage) (n : ℕ) (b : Bool) (t : List ℕ) → pick b (judgeText scottish p n t (kindOf scottish (identifier t))) (bad (ofLine endingWrong)) ≡ fully n t (opens p n b t)
@@ -61,7 +61,7 @@ judge-is p n true t = kinded (kindOf scottish (identifier t))
     asked k q false f rest = refl
 
     opened : (k : Kind) (q : Stage) (r f : Bool)
-        → pick r (pick f (verdict (pick (eqb (lowest k t) 0) (closes n k t) (some (ofField fieldMalformed (lowest k t)))) k q) (bad (ofLine fieldCountWrong))) (bad (ofLine tooManyBodyLines))
+        → pick r (pick f (verdict (firstOf (lowest k t) (closes n k t)) k q) (bad (ofLine fieldCountWrong))) (bad (ofLine tooManyBodyLines))
         ≡ fully n t (verdict (ask r (ofLine tooManyBodyLines) (ask f (ofLine fieldCountWrong) none)) k q)
     opened k q true true = refl
     opened k q true false = refl
@@ -71,7 +71,7 @@ judge-is p n true t = kinded (kindOf scottish (identifier t))
     placed k none = refl
     placed k (some q) =
         rw (fault-is k t (countFault scottish (role k) n k t))
-        (asked k q (hasRoom (role k) n) (hasFields (length (fields k)) t) (pick (eqb (lowest k t) 0) (closes n k t) (some (ofField fieldMalformed (lowest k t))))
+        (asked k q (hasRoom (role k) n) (hasFields (length (fields k)) t) (firstOf (lowest k t) (closes n k t))
         ∙ opened k q (hasRoom (role k) n) (hasFields (length (fields k)) t))
 
     kinded : (o : Option Kind) → judgeText scottish p n t o ≡ fully n t (opensAs p n t o)
@@ -152,6 +152,10 @@ closes-told n k t z = dated (kindDates k (fieldsOf t)) (role k) z
 -- no code, no fault
 told-none : (n : ℕ) (k : Kind) (t : List ℕ) (f : FaultTold) → f ≡ told (closes n k t) → f .code ≡ 0 → closes n k t ≡ none
 told-none n k t f g z = closes-told n k t (ap (λ x. x .code) (sym g) ∙ z)
+
+-- and none is told
+pub closed-none : (n : ℕ) (k : Kind) (t : List ℕ) (f : FaultTold) → f ≡ told (closes n k t) → f .code ≡ 0 → f ≡ noFaultAt
+closed-none n k t f g z = g ∙ ap told (told-none n k t f g z)
 
 -- a code, and the fault is told
 told-some : (o : Option Fault) (f : FaultTold) → f ≡ told o → (f .code ≡ 0 → ⊥) → o ≡ some (faultMeant f)
@@ -269,16 +273,16 @@ module _ (s : List ℕ) (w : Walk) (at e : ℕ) (h : at < length s) (q : e ≡ p
           sym (opened-fields (stageMeant (w .stage)) (w .body) b (take (e - at) (drop at s)) (kindMeant kind) (stageMeant stage) (rw z at j))
 
       -- 5 is the file's fault
-      pub read-malformed : (k : ℕ) → k + 1 ≡ lowest (kindMeant kind) (take (e - at) (drop at s)) → Faulty s w (faultOf (ofField fieldMalformed (k + 1)))
+      pub read-malformed : (n : ℕ) (d : Row) (g : List ℕ) → some (badField n d g) ≡ lowest (kindMeant kind) (take (e - at) (drop at s)) → Faulty s w (faultOf (badField n d g))
       unfolding onLine checkedFrom verdict
-      read-malformed k m = record { refuses = line-good ∙ rw (← m, ne-eqb (k + 1) 0 (λ u. omega (arith, u))); coded = λ z. omega (arith, z) }
+      read-malformed n d g m = record { refuses = line-good ∙ rw (← m); coded = λ z. omega (arith, z) }
 
-      module _ (y : 0 ≡ lowest (kindMeant kind) (take (e - at) (drop at s))) (f : FaultTold) (g : f ≡ told (closes (w .body) (kindMeant kind) (take (e - at) (drop at s)))) where
+      module _ (y : none ≡ lowest (kindMeant kind) (take (e - at) (drop at s))) (f : FaultTold) (g : f ≡ told (closes (w .body) (kindMeant kind) (take (e - at) (drop at s)))) where
         -- 6, 7 or 8 is the file's fault
         pub read-closed : (f .code ≡ 0 → ⊥) → Faulty s w f
         unfolding onLine checkedFrom verdict
         read-closed m = record {
-          refuses = line-good ∙ rw (eq-eqb (lowest (kindMeant kind) (take (e - at) (drop at s))) 0 (sym y), told-some (closes (w .body) (kindMeant kind) (take (e - at) (drop at s))) f g m);
+          refuses = line-good ∙ rw (← y, told-some (closes (w .body) (kindMeant kind) (take (e - at) (drop at s))) f g m);
           coded = m;
         }
 
@@ -289,7 +293,7 @@ module _ (s : List ℕ) (w : Walk) (at e : ℕ) (h : at < length s) (q : e ≡ p
         unfolding onLine verdict leftOf walkedOn
         passed m =
             line-good
-            ∙ rw (eq-eqb (lowest (kindMeant kind) (take (e - at) (drop at s))) 0 (sym y), told-none (w .body) (kindMeant kind) (take (e - at) (drop at s)) f g m)
+            ∙ rw (← y, told-none (w .body) (kindMeant kind) (take (e - at) (drop at s)) f g m)
             (counted-on w (kindMeant kind) (take (e - at) (drop at s)) stage (role (kindMeant kind)) (rest (kindMeant kind) (stageMeant stage)))
 
         -- and the walk goes on after it

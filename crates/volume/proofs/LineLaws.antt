@@ -11,7 +11,7 @@ use borrow.Author.Needs.{needs}
 use borrow.Author.Tests.{not-true, not-false}
 use lib.Dec.{T, eqb, ltb, leb, eqb→eq, ltb→lt, leb→le}
 use lib.ListN.{length, getD}
-use Rattle.base.specs.Lists.{pick, ask, all, same, bytes}
+use Rattle.base.specs.Lists.{ask, all, same, bytes}
 use Rattle.base.specs.Tests.{and-l, and-r}
 use Rattle.theory.specs.Step.{ins, upd, del}
 use Rattle.theory.specs.Decimal.{value}
@@ -37,7 +37,7 @@ use Rattle.meaning.specs.Answers.{ofLine, ofField}
 use Rattle.answers.specs.Meant.{faultOf, faultMeant, noFaultAt}
 use Rattle.layout.specs.Meant.{kindMeant, kindFound}
 use Rattle.layout.specs.Rows.{Row, bare, noRow, rowOf, laidOut}
-use Rattle.layout.specs.Check.{lowestBad, kindDates, told}
+use Rattle.layout.specs.Check.{badField, lowestBad, kindDates, told}
 use Rattle.layout.proofs.KindLaws.{roleOf, role-of}
 use Rattle.layout.proofs.CheckLaws.{named-at, right-count}
 use Rattle.volume.specs.declared.stages.Stage.{Stage as StageNamed}
@@ -137,15 +137,15 @@ narrow-short fileType b f n s = absurd n
 narrow-short (keyText c) b f n s = absurd n
 
 -- where no field is malformed, such a field is no longer
-sound-short : (n : ℕ) (ds : List Row) (fs : List (List ℕ)) (i : ℕ) → 0 ≡ lowestBad (suc n) ds fs → i < length ds → T (narrow (getD ds i noRow .0)) → length (getD fs i []) ≤ 16
-unfolding lowestBad
+sound-short : (n : ℕ) (ds : List Row) (fs : List (List ℕ)) (i : ℕ) → none ≡ lowestBad (suc n) ds fs → i < length ds → T (narrow (getD ds i noRow .0)) → length (getD fs i []) ≤ 16
+unfolding lowestBad ask
 sound-short n [] fs i z h w = absurd (omega arith)
 sound-short n (d ∷ ds) [] i z h w = omega arith
 sound-short n (d ∷ ds) (f ∷ fs) i z h w = go (soundAs (scottish .textRule) (d .0) (d .1) f) refl i h w z (sound-short (suc n) ds fs)
   where
-    go : (b : Bool) → soundAs (scottish .textRule) (d .0) (d .1) f ≡ b → (i : ℕ) → i < suc (length ds) → T (narrow (getD (d ∷ ds) i noRow .0)) → 0 ≡ pick b (lowestBad (suc (suc n)) ds fs) (suc n)
-        → ((i : ℕ) → 0 ≡ lowestBad (suc (suc n)) ds fs → i < length ds → T (narrow (getD ds i noRow .0)) → length (getD fs i []) ≤ 16) → length (getD (f ∷ fs) i []) ≤ 16
-    go false s i h w z ih = absurd (omega arith)
+    go : (b : Bool) → soundAs (scottish .textRule) (d .0) (d .1) f ≡ b → (i : ℕ) → i < suc (length ds) → T (narrow (getD (d ∷ ds) i noRow .0)) → none ≡ ask b (badField (suc n) d f) (lowestBad (suc (suc n)) ds fs)
+        → ((i : ℕ) → none ≡ lowestBad (suc (suc n)) ds fs → i < length ds → T (narrow (getD ds i noRow .0)) → length (getD fs i []) ≤ 16) → length (getD (f ∷ fs) i []) ≤ 16
+    go false s i h w z ih = absurd (omega (arith, ap (λ o. told o .code) z))
     go true s zero h w z ih = narrow-short (d .0) (d .1) f w s
     go true s (suc i) h w z ih = ih i z (omega arith) w
 
@@ -155,7 +155,7 @@ third-is s k t h =
     let p : fieldNumber 1 s (fields k) ≡ 3 = eqb→eq (fieldNumber 1 s (fields k)) 3 (and-l (eqb (fieldNumber 1 s (fields k)) 3) _ h) in
     (p, named-at 0 s (fields k) (fieldsOf t) (λ z. omega (arith, p, z)) ∙ rw p)
 
-third-short : (s : String) (k : Kind) (t : List ℕ) → T (thirdIs s k) → 0 ≡ lowestBad 1 (map bare (fields k)) (fieldsOf t) → length (getD (fieldsOf t) 2 []) ≤ 16
+third-short : (s : String) (k : Kind) (t : List ℕ) → T (thirdIs s k) → none ≡ lowestBad 1 (map bare (fields k)) (fieldsOf t) → length (getD (fieldsOf t) 2 []) ≤ 16
 unfolding rowOf
 third-short s k t h z =
     let r = and-r (eqb (fieldNumber 1 s (fields k)) 3) _ h in
@@ -224,11 +224,11 @@ pub ruleset opening = (needs, not-true, not-false, open-unended, open-unknown, o
 
 module _ (kind : Named) (n : ℕ) (t : List ℕ) where
   -- a body line's number is no longer than 16 bytes
-  pub close-short : (h : HeldKind) → kind ≡ Held h → 0 ≡ lowestBad 1 (map bare (fields (kindMeant kind))) (fieldsOf t) → length (getD (fieldsOf t) 2 []) ≤ 16
+  pub close-short : (h : HeldKind) → kind ≡ Held h → none ≡ lowestBad 1 (map bare (fields (kindMeant kind))) (fieldsOf t) → length (getD (fieldsOf t) 2 []) ≤ 16
   close-short h c z = third-short proOrder (kindMeant kind) t (rw (role-of kind (Held h) c) at (third (kindMeant kind))) z
 
   -- nor a trailer's
-  pub close-short-last : kind ≡ Trailer → 0 ≡ lowestBad 1 (map bare (fields (kindMeant kind))) (fieldsOf t) → length (getD (fieldsOf t) 2 []) ≤ 16
+  pub close-short-last : kind ≡ Trailer → none ≡ lowestBad 1 (map bare (fields (kindMeant kind))) (fieldsOf t) → length (getD (fieldsOf t) 2 []) ≤ 16
   close-short-last c z = third-short recordCount (kindMeant kind) t (rw (role-of kind Trailer c) at (third (kindMeant kind))) z
 
   module _ (b : Bool) (r : b ≡ kindDates (kindMeant kind) (fieldsOf t)) where

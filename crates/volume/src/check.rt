@@ -13,13 +13,13 @@ use crate::lines::open_line;
 use crate::stages::Stage;
 use crate::walk::Walk;
 use crate::walk::after_line;
-use answers::codes::FIELD_MALFORMED;
 use answers::codes::OUT_OF_PLACE;
 use answers::numbers::Answer;
 use answers::numbers::refused;
 use answers::numbers::taken;
 use answers::refusal::Fault;
 use answers::refusal::Refusal;
+use layout::check::malformed_at;
 use layout::check::sound_at;
 use layout::rules::layout;
 use text::fields::split;
@@ -83,16 +83,16 @@ pub fn check_file(file: &[u8]) -> Answer
                 let mut start = 0;
                 while k < count {
                     let stop = ends[k];
-                    if !sound_at(kind, k, &text[start..stop]) {
-                        bad = Fault::of_field(FIELD_MALFORMED, (k + 1) as u64);
+                    let field = &text[start..stop];
+                    if !sound_at(kind, k, field) {
+                        bad = malformed_at(kind, k, field);
                         break 'lines;
                     }
                     start = stop + 1;
                     k += 1;
                 }
-                let closed = close_line(kind, walk.body, text, &ends);
-                if closed.code != 0 {
-                    bad = closed;
+                bad = close_line(kind, walk.body, text, &ends);
+                if bad.code != 0 {
                     break 'lines;
                 }
                 walk = after_line(walk, kind, text, after);

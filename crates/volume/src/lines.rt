@@ -120,7 +120,7 @@ fn number_fault(right: bool, code: u64) -> Fault
 
 // A line after its fields, which are sound: 6, then 7 or 8.
 pub fn close_line(kind: Kind, body: usize, text: &[u8], ends: &[usize]) -> Fault
-    requires { ⌜ Parted (kindMeant kind) (now text) (now ends) × (0 ≡ lowestBad 1 (map bare (fields (kindMeant kind))) (fieldsOf (now text))) × (body < 2 ^ 63) ⌝ }
+    requires { ⌜ Parted (kindMeant kind) (now text) (now ends) × (none ≡ lowestBad 1 (map bare (fields (kindMeant kind))) (fieldsOf (now text))) × (body < 2 ^ 63) ⌝ }
     ensures { λ r. ⌜ r ≡ told (closes body (kindMeant kind) (now (text .entry))) ⌝ }
 {
     let end = layout(kind).end;

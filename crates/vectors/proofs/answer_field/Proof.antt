@@ -18,7 +18,11 @@ answer-field-spec =
     (λ c κs. search (needs, count-there))  -- sound-at-requires
     (λ c. search needs)  -- slice-aggregate-say-3
     (λ c κs. search needs)  -- say-requires-3
+    (λ c. search needs)  -- returns-3
+    (λ c κs. search (needs, count-there))  -- malformed-at-requires
     (λ c. search needs)  -- slice-aggregate-say-4
     (λ c κs. search needs)  -- say-requires-4
-    (λ c. search needs)  -- returns-3
+    (λ c κs. search needs)  -- say-number-requires
+    (λ c. search needs)  -- slice-aggregate-say-5
+    (λ c κs. search needs)  -- say-requires-5
     (λ c. search needs))  -- returns-4

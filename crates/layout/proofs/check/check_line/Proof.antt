@@ -15,11 +15,10 @@ check-line-spec =
     (λ c. search faults)  -- returns
     (λ c. search faults)  -- slice-aggregate-lowest-malformed
     (λ c κs. let s = c .before .before .before in let l = s .before .before in record { many = right-count _ _ _ (l .layout .ensures) _ (s .split .ensures .0) (c .before .if1 .left); noted = s .split .ensures .1; room = omega (arith, s .split .ensures .2) })  -- lowest-malformed-requires
-    (λ c κs. search faults)  -- of-field-requires
     (λ c. search faults)  -- returns-2
     (λ c. search faults)  -- slice-aggregate-dates-agree
-    (λ c κs. let i = c .before .before .before .before in let s = i .before .before in let l = s .before .before in record { many = right-count _ _ _ (l .layout .ensures) _ (s .split .ensures .0) (i .if1 .left); noted = s .split .ensures .1; room = omega (arith, s .split .ensures .2) })  -- dates-agree-requires
-    (λ c κs. search faults)  -- of-field-requires-2
+    (λ c κs. let i = c .before .before .before .before .before in let s = i .before .before in let l = s .before .before in record { many = right-count _ _ _ (l .layout .ensures) _ (s .split .ensures .0) (i .if1 .left); noted = s .split .ensures .1; room = omega (arith, s .split .ensures .2) })  -- dates-agree-requires
+    (λ c κs. search faults)  -- of-field-requires
     (λ c. search faults)  -- returns-3
     (λ c κs. search faults)  -- none-requires
     (λ c. search faults))  -- returns-4

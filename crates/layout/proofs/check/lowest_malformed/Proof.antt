@@ -17,14 +17,15 @@ lowest-malformed-spec =
     (λ c. search passing)  -- loop-holds
     (λ c. search passing)  -- mul-end
     (λ c. search passing)  -- shared-slice-read-end
-    (λ c. search passing)  -- sub-sound-at
-    (λ c. search passing)  -- part-sound-at-start
-    (λ c. search passing)  -- part-sound-at-end
+    (λ c. search passing)  -- sub-field
+    (λ c. search passing)  -- part-field-start
+    (λ c. search passing)  -- part-field-end
     (λ c κs. search passing)  -- sound-at-requires
-    (λ c. search passing)  -- add-result
+    (λ c κs. search passing)  -- malformed-at-requires
     (λ c. search passing)  -- returns
     (λ c. let t = c .before .before .before .before in let w = pass-within _ _ _ _ _ _ (t .before .loop .inv .0) (t .loop-test .taken) in search needs)  -- add-at
     (λ c. search passing)  -- add-k
     (λ c. search passing)  -- loop-less
     (λ c. let t = c .before .before .before .before in (pass-turn _ _ _ _ _ _ (t .before .loop .inv .0) (t .loop-test .taken) _ (c .before .sound-at .ensures) (not-false _ (c .if1 .left)), search needs))  -- loop-again
+    (λ c κs. search passing)  -- none-requires
     (λ c. search passing))  -- returns-2

@@ -14,6 +14,12 @@ put-numbers-spec =
     (λ c. search listed)  -- part-put-three-end
     (λ c. search listed)  -- slice-aggregate-put-three-2
     (λ c κs. search listed)  -- put-three-requires-2
+    (λ c. search listed)  -- add-end
+    (λ c. search listed)  -- sub-put-number
+    (λ c. search listed)  -- part-put-number-start
+    (λ c. search listed)  -- part-put-number-end
+    (λ c. search listed)  -- slice-aggregate-put-number
+    (λ c κs. search listed)  -- put-number-requires
     (λ c. search listed)  -- add-result
     (λ c. search listed)  -- same-length
     (λ c. (search listed, search listed, search listed)))  -- returns

@@ -10,8 +10,8 @@ pub say-numbers-spec : {M : Type 1} → statement M
 say-numbers-spec =
     tie.close
     (tie.spec
-    (λ numbers i₀ t4 i. length numbers ≡ 6)
-    (λ numbers i₀ t4 i. 6 - i)
+    (λ numbers i₀ t4 i. length numbers ≡ 7)
+    (λ numbers i₀ t4 i. 7 - i)
     (λ c κs. search needs)  -- in-order-requires
     (λ c. search needs)  -- array-read-say-number
     (λ c κs. search needs)  -- say-number-requires

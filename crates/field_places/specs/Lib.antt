@@ -1,0 +1,10 @@
+pub mod Places
+pub mod Control
+pub mod Numbers
+pub mod AtLeast1
+pub mod Decimals
+pub mod Dates
+pub mod Times
+pub mod Texts
+pub mod Codes
+pub mod Keys
