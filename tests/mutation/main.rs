@@ -34,7 +34,7 @@ fn wanted() -> Wanted {
 }
 
 fn usage() -> ! {
-    eprintln!("usage: tests/mutants [--sample N] [--seed S] [--list] CRATE ..");
+    eprintln!("usage: tests/mutants [--sample N] [--seed S] [--list] CRATE[/FILE] ..");
     std::process::exit(2)
 }
 
@@ -102,8 +102,10 @@ fn counted(name: &str, settled: &[(Verdict, Mutant)]) -> String {
 fn main() {
     let wanted = wanted();
     let mut summary = Vec::new();
-    for name in &wanted.crates {
+    for named in &wanted.crates {
+        let (name, file) = named.split_once('/').unwrap_or((named, ""));
         let mut all = mutants::of_crate(name);
+        all.retain(|mutant| mutant.file.ends_with(file));
         if wanted.list {
             all.iter().for_each(|m| println!("{}", m.shown()));
             continue;
@@ -112,7 +114,7 @@ fn main() {
             all = shuffled(all, wanted.seed);
         }
         let settled = run(name, all, wanted.sample);
-        summary.push(counted(name, &settled));
+        summary.push(counted(named, &settled));
         let survivors = settled.iter().filter(|(v, _)| *v == Verdict::Survived);
         summary.extend(survivors.map(|(_, m)| format!("SURVIVED {}", m.shown())));
     }
