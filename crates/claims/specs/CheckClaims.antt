@@ -56,8 +56,8 @@ pub record FiveClaims (file : List ℕ) (line field place : ℕ) : Type 0 where
 pub record FileClaims (file : List ℕ) (r : Answer) : Type 0 where
   -- the definition's numbers, and so one outcome only
   pub outcome : r ≡ answerOf (checkFile scottish file)
-  -- a row of paper 01's table, and a place beside 5 alone
-  pub tabled : InTable (checkRows scottish file) r
+  -- demand 1: a row of paper 01's table, and a place beside 5 alone
+  pub tabled : InTable (checkRows scottish file) file r
   -- 0 exactly if the file is sound, line by line
   pub done : (r .code ≡ 0) ↔ SomeFile scottish file
   -- then its body lines are counted
@@ -118,7 +118,7 @@ module _ (file : List ℕ) (r : Answer) (o : r ≡ answerOf (checkFile scottish 
     six = λ e. six-field scottish file (r .line) (r .field) (r .place) (refused-with endBeforeStart e (λ z. omega (arith, z)));
     eight = λ e. eight-line scottish file (r .line) (r .field) (r .place) (refused-with recordCountWrong e (λ z. omega (arith, z)));
     nine = λ e. nine-line scottish file (r .line) (r .field) (r .place) (refused-with tooManyBodyLines e (λ z. omega (arith, z)));
-    unplaced = pointed-none (r .code) (r .place) (check-file-numbers file r o .1);
+    unplaced = pointed-none (r .code) (r .place) (check-file-numbers file r o .place);
   }
 
 -- ---- a holding

@@ -1,19 +1,27 @@
 -- Demand 1: each refusal has a number, a line and a field, and by paper 02, request 01, 5 has a place; and the output then holds nothing but zeros.
 -- That every input is met without a fault, and that each operation finishes, is no theorem: it is what a proved function without `requires` is.
-use mathlib.Core.Path.{_≡_, sym, ap, _∙_}
+use mathlib.Core.Path.{_≡_, sym, ap, _∙_, subst}
 use mathlib.Core.List.{List, []}
-use Prim.Native.Nat.{ℕ, _≤_}
+use Prim.Native.Nat.{ℕ, _+_, _≤_}
+use native.Mathlib.Omega.{arith}
 use denote.Ref.{RefT}
 use lib.Dec.{T}
 use lib.ListN.{length, take, drop}
 use Rattle.base.specs.Lists.{zeros}
+use Rattle.meaning.specs.Place.{placeAs}
 use Rattle.meaning.specs.Table.{scottish}
+use Rattle.meaning.specs.Sound.{placeIn}
+use Rattle.meaning.specs.Codes.{fieldMalformed}
 use Rattle.meaning.specs.Load.{thenZeros, checkFile, checkHolding}
 use Rattle.meaning.specs.Enquiries.{Found, find, inForce, fieldOf}
 use Rattle.meaning.specs.Answers.{Three}
 use Rattle.meaning.specs.Undo.{undoBytes}
 use Rattle.laws.specs.Rows.{Row, given, pointed, checkRows, holdingRows, applyRows, undoRows, findRows, forceRows, fieldRows, FoundIn, check-given, holding-given, apply-given, undo-given, find-given, force-given, field-given, check-pointed, apply-pointed, undo-pointed}
+use Rattle.laws.specs.PlaceLaws.{place-most}
 use Rattle.laws.specs.Checks.{refused-counts}
+use Rattle.laws.specs.WhyFile.{FileFails, check-why, five-field}
+use Rattle.laws.specs.WhyLoad.{Reason, reason-five, apply-why, undo-why}
+use Rattle.laws.specs.WhyField.{fieldBytes}
 use Rattle.laws.specs.Demand2.{refused-zeros}
 use Rattle.laws.specs.Demand3.{undo-done}
 use Rattle.laws.specs.Buffers.{work-zeros, undo-output, undo-refused-zeros}
@@ -62,25 +70,53 @@ check-refused file r e n =
 
 -- ---- each refusal has a number, a line and a field, and 5 a place
 
--- the numbers stand in these rows of paper 01's table, and a place stands beside 5 alone
-abbrev pub InTable : List Row → Answer → Type 0
-InTable rows r = T (given rows (r .code) (r .line) (r .field)) × T (pointed (r .code) (r .place))
+-- which numbers come with which code
+pub record InTable (rows : List Row) (file : List ℕ) (r : Answer) : Type 0 where
+  -- code, line and field stand in these rows of paper 01's table
+  pub row : T (given rows (r .code) (r .line) (r .field))
+  -- the place is 0 with every code but 5, and from 1 on with 5
+  pub place : T (pointed (r .code) (r .place))
+  -- and then at most one past the end of the field of the file that 5 names
+  pub within : r .code ≡ fieldMalformed → r .place ≤ length (fieldBytes file (r .line) (r .field)) + 1
+
+-- the place that a faulty file is refused with is within its field, or one past the end
+check-within : (file : List ℕ) → checkFile scottish file .code ≡ fieldMalformed
+    → checkFile scottish file .place ≤ length (fieldBytes file (checkFile scottish file .line) (checkFile scottish file .field)) + 1
+unfolding placeIn placeAs
+check-within file e =
+    let n = checkFile scottish file in
+    let w = subst (λ c. FileFails scottish file c (n .line) (n .field) (n .place)) e (check-why scottish file (λ z. omega (arith, e, z))) in
+    rw (five-field scottish file (n .line) (n .field) (n .place) w .4 .1) (place-most _ _ (fieldBytes file (n .line) (n .field)))
+
+-- and so is that of a load that is refused by its file
+load-within : (room : ℕ) (old file : List ℕ) (c l f p : ℕ) → Reason scottish room old file c l f p → c ≡ fieldMalformed → p ≤ length (fieldBytes file l f) + 1
+load-within room old file c l f p w e =
+    let d = reason-five scottish room old file c l f p w e in
+    rw (d .0 .1, d .0 .2, d .1) (check-within file (sym (d .0 .0) ∙ e))
 
 -- check a file
-pub check-file-numbers : (file : List ℕ) (r : Answer) → r ≡ answerOf (checkFile scottish file) → InTable (checkRows scottish file) r
-check-file-numbers file r e = rw e (check-given scottish scottish-regular file, check-pointed scottish file)
+pub check-file-numbers : (file : List ℕ) (r : Answer) → r ≡ answerOf (checkFile scottish file) → InTable (checkRows scottish file) file r
+check-file-numbers file r o = rw o (record { row = check-given scottish scottish-regular file; place = check-pointed scottish file; within = check-within file })
 
 -- check a holding
 pub check-holding-numbers : (old : List ℕ) (v : Verdict) → v ≡ verdictOf (checkHolding scottish old) → T (given (holdingRows old) (v .code) (v .line) (v .field))
 check-holding-numbers old v e = rw e (holding-given scottish old)
 
 -- apply
-pub apply-numbers : (old file : List ℕ) (room : ℕ) (r : Answer) (out : List ℕ) → Outcome old file room r out → InTable (applyRows scottish old file) r
-apply-numbers old file room r out o = rw (o .0) (apply-given scottish scottish-regular old file room, apply-pointed scottish scottish-regular old file room)
+pub apply-numbers : (old file : List ℕ) (room : ℕ) (r : Answer) (out : List ℕ) → Outcome old file room r out → InTable (applyRows scottish old file) file r
+apply-numbers old file room r out o = rw (o .0) (record {
+  row = apply-given scottish scottish-regular old file room;
+  place = apply-pointed scottish scottish-regular old file room;
+  within = λ e. load-within room old file _ _ _ _ (apply-why scottish scottish-regular old file room (λ z. omega (arith, e, z))) e;
+})
 
 -- undo
-pub undo-numbers : (old file : List ℕ) (room space : ℕ) (r : Answer) (out work : List ℕ) → UndoOutcome old file room space r out work → InTable (undoRows scottish old file) r
-undo-numbers old file room space r out work o = rw (o .0) (undo-given scottish scottish-regular old file room space, undo-pointed scottish scottish-regular old file room space)
+pub undo-numbers : (old file : List ℕ) (room space : ℕ) (r : Answer) (out work : List ℕ) → UndoOutcome old file room space r out work → InTable (undoRows scottish old file) file r
+undo-numbers old file room space r out work o = rw (o .0) (record {
+  row = undo-given scottish scottish-regular old file room space;
+  place = undo-pointed scottish scottish-regular old file room space;
+  within = λ e. load-within space old file _ _ _ _ (undo-why scottish scottish-regular old file room space (λ z. omega (arith, e, z)) (λ z. omega (arith, e, z))) e;
+})
 
 -- an enquiry's three numbers stand in these rows, and a refusal hands back an empty part
 pub record Told (rows : List Row) (answer part : List ℕ) : Type 0 where

@@ -68,7 +68,7 @@ pub record ApplyClaims (old file : List ℕ) (room : ℕ) (r : Answer) (out : Li
   -- the definition's numbers and bytes, and so one outcome only
   pub outcome : Outcome old file room r out
   -- demand 1: a row of paper 01's table, and a place beside 5 alone
-  pub tabled : InTable (applyRows scottish old file) r
+  pub tabled : InTable (applyRows scottish old file) file r
   -- and on refusal zeros, and nothing counted
   pub refused : (r .code ≡ 0 → ⊥) → Nothing room r out
   -- demand 2: taken exactly if all is allowed
@@ -112,7 +112,7 @@ pub record UndoClaims (old file : List ℕ) (room space : ℕ) (r : Answer) (out
   -- the definition's numbers and bytes, and so one outcome only
   pub outcome : UndoOutcome old file room space r out work
   -- demand 1: a row of paper 01's table, and a place beside 5 alone
-  pub tabled : InTable (undoRows scottish old file) r
+  pub tabled : InTable (undoRows scottish old file) file r
   -- on refusal zeros, and nothing counted
   pub refused : (r .code ≡ 0 → ⊥) → Nothing room r out
   -- the work buffer is all zeros
