@@ -261,8 +261,9 @@ static void unsound(struct bytes holding, uint64_t line) {
     char number[24];
     muiwash_check_file(file.start, file.length, answer);
     snprintf(number, sizeof number, "%" PRIu64, line);
+    int change_type = answer[0] == MUIWASH_MALFORMED && answer[2] == 2; /* in a file U and D could stand there too */
     if (kind && kind->role != ROLE_bodyLine) printf(": a line of kind %s is none of a holding", kind->identifier);
-    else if (answer[1] == 2 && answer[0] != MUIWASH_PRO_ORDER) sentence(nothing, file, answer);
+    else if (answer[1] == 2 && answer[0] != MUIWASH_PRO_ORDER && !change_type) sentence(nothing, file, answer);
     else if (!is(field_of(file, 2, 2), "\"I\"")) printf(", field 2 %s: a holding has \"I\" alone", kind->fields[1].name);
     else if (!is(field_of(file, 2, 3), number)) {
         printf(", field 3 %s: ", kind->fields[2].name), print(field_of(file, 2, 3)), printf(", and %s is due", number);

@@ -20,7 +20,7 @@ use Rattle.form.specs.Meant.{meant}
 use Rattle.layout.specs.Rows.{formDecoded, soundBy}
 use Rattle.layout.specs.Longest.{mostOfAny}
 use Rattle.form.specs.declared.Form.{Form as Code}
-use Rattle.form.specs.declared.Form.the-variants.{Number, AtLeast1, Decimal, Date, Time, Text, ChangeType, XrefType, FileType, KeyText}
+use Rattle.form.specs.declared.Form.the-variants.{Decimal}
 use Rattle.layout.proofs.LongestLaws.{begins-longer, goes-over, short-row, wide-decimal}
 
 -- ---- two parts, one behind the other
@@ -146,91 +146,33 @@ module _ (form m : Form) (f : form ≡ m) (sound : List ℕ → Bool) (p : List 
 
 pub ruleset emptied = (needs, not-true, not-false, empty-text, empty-bare)
 
--- ---- the samples of a form, as code has them
+-- ---- the samples of a form, in the arm of that form
 
--- 9999-11-11
-abbrev eleventh : List ℕ
-eleventh = 57 ∷ 57 ∷ 57 ∷ 57 ∷ 45 ∷ 49 ∷ 49 ∷ 45 ∷ 49 ∷ 49 ∷ []
+module _ (sound : List ℕ → Bool) (p : List ℕ) (form : Code) (m : Form) (i : meant form ≡ m) (arm : Code) (f : form ≡ arm) where
+  -- all of them at once
+  pub arm-all : (r : Bool) (ss : List (List ℕ)) → r ≡ begins sound ss p → samples (meant arm) ≡ ss → r ≡ begins sound (samples m) p
+  arm-all r ss e a = rw (← i, f, a) e
 
--- 9999-11-30
-abbrev thirtieth : List ℕ
-thirtieth = 57 ∷ 57 ∷ 57 ∷ 57 ∷ 45 ∷ 49 ∷ 49 ∷ 45 ∷ 51 ∷ 48 ∷ []
-
--- 000000
-abbrev midnight : List ℕ
-midnight = 48 ∷ 48 ∷ 48 ∷ 48 ∷ 48 ∷ 48 ∷ []
-
-module _ (sound : List ℕ → Bool) (p : List ℕ) (r : Bool) where
-  -- one sample alone
-  one : (s : List ℕ) → r ≡ goesOn sound p s → r ≡ begins sound (s ∷ []) p
+  -- one alone
+  pub arm-one : (r : Bool) (s : List ℕ) → r ≡ goesOn sound p s → samples (meant arm) ≡ s ∷ [] → r ≡ begins sound (samples m) p
   unfolding begins
-  one s e = e ∙ sym (or-false (goesOn sound p s))
+  arm-one r s e a = arm-all r (s ∷ []) (e ∙ sym (or-false (goesOn sound p s))) a
 
-  -- the first of two
-  first : (s u : List ℕ) (b : Bool) → b ≡ goesOn sound p s → b ≡ true → true ≡ begins sound (s ∷ u ∷ []) p
+  -- the first, whatever follows it
+  pub arm-first : (b : Bool) (s : List ℕ) → b ≡ goesOn sound p s → b ≡ true → samples (meant arm) ≡ s ∷ drop 1 (samples (meant arm)) → true ≡ begins sound (samples m) p
   unfolding begins
-  first s u b e t = rw (sym e ∙ t)
+  arm-first b s e t a = arm-all true (s ∷ drop 1 (samples (meant arm))) (rw (sym e ∙ t)) a
 
-  -- the second
-  second : (s u : List ℕ) (b : Bool) → b ≡ goesOn sound p s → b ≡ false → r ≡ goesOn sound p u → r ≡ begins sound (s ∷ u ∷ []) p
+  -- the second of two
+  pub arm-second : (b r : Bool) (s u : List ℕ) → b ≡ goesOn sound p s → b ≡ false → r ≡ goesOn sound p u → samples (meant arm) ≡ s ∷ u ∷ [] → r ≡ begins sound (samples m) p
   unfolding begins
-  second s u b e t q = rw (sym e ∙ t) (one u q)
-
-  module _ (form : Code) (m : Form) (i : meant form ≡ m) where
-    pub of-number : (w : ℕ) → form ≡ Number w → r ≡ goesOn sound p (49 ∷ []) → r ≡ begins sound (samples m) p
-    unfolding samples bytes
-    of-number w f e = rw (← i, f) (one (49 ∷ []) e)
-
-    pub of-at-least-1 : (w : ℕ) → form ≡ AtLeast1 w → r ≡ goesOn sound p (49 ∷ []) → r ≡ begins sound (samples m) p
-    unfolding samples bytes
-    of-at-least-1 w f e = rw (← i, f) (one (49 ∷ []) e)
-
-    pub of-time : form ≡ Time → r ≡ goesOn sound p midnight → r ≡ begins sound (samples m) p
-    unfolding samples bytes
-    of-time f e = rw (← i, f) (one midnight e)
-
-    pub of-text : (w : ℕ) → form ≡ Text w → r ≡ goesOn sound p (34 ∷ 97 ∷ 34 ∷ []) → r ≡ begins sound (samples m) p
-    unfolding samples bytes
-    of-text w f e = rw (← i, f) (one (34 ∷ 97 ∷ 34 ∷ []) e)
-
-    pub of-change : form ≡ ChangeType → r ≡ begins sound (inQuotes (73 ∷ 85 ∷ 68 ∷ [])) p → r ≡ begins sound (samples m) p
-    unfolding samples bytes inQuotes
-    of-change f e = rw (← i, f) e
-
-    pub of-file : form ≡ FileType → r ≡ begins sound (inQuotes (65 ∷ 66 ∷ 67 ∷ 68 ∷ 69 ∷ 70 ∷ 71 ∷ 72 ∷ [])) p → r ≡ begins sound (samples m) p
-    unfolding samples bytes inQuotes
-    of-file f e = rw (← i, f) e
-
-    pub of-decimal : (w d : ℕ) → form ≡ Decimal w d → r ≡ goesOn sound p (bytes "0." ++ replicate d 48) → r ≡ begins sound (samples m) p
-    unfolding samples
-    of-decimal w d f e = rw (← i, f) (one (bytes "0." ++ replicate d 48) e)
-
-    pub of-key : (letter : ℕ) → form ≡ KeyText letter → r ≡ goesOn sound p (quoted (bytes "0000" ++ (letter ∷ bytes "000000000"))) → r ≡ begins sound (samples m) p
-    unfolding samples
-    of-key letter f e = rw (← i, f) (one (quoted (bytes "0000" ++ (letter ∷ bytes "000000000"))) e)
-
-    module _ (b : Bool) where
-      pub of-date-first : form ≡ Date → b ≡ goesOn sound p eleventh → b ≡ true → true ≡ begins sound (samples m) p
-      unfolding samples bytes
-      of-date-first f e t = rw (← i, f) (first eleventh thirtieth b e t)
-
-      pub of-date-second : form ≡ Date → b ≡ goesOn sound p eleventh → b ≡ false → r ≡ goesOn sound p thirtieth → r ≡ begins sound (samples m) p
-      unfolding samples bytes
-      of-date-second f e t q = rw (← i, f) (second eleventh thirtieth b e t q)
-
-      pub of-xref-first : form ≡ XrefType → b ≡ goesOn sound p (49 ∷ []) → b ≡ true → true ≡ begins sound (samples m) p
-      unfolding samples bytes
-      of-xref-first f e t = rw (← i, f) (first (49 ∷ []) (50 ∷ []) b e t)
-
-      pub of-xref-second : form ≡ XrefType → b ≡ goesOn sound p (49 ∷ []) → b ≡ false → r ≡ goesOn sound p (50 ∷ []) → r ≡ begins sound (samples m) p
-      unfolding samples bytes
-      of-xref-second f e t q = rw (← i, f) (second (49 ∷ []) (50 ∷ []) b e t q)
+  arm-second b r s u e t q a = arm-all r (s ∷ u ∷ []) (rw (sym e ∙ t) (q ∙ sym (or-false (goesOn sound p u)))) a
 
 -- the sample of a number with a point has room
 pub decimal-room : (row : ℕ) (form : Code) (w d : ℕ) → meant form ≡ formDecoded row → form ≡ Decimal w d → 2 + d ≤ mostOfAny
 decimal-room row form w d m f = omega (arith, wide-decimal row form m w d f)
 
-pub ruleset filling = (needs, not-true, not-false, of-number, of-at-least-1, of-decimal, of-time, of-text, of-change, of-file, of-key, of-date-first, of-date-second, of-xref-first, of-xref-second, decimal-room)
+pub ruleset filling = (needs, not-true, not-false, arm-all, arm-one, arm-first, arm-second, decimal-room)
 
 -- ---- all of it
 

@@ -1,9 +1,13 @@
 -- `layout::begins::begins_filled` meets its contract.
+use Rattle.base.specs.Lists.{bytes}
+use Rattle.meaning.specs.Place.{samples}
+use Rattle.form.specs.Codes.{inQuotes}
 use Rattle.layout.proofs.BeginsLaws.{filling}
 use Rattle.layout.proofs.begins.begins_filled.Statement.{statement}
 use Rattle.layout.proofs.begins.begins_filled.Tie as tie
 
 pub begins-filled-spec : {M : Type 1} → statement M
+unfolding samples bytes inQuotes
 begins-filled-spec =
     tie.close
     (tie.spec
