@@ -1,4 +1,4 @@
--- Paper 01, 'Lines and fields': the forms of a field.
+-- Paper 01, 'Lines and fields': the forms of a field; what a text's width counts is paper 02's, request 02.
 use mathlib.Core.Bool.{Bool, true, false, not, _&&_, _||_}
 use mathlib.Core.List.{List, [], _∷_, _++_}
 use Prim.Native.Nat.{ℕ, _+_, _-_, _%_}
@@ -6,6 +6,7 @@ use lib.Dec.{eqb, leb}
 use lib.ListN.{length}
 use Rattle.base.specs.Lists.{all, pick, same, part, upTo, past, bytes}
 use Rattle.theory.specs.Decimal.{value}
+use Rattle.meaning.specs.Characters.{atMost}
 
 -- the forms that the table names
 pub data Form : Type 0 where
@@ -77,9 +78,9 @@ inside f = part f 1 (length f - 1)
 abbrev pub TextRule : Type 0
 TextRule = ℕ → List ℕ → Bool
 
--- paper 01's rule: 0 to w bytes, so its width counts bytes
-unfoldable pub byBytes : TextRule
-byBytes w t = leb (length t) w && all isTextByte t
+-- a text's bytes, and 0 to w characters of well-formed UTF-8: its width counts characters (paper 02, request 02)
+unfoldable pub byCharacters : TextRule
+byCharacters w t = all isTextByte t && atMost w [] t
 
 -- the values of CHANGE_TYPE
 abbrev pub changeTypes : List (List ℕ)
