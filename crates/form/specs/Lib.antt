@@ -1,2 +1,3 @@
 pub mod Meant
 pub mod Codes
+pub mod Characters

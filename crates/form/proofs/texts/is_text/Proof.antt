@@ -13,9 +13,13 @@ is-text-spec =
     (λ c. search textual)  -- sub-last
     (λ c. search textual)  -- shared-slice-read-if3
     (λ c. search textual)  -- returns-3
+    (λ c. search textual)  -- sub-all-ascii-text
+    (λ c. search textual)  -- part-all-ascii-text-start
+    (λ c. search textual)  -- part-all-ascii-text-end
+    (λ c κs. search textual)  -- all-ascii-text-requires
     (λ c. search textual)  -- returns-4
-    (λ c. search textual)  -- sub-is-text-bytes
-    (λ c. search textual)  -- part-is-text-bytes-start
-    (λ c. search textual)  -- part-is-text-bytes-end
-    (λ c κs. search textual)  -- is-text-bytes-requires
+    (λ c. search textual)  -- sub-are-characters
+    (λ c. search textual)  -- part-are-characters-start
+    (λ c. search textual)  -- part-are-characters-end
+    (λ c κs. search textual)  -- are-characters-requires
     (λ c. search textual))  -- returns-5
