@@ -10,8 +10,11 @@ use lib.Seq.{take-append-seam}
 use Rattle.base.specs.Lists.{all, same, part}
 use Rattle.base.specs.Tests.{and-in, and-l, and-r}
 use Rattle.base.specs.ListLaws.{all-map, all-append, append-all, same-refl, same-eq}
-use Rattle.meaning.specs.Forms.{isDigit, isDigits, isTextByte, quoted, inside, TextRule, byBytes, isText}
+use Rattle.meaning.specs.Forms.{isDigit, isDigits, isTextByte, quoted, inside, TextRule, isText}
+use Rattle.meaning.specs.Place.{letters}
+use Rattle.meaning.specs.Before.{byBytes}
 use Rattle.laws.specs.Digits.{digit-low, digit-high}
+use Rattle.laws.specs.PlaceLaws.{begins-now, Enough}
 use Rattle.laws.specs.EnoughNumbers.{digits-length, digits-each}
 
 -- ---- a text is its inside in quotes, under any rule
@@ -42,8 +45,8 @@ module _ (rule : TextRule) where
 -- ---- what is asked of a rule: of what may stand between the quotes of a text
 
 pub record Ruled (rule : TextRule) : Type 0 where
-  -- whatever begins what may stand there may stand there too
-  pub front : (w : ℕ) (q u : List ℕ) → T (rule w (q ++ u)) → T (rule w q)
+  -- whatever begins what may stand there goes on with the end of one of the letters
+  pub goes : (w : ℕ) → Enough (rule w) letters
   -- where something may stand, the letter a may
   pub one : (w x : ℕ) (u : List ℕ) → T (rule w (x ∷ u)) → T (rule w (97 ∷ []))
   -- where a key may stand, it may with other digits
@@ -51,19 +54,7 @@ pub record Ruled (rule : TextRule) : Type 0 where
       (letter : ℕ) (a b c d : List ℕ) → T (isDigits 4 a) → T (isDigits 9 b) → T (isDigits 4 c) → T (isDigits 9 d)
       → T (rule 14 (a ++ (letter ∷ b))) → T (rule 14 (c ++ (letter ∷ d)))
 
--- ---- paper 01's rule
-
-bytes-front : (w : ℕ) (q u : List ℕ) → T (byBytes w (q ++ u)) → T (byBytes w q)
-unfolding byBytes
-bytes-front w q u t =
-    and-in (leb (length q) w) (all isTextByte q)
-    (le→leb (length q) w (omega (arith, leb→le (length (q ++ u)) w (and-l (leb (length (q ++ u)) w) (all isTextByte (q ++ u)) t), length-append q u)))
-    (append-all isTextByte q u (and-r (leb (length (q ++ u)) w) (all isTextByte (q ++ u)) t) .0)
-
-bytes-one : (w x : ℕ) (u : List ℕ) → T (byBytes w (x ∷ u)) → T (byBytes w (97 ∷ []))
-unfolding byBytes isTextByte
-bytes-one w x u t =
-    and-in (leb 1 w) true (le→leb 1 w (omega (arith, leb→le (length (x ∷ u)) w (and-l (leb (length (x ∷ u)) w) (all isTextByte (x ∷ u)) t)))) tt
+-- ---- the bytes of a key
 
 -- a digit may stand in a text
 digit-text : (x : ℕ) → T (isDigit x) → T (isTextByte x)
@@ -72,16 +63,45 @@ digit-text x t =
     and-in (leb 32 x) _ (le→leb 32 x (omega (arith, digit-low x t)))
     (and-in (not (eqb x 34)) (not (eqb x 127)) (not-T (eqb x 34) (λ e. omega (arith, eqb→eq x 34 e, digit-low x t))) (not-T (eqb x 127) (λ e. omega (arith, eqb→eq x 127 e, digit-high x t))))
 
+-- where they may stand in a text, they may with other digits
+pub key-bytes :
+    (letter : ℕ) (a b c d : List ℕ) → T (isDigits 4 c) → T (isDigits 9 d) → T (all isTextByte (a ++ (letter ∷ b))) → T (all isTextByte (c ++ (letter ∷ d)))
+key-bytes letter a b c d dc dd t =
+    all-append isTextByte c (letter ∷ d) (all-map isDigit isTextByte digit-text c (digits-each 4 c dc))
+    (and-in (isTextByte letter) (all isTextByte d) (and-l (isTextByte letter) (all isTextByte b) (append-all isTextByte a (letter ∷ b) t .1))
+    (all-map isDigit isTextByte digit-text d (digits-each 9 d dd)))
+
+-- they are fourteen
+pub key-size : (letter : ℕ) (c d : List ℕ) → T (isDigits 4 c) → T (isDigits 9 d) → T (leb (length (c ++ (letter ∷ d))) 14)
+key-size letter c d dc dd = le→leb (length (c ++ (letter ∷ d))) 14 (omega (arith, length-append c (letter ∷ d), digits-length 4 c dc, digits-length 9 d dd))
+
+-- ---- paper 01's rule
+
+-- whatever begins what may stand there may stand there too
+bytes-front : (w : ℕ) (q u : List ℕ) → T (byBytes w (q ++ u)) → T (byBytes w q)
+unfolding byBytes
+bytes-front w q u t =
+    and-in (leb (length q) w) (all isTextByte q)
+    (le→leb (length q) w (omega (arith, leb→le (length (q ++ u)) w (and-l (leb (length (q ++ u)) w) (all isTextByte (q ++ u)) t), length-append q u)))
+    (append-all isTextByte q u (and-r (leb (length (q ++ u)) w) (all isTextByte (q ++ u)) t) .0)
+
+bytes-goes : (w : ℕ) → Enough (byBytes w) letters
+unfolding letters
+bytes-goes w q u t = begins-now (byBytes w) q _ _ (bytes-front w q u t)
+
+bytes-one : (w x : ℕ) (u : List ℕ) → T (byBytes w (x ∷ u)) → T (byBytes w (97 ∷ []))
+unfolding byBytes isTextByte
+bytes-one w x u t =
+    and-in (leb 1 w) true (le→leb 1 w (omega (arith, leb→le (length (x ∷ u)) w (and-l (leb (length (x ∷ u)) w) (all isTextByte (x ∷ u)) t)))) tt
+
 bytes-keyed :
     (letter : ℕ) (a b c d : List ℕ) → T (isDigits 4 a) → T (isDigits 9 b) → T (isDigits 4 c) → T (isDigits 9 d)
     → T (byBytes 14 (a ++ (letter ∷ b))) → T (byBytes 14 (c ++ (letter ∷ d)))
 unfolding byBytes
 bytes-keyed letter a b c d da db dc dd t =
-    let u = append-all isTextByte a (letter ∷ b) (and-r (leb (length (a ++ (letter ∷ b))) 14) (all isTextByte (a ++ (letter ∷ b))) t) .1 in
-    and-in (leb (length (c ++ (letter ∷ d))) 14) _ (le→leb (length (c ++ (letter ∷ d))) 14 (omega (arith, length-append c (letter ∷ d), digits-length 4 c dc, digits-length 9 d dd)))
-    (all-append isTextByte c (letter ∷ d) (all-map isDigit isTextByte digit-text c (digits-each 4 c dc))
-    (and-in (isTextByte letter) (all isTextByte d) (and-l (isTextByte letter) (all isTextByte b) u) (all-map isDigit isTextByte digit-text d (digits-each 9 d dd))))
+    and-in (leb (length (c ++ (letter ∷ d))) 14) _ (key-size letter c d dc dd)
+    (key-bytes letter a b c d dc dd (and-r (leb (length (a ++ (letter ∷ b))) 14) (all isTextByte (a ++ (letter ∷ b))) t))
 
 -- it is so
 pub bytes-ruled : Ruled byBytes
-bytes-ruled = record { front = bytes-front; one = bytes-one; keyed = bytes-keyed }
+bytes-ruled = record { goes = bytes-goes; one = bytes-one; keyed = bytes-keyed }

@@ -2,7 +2,7 @@
 use mathlib.Core.Path.{_≡_, refl, sym, ap, ap₂}
 use mathlib.Core.Bool.{Bool, false, not, _&&_, and-false}
 use mathlib.Core.Logic.{_⊎_, inl, inr}
-use mathlib.Core.List.{List, [], _∷_, _++_, append-nil}
+use mathlib.Core.List.{List, [], _∷_, _++_, append-nil, append-assoc, map}
 use Prim.Native.Nat.{ℕ}
 use native.Mathlib.Omega.{arith}
 use lib.Dec.{T, eqb}
@@ -11,8 +11,8 @@ use Rattle.base.specs.Lists.{same, bytes}
 use Rattle.base.specs.Tests.{and-in, and-l, and-r, or-r, or-out}
 use Rattle.base.specs.ListLaws.{same-eq}
 use Rattle.meaning.specs.Forms.{text, quoted, inside, TextRule, isText, oneOf}
-use Rattle.meaning.specs.Place.{begins, samples}
-use Rattle.laws.specs.PlaceLaws.{begins-first, begins-sample, begins-now, begins-later, Enough}
+use Rattle.meaning.specs.Place.{begins, letters, samples}
+use Rattle.laws.specs.PlaceLaws.{begins-first, begins-sample, begins-now, begins-later, begins-quoted, EnoughAt, Enough}
 use Rattle.laws.specs.EnoughNumbers.{no-bytes}
 use Rattle.laws.specs.ContentLaws.{text-in, text-quoted, text-content, Ruled}
 
@@ -73,16 +73,21 @@ module _ (rule : TextRule) where
     filled-one w f [] e c t = absurd (and-r (isText rule w (34 ∷ 34 ∷ [])) (not (same (34 ∷ 34 ∷ []) (34 ∷ 34 ∷ []))) (rw e at t))
     filled-one w f (x ∷ u) e c t = ruled .one w x u c
 
-    -- no bytes go on with "a", a quote with a", and a quote and more with the closing quote
-    pub enough-text : (w : ℕ) → Enough (filledText w) (samples (text w))
-    unfolding samples bytes filledText
-    enough-text w p r t = go p (o .is) t (cut′ p (o .is))
+    -- no bytes go on with "a", a quote with a", and a quote and more with what goes on between the quotes, and then the closing quote
+    pub text-at :
+        (w : ℕ) (ls : List (List ℕ)) (p : List ℕ) → EnoughAt (rule w) (bytes "a" ∷ ls) (drop 1 p)
+        → EnoughAt (filledText w) (map quoted (bytes "a" ∷ ls)) p
+    unfolding bytes filledText
+    text-at w ls p goes r t = go p goes (o .is) t (cut′ p (o .is))
       where
         o : Text w (p ++ r)
         o = text-out w (p ++ r) (and-l (isText rule w (p ++ r)) (not (same (p ++ r) (34 ∷ 34 ∷ []))) t)
 
         s : List ℕ
         s = 34 ∷ 97 ∷ 34 ∷ []
+
+        ss : List (List ℕ)
+        ss = map quoted ls
 
         u : List ℕ
         u = o .within
@@ -97,10 +102,20 @@ module _ (rule : TextRule) where
         cut′ [] e = inr (u, refl)
         cut′ (y ∷ q) e = cut q r u 34 (ap (λ l. drop 1 l) e)
 
-        go : (p : List ℕ) → p ++ r ≡ quoted u → T (filledText w (p ++ r)) → Cut (drop 1 p) → T (begins (filledText w) (s ∷ []) p)
-        go [] e t v = begins-first (filledText w) [] s [] 0 (filled-in w 97 [] one)
-        go (y ∷ q) e t (inl h) = begins-now (filledText w) (y ∷ q) s [] (rw (h, append-nil q) at t)
-        go (y ∷ []) e t (inr v) = begins-first (filledText w) (y ∷ []) s [] 1 (rw (ap (λ l. getD l 0 0) e) (filled-in w 97 [] one))
-        go (y ∷ (x ∷ q)) e t (inr v) =
-            begins-first (filledText w) (y ∷ (x ∷ q)) s [] 2
-            (rw (ap (λ l. getD l 0 0) e) (filled-in w x q (ruled .front w (x ∷ q) (v .0) (rw (v .1) at (o .sound)))))
+        after : (x : ℕ) (q h : List ℕ) → T (rule w ((x ∷ q) ++ h)) → T (filledText w (34 ∷ ((x ∷ q) ++ (h ++ (34 ∷ [])))))
+        after x q h c = rw (← append-assoc (x ∷ q) h (34 ∷ [])) (filled-in w x (q ++ h) c)
+
+        go :
+            (p : List ℕ) → EnoughAt (rule w) (bytes "a" ∷ ls) (drop 1 p) → p ++ r ≡ quoted u → T (filledText w (p ++ r)) → Cut (drop 1 p)
+            → T (begins (filledText w) (s ∷ ss) p)
+        go [] g e t v = begins-first (filledText w) [] s ss 0 (filled-in w 97 [] one)
+        go (y ∷ q) g e t (inl h) = begins-now (filledText w) (y ∷ q) s ss (rw (h, append-nil q) at t)
+        go (y ∷ []) g e t (inr v) = begins-first (filledText w) (y ∷ []) s ss 1 (rw (ap (λ l. getD l 0 0) e) (filled-in w 97 [] one))
+        go (y ∷ (x ∷ q)) g e t (inr v) =
+            rw (ap (λ l. getD l 0 0) e)
+            (begins-quoted (rule w) (filledText w) (x ∷ q) (34 ∷ (x ∷ q)) (after x q) (bytes "a" ∷ ls) (g (v .0) (rw (v .1) at (o .sound))))
+
+    -- so the samples are enough
+    pub enough-text : (w : ℕ) → Enough (filledText w) (samples (text w))
+    unfolding samples letters
+    enough-text w p = text-at w _ p (ruled .goes w (drop 1 p))

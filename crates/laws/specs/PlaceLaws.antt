@@ -1,7 +1,7 @@
 -- Paper 02, request 01: the place of the definition is the place that is asked for, over any test of a field and samples that are enough; and no other number is.
 use mathlib.Core.Path.{_≡_, refl, sym, _∙_}
 use mathlib.Core.Bool.{Bool, true, false, _||_}
-use mathlib.Core.List.{List, [], _∷_, _++_, append-nil, append-assoc}
+use mathlib.Core.List.{List, [], _∷_, _++_, append-nil, append-assoc, map}
 use Prim.Native.Nat.{ℕ, zero, suc, _+_, _-_, _≤_, _<_}
 use native.Mathlib.Decide.{decLe}
 use native.Mathlib.Omega.{arith}
@@ -10,6 +10,7 @@ use lib.ListN.{length, take, drop, take-append-drop}
 use lib.Seq.{take-take, drop-length, drop-append-seam}
 use Rattle.base.specs.Lists.{pick}
 use Rattle.base.specs.Tests.{or-l, or-r, or-out, T-true}
+use Rattle.meaning.specs.Forms.{quoted}
 use Rattle.meaning.specs.Place.{goesOn, begins, reach, place}
 use Rattle.laws.specs.Placed.{Stops, Placed}
 
@@ -74,9 +75,31 @@ begins-carry a b q p w (s ∷ ss) t =
         or-out (a (q ++ (x ∷ s))) (goesOn a q s) (goesOn b p (x ∷ s)) (λ v. or-l (b (p ++ (x ∷ s))) (goesOn b p s) (w (x ∷ s) v))
         (λ v. or-r (b (p ++ (x ∷ s))) (goesOn b p s) (goes s v)) u
 
--- the samples are enough: whatever begins a sound field goes on with the end of one of them
+-- what goes on after q for one test goes on after p, and then with a quote, for another
+pub begins-quoted :
+    (a b : List ℕ → Bool) (q p : List ℕ) → ((e : List ℕ) → T (a (q ++ e)) → T (b (p ++ (e ++ (34 ∷ []))))) → (ss : List (List ℕ))
+    → T (begins a ss q) → T (begins b (map quoted ss) p)
+unfolding begins goesOn
+begins-quoted a b q p w [] t = absurd t
+begins-quoted a b q p w (s ∷ ss) t =
+    or-out (goesOn a q s) (begins a ss q) (begins b (map quoted (s ∷ ss)) p)
+    (λ u. or-l (goesOn b p (quoted s)) (begins b (map quoted ss) p) (or-r (b (p ++ quoted s)) (goesOn b p (s ++ (34 ∷ []))) (goes s u)))
+    (λ u. or-r (goesOn b p (quoted s)) (begins b (map quoted ss) p) (begins-quoted a b q p w ss u)) t
+  where
+    goes : (s : List ℕ) → T (goesOn a q s) → T (goesOn b p (s ++ (34 ∷ [])))
+    goes [] u = goes-drop b p (34 ∷ []) 0 (w [] (rw append-nil u))
+    goes (x ∷ s) u =
+        let more = b (p ++ (x ∷ (s ++ (34 ∷ [])))) in
+        let less = goesOn b p (s ++ (34 ∷ [])) in
+        or-out (a (q ++ (x ∷ s))) (goesOn a q s) (more || less) (λ v. or-l more less (w (x ∷ s) v)) (λ v. or-r more less (goes s v)) u
+
+-- the samples are enough for p: where some rest makes it sound, it goes on with the end of one of them
+abbrev pub EnoughAt : (List ℕ → Bool) → List (List ℕ) → List ℕ → Type 0
+EnoughAt sound ss p = (r : List ℕ) → T (sound (p ++ r)) → T (begins sound ss p)
+
+-- they are enough: whatever begins a sound field goes on with the end of one of them
 abbrev pub Enough : (List ℕ → Bool) → List (List ℕ) → Type 0
-Enough sound ss = (p r : List ℕ) → T (sound (p ++ r)) → T (begins sound ss p)
+Enough sound ss = (p : List ℕ) → EnoughAt sound ss p
 
 -- ---- how far the bytes go on
 

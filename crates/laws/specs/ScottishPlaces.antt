@@ -8,7 +8,7 @@ use lib.Dec.{T}
 use lib.ListN.{length, getD}
 use Rattle.base.specs.Lists.{all}
 use Rattle.base.specs.Tests.{and-l, and-r}
-use Rattle.meaning.specs.Forms.{byBytes}
+use Rattle.meaning.specs.Forms.{byCharacters}
 use Rattle.meaning.specs.Kinds.{Kind}
 use Rattle.meaning.specs.Format.{Field}
 use Rattle.meaning.specs.Table.{fields, scottish}
@@ -17,7 +17,7 @@ use Rattle.meaning.specs.Computes.{computed}
 use Rattle.laws.specs.Kinds.{every}
 use Rattle.laws.specs.Placed.{Placed}
 use Rattle.laws.specs.PlaceLaws.{placed-once}
-use Rattle.laws.specs.ContentLaws.{bytes-ruled}
+use Rattle.laws.specs.CharacterLaws.{characters-ruled}
 use Rattle.laws.specs.PlaceRight.{beginsAs, place-right}
 use Rattle.laws.specs.LineFails.{noField}
 
@@ -27,7 +27,7 @@ rowAt k i = getD (fields k) i noField
 
 -- some field is sound as the row has it: the empty run of bytes begins one
 unfoldable pub canBegin : Field → Bool
-canBegin d = beginsAs byBytes (d .form) (d .filled) []
+canBegin d = beginsAs byCharacters (d .form) (d .filled) []
 
 -- that is so of every row of the table
 pub able : (k : Kind) → T (all canBegin (fields k))
@@ -43,7 +43,7 @@ all-at t (d ∷ ds) (suc i) h u = all-at t ds i (omega arith) (and-r (t d) (all 
 -- the place that the definition gives is right
 pub scottish-placed : (k : Kind) (i : ℕ) → i < length (fields k) → (f : List ℕ) → Placed (soundField scottish (rowAt k i)) f (placeIn scottish (rowAt k i) f)
 unfolding soundField placeIn canBegin
-scottish-placed k i h = place-right byBytes bytes-ruled (rowAt k i .form) (rowAt k i .filled) (all-at canBegin (fields k) i h (able k))
+scottish-placed k i h = place-right byCharacters characters-ruled (rowAt k i .form) (rowAt k i .filled) (all-at canBegin (fields k) i h (able k))
 
 -- and no other number is
 pub scottish-only : (k : Kind) (i : ℕ) → i < length (fields k) → (f : List ℕ) (p : ℕ) → Placed (soundField scottish (rowAt k i)) f p → p ≡ placeIn scottish (rowAt k i) f
