@@ -78,7 +78,7 @@ key-size letter c d dc dd = le→leb (length (c ++ (letter ∷ d))) 14 (omega (a
 -- ---- paper 01's rule
 
 -- whatever begins what may stand there may stand there too
-bytes-front : (w : ℕ) (q u : List ℕ) → T (byBytes w (q ++ u)) → T (byBytes w q)
+pub bytes-front : (w : ℕ) (q u : List ℕ) → T (byBytes w (q ++ u)) → T (byBytes w q)
 unfolding byBytes
 bytes-front w q u t =
     and-in (leb (length q) w) (all isTextByte q)

@@ -9,7 +9,7 @@ use Rattle.base.specs.Tests.{and-in, and-l, and-r, T-false}
 use Rattle.base.specs.ListLaws.{same-eq}
 use Rattle.meaning.specs.Forms.{Form, number, atLeast1, decimal, date, time, text, changeType, xrefType, fileType, keyText, isNumber, isDigits, unsigned, isDecimal, isDate, isTime, TextRule, changeTypes, xrefTypes, fileTypes, isText, oneOf, isKey, hasForm, isTextual, emptyOf, isEmpty, soundAs}
 use Rattle.meaning.specs.Place.{begins, samples}
-use Rattle.laws.specs.PlaceLaws.{begins-sample, begins-later, begins-carry, Enough}
+use Rattle.laws.specs.PlaceLaws.{begins-sample, begins-later, begins-carry, EnoughAt, Enough}
 use Rattle.laws.specs.EnoughNumbers.{enough-number, atLeast, enough-atLeast, enough-decimal}
 use Rattle.laws.specs.EnoughDates.{enough-time, enough-date}
 use Rattle.laws.specs.EnoughTexts.{enough-one, filledText, enough-text}
@@ -18,22 +18,25 @@ use Rattle.laws.specs.ContentLaws.{Ruled}
 
 module _ (rule : TextRule) where
   -- a field of the form that is not empty
-  full : Form → List ℕ → Bool
+  unfoldable pub full : Form → List ℕ → Bool
   full m f = hasForm rule m f && not (isEmpty m f)
 
   -- samples that are enough for filled fields are, with the empty one, enough for all
-  enough-sound : (m : Form) (filled : Bool) → Enough (full m) (samples m) → Enough (soundAs rule m filled) (emptyOf m ∷ samples m)
+  pub sound-at : (m : Form) (filled : Bool) (ss : List (List ℕ)) (p : List ℕ) → EnoughAt (full m) ss p → EnoughAt (soundAs rule m filled) (emptyOf m ∷ ss) p
   unfolding full soundAs isEmpty
-  enough-sound m filled g p r t = go (isEmpty m (p ++ r)) refl t
+  sound-at m filled ss p g r t = go (isEmpty m (p ++ r)) refl t
     where
       sound-full : (f : List ℕ) → T (full m f) → T (soundAs rule m filled f)
       sound-full f u = rw (T-false (isEmpty m f) (and-r (hasForm rule m f) (not (isEmpty m f)) u)) (and-l (hasForm rule m f) (not (isEmpty m f)) u)
 
-      go : (b : Bool) → isEmpty m (p ++ r) ≡ b → T (pick b (not filled) (hasForm rule m (p ++ r))) → T (begins (soundAs rule m filled) (emptyOf m ∷ samples m) p)
-      go true e u = begins-sample (soundAs rule m filled) p r (emptyOf m) (samples m) (same-eq (p ++ r) (emptyOf m) (rw e tt)) t
+      go : (b : Bool) → isEmpty m (p ++ r) ≡ b → T (pick b (not filled) (hasForm rule m (p ++ r))) → T (begins (soundAs rule m filled) (emptyOf m ∷ ss) p)
+      go true e u = begins-sample (soundAs rule m filled) p r (emptyOf m) ss (same-eq (p ++ r) (emptyOf m) (rw e tt)) t
       go false e u =
-          begins-later (soundAs rule m filled) p (emptyOf m) (samples m)
-          (begins-carry (full m) (soundAs rule m filled) p p (λ h v. sound-full (p ++ h) v) (samples m) (g p r (and-in (hasForm rule m (p ++ r)) _ u (rw e tt))))
+          begins-later (soundAs rule m filled) p (emptyOf m) ss
+          (begins-carry (full m) (soundAs rule m filled) p p (λ h v. sound-full (p ++ h) v) ss (g r (and-in (hasForm rule m (p ++ r)) _ u (rw e tt))))
+
+  enough-sound : (m : Form) (filled : Bool) → Enough (full m) (samples m) → Enough (soundAs rule m filled) (emptyOf m ∷ samples m)
+  enough-sound m filled g p = sound-at m filled (samples m) p (g p)
 
   -- where the empty field has not the form, samples that are enough for the form are
   enough-form : (m : Form) (filled : Bool) → (T (hasForm rule m (emptyOf m)) → ⊥) → Enough (hasForm rule m) (samples m) → Enough (soundAs rule m filled) (emptyOf m ∷ samples m)

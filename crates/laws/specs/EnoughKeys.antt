@@ -81,7 +81,7 @@ sample-fits letter = and-in (eqb letter letter) true (eqb-refl letter) tt
 
 module _ (rule : TextRule) where
   -- this letter may stand in a key with noughts
-  keyLetter : ℕ → Bool
+  unfoldable pub keyLetter : ℕ → Bool
   keyLetter letter = rule 14 (replicate 4 48 ++ (letter ∷ replicate 9 48))
 
   -- every key is sixteen bytes
@@ -174,3 +174,11 @@ module _ (rule : TextRule) where
         let k = key-fits letter (p ++ r) t in
         begins-first (isKey rule letter) p (keySample letter) [] (length p)
         (fits-key letter (p ++ drop (length p) (keySample letter)) (k .0) (fits-fill (keyShape letter) p r (keySample letter) (k .1) (sample-fits letter)))
+
+-- where one rule allows the letter as another does, its keys are the other's
+pub key-carry :
+    (one two : TextRule) → Ruled one → Ruled two → (letter : ℕ) → (T (keyLetter one letter) → T (keyLetter two letter)) → (f : List ℕ)
+    → T (isKey one letter f) → T (isKey two letter f)
+key-carry one two r s letter l f t =
+    let k = key-fits one r letter f t in
+    fits-key two s letter f (l (k .0)) (k .1)

@@ -25,7 +25,7 @@ no-bytes [] h = refl
 no-bytes (x ∷ r) h = absurd (omega arith)
 
 -- a test of every byte holds of those that are left
-all-drop : (t : ℕ → Bool) (n : ℕ) (l : List ℕ) → T (all t l) → T (all t (drop n l))
+pub all-drop : (t : ℕ → Bool) (n : ℕ) (l : List ℕ) → T (all t l) → T (all t (drop n l))
 all-drop t zero l u = u
 all-drop t (suc n) [] u = tt
 all-drop t (suc n) (x ∷ l) u = all-drop t n l (and-r (t x) (all t l) u)

@@ -35,7 +35,7 @@ unfolding computed beginsAs canBegin
 able k = every (λ k. all canBegin (fields k)) tt k
 
 -- a test of every row holds of each
-all-at : (t : Field → Bool) (ds : List Field) (i : ℕ) → i < length ds → T (all t ds) → T (t (getD ds i noField))
+pub all-at : (t : Field → Bool) (ds : List Field) (i : ℕ) → i < length ds → T (all t ds) → T (t (getD ds i noField))
 all-at t [] i h u = absurd (omega arith)
 all-at t (d ∷ ds) zero h u = and-l (t d) (all t ds) u
 all-at t (d ∷ ds) (suc i) h u = all-at t ds i (omega arith) (and-r (t d) (all t ds) u)
