@@ -1,218 +1,23 @@
--- RFC 3629's table, as the code asks it: by a character's first byte, and then its second.
+-- The characters of a text, one after another, as the code counts them.
 use mathlib.Core.Path.{_≡_, refl, sym, ap, _∙_, subst}
 use mathlib.Core.Bool.{Bool, true, false, _&&_, _||_, and-true, and-false, and-assoc}
-use mathlib.Core.List.{List, [], _∷_, _++_}
+use mathlib.Core.List.{List, [], _∷_}
 use Prim.Native.Nat.{ℕ, zero, suc, _+_, _-_, _≤_, _<_}
-use native.Mathlib.Decide.{decLe}
 use native.Mathlib.Omega.{arith}
 use borrow.Author.Needs.{needs}
-use borrow.Author.Tests.{not-true, not-false, le-leb, lt-leb, eq-eqb, ne-eqb}
-use lib.Dec.{T, leb, ltb, eqb, leb→le, ltb→lt, leb·zero, leb·suc-zero, leb·suc-suc, eqb→eq}
+use borrow.Author.Tests.{not-true, not-false, le-leb, lt-leb, ne-eqb}
+use lib.Dec.{T, leb, ltb, eqb, leb→le, le→leb, ltb→lt, leb·zero, leb·suc-zero, leb·suc-suc, eqb→eq}
 use lib.ListN.{length, getD, take, drop, length-drop}
 use lib.Seq.{take-all, drop-drop}
 use Rattle.base.specs.Lists.{all, pick}
 use Rattle.base.specs.Tests.{and-in, and-l, and-r, T-true}
 use Rattle.base.specs.ListLaws.{all-map}
-use Rattle.base.proofs.Walk.{at-cons, at-end}
+use Rattle.base.proofs.Walk.{at-end}
 use Rattle.meaning.specs.Characters.{Range, _to_, isIn, tail, characters, starts, follows, atMost}
 use Rattle.meaning.specs.Forms.{isTextByte, byCharacters}
+use Rattle.laws.specs.Ascii.{isAscii, ascii-starts, ascii-follows, ascii-most}
 use Rattle.form.specs.Characters.{isAsciiText, inFirst, inEach, characterLength}
-
--- ---- a byte and a range
-
-within : (a b x : ℕ) → a ≤ x → x ≤ b → isIn (a to b) x ≡ true
-unfolding isIn
-within a b x l h = rw (le-leb a x l, le-leb x b h)
-
-below : (a b x : ℕ) → x < a → isIn (a to b) x ≡ false
-unfolding isIn
-below a b x h = rw (lt-leb a x h)
-
-beyond : (a b x : ℕ) → b < x → isIn (a to b) x ≡ false
-unfolding isIn
-beyond a b x h = rw (lt-leb x b h) (and-false (leb a x))
-
--- ---- what follows a first byte
-
-module _ (x : ℕ) where
-  -- nothing follows ASCII
-  follows-ascii : x ≤ 0x7F → follows characters x ≡ []
-  unfolding follows characters
-  follows-ascii h = rw (within 0 0x7F x (omega arith) h)
-
-  -- nor a byte that begins no row: a tail, and C0 and C1, which could begin only what is overlong
-  follows-tail : 0x80 ≤ x → x < 0xC2 → follows characters x ≡ []
-  unfolding follows characters
-  follows-tail l h =
-      rw (beyond 0 0x7F x (omega arith), below 0xC2 0xDF x h, below 0xE0 0xE0 x (omega arith), below 0xE1 0xEC x (omega arith), below 0xED 0xED x (omega arith), below 0xEE 0xEF x (omega arith), below 0xF0 0xF0 x (omega arith), below 0xF1 0xF3 x (omega arith), below 0xF4 0xF4 x (omega arith))
-
-  -- or F5 and above
-  follows-above : 0xF5 ≤ x → follows characters x ≡ []
-  unfolding follows characters
-  follows-above l =
-      rw (beyond 0 0x7F x (omega arith), beyond 0xC2 0xDF x (omega arith), beyond 0xE0 0xE0 x (omega arith), beyond 0xE1 0xEC x (omega arith), beyond 0xED 0xED x (omega arith), beyond 0xEE 0xEF x (omega arith), beyond 0xF0 0xF0 x (omega arith), beyond 0xF1 0xF3 x (omega arith), beyond 0xF4 0xF4 x (omega arith))
-
-  -- UTF8-2
-  follows-two : 0xC2 ≤ x → x < 0xE0 → follows characters x ≡ tail ∷ []
-  unfolding follows characters
-  follows-two l h = rw (beyond 0 0x7F x (omega arith), within 0xC2 0xDF x l (omega arith))
-
-  -- the second row of UTF8-3, between E0 and ED
-  follows-three : 0xE0 < x → x < 0xED → follows characters x ≡ tail ∷ tail ∷ []
-  unfolding follows characters
-  follows-three l h = rw (beyond 0 0x7F x (omega arith), beyond 0xC2 0xDF x (omega arith), beyond 0xE0 0xE0 x l, within 0xE1 0xEC x (omega arith) (omega arith))
-
-  -- its last row, after ED
-  follows-private : 0xED < x → x < 0xF0 → follows characters x ≡ tail ∷ tail ∷ []
-  unfolding follows characters
-  follows-private l h =
-      rw (beyond 0 0x7F x (omega arith), beyond 0xC2 0xDF x (omega arith), beyond 0xE0 0xE0 x (omega arith), beyond 0xE1 0xEC x (omega arith), beyond 0xED 0xED x l, within 0xEE 0xEF x (omega arith) (omega arith))
-
-  -- the second row of UTF8-4, between F0 and F4
-  follows-four : 0xF0 < x → x < 0xF4 → follows characters x ≡ tail ∷ tail ∷ tail ∷ []
-  unfolding follows characters
-  follows-four l h =
-      rw (beyond 0 0x7F x (omega arith), beyond 0xC2 0xDF x (omega arith), beyond 0xE0 0xE0 x (omega arith), beyond 0xE1 0xEC x (omega arith), beyond 0xED 0xED x (omega arith), beyond 0xEE 0xEF x (omega arith), beyond 0xF0 0xF0 x l, within 0xF1 0xF3 x (omega arith) (omega arith))
-
-  -- ---- how many bytes follow
-
-  pub tails-none : x < 0xC2 → 0 ≡ length (follows characters x)
-  tails-none h = elim (decLe x 0x7F) [ yes a ↦ rw (follows-ascii a) | no a ↦ rw (follows-tail (omega arith) h) ]
-
-  pub tails-one : 0xC2 ≤ x → x < 0xE0 → 1 ≡ length (follows characters x)
-  tails-one l h = rw (follows-two l h)
-
-  -- E0 to EF, in four rows
-  pub tails-two : 0xE0 ≤ x → x < 0xF0 → 2 ≡ length (follows characters x)
-  unfolding follows characters isIn
-  tails-two l h =
-      elim (decLe x 0xE0) [
-        | yes a ↦ let e : x ≡ 0xE0 = omega arith in rw e
-        | no a ↦ elim (decLe x 0xEC) [
-          | yes b ↦ rw (follows-three (omega arith) (omega arith))
-          | no b ↦ elim (decLe x 0xED) [ yes c ↦ let e : x ≡ 0xED = omega arith in rw e | no c ↦ rw (follows-private (omega arith) h) ]
-        ]
-      ]
-
-  -- F0 to F4, in three rows
-  pub tails-three : 0xF0 ≤ x → x < 0xF5 → 3 ≡ length (follows characters x)
-  unfolding follows characters isIn
-  tails-three l h =
-      elim (decLe x 0xF0) [
-        | yes a ↦ let e : x ≡ 0xF0 = omega arith in rw e
-        | no a ↦ elim (decLe x 0xF3) [ yes b ↦ rw (follows-four (omega arith) (omega arith)) | no b ↦ let e : x ≡ 0xF4 = omega arith in rw e ]
-      ]
-
-  pub tails-above : 0xF5 ≤ x → 0 ≡ length (follows characters x)
-  tails-above l = rw (follows-above l)
-
-pub ruleset tailing = (needs, tails-none, tails-one, tails-two, tails-three, tails-above)
-
--- ---- the second byte
-
--- a first byte that others follow: four have a row to themselves, and after any other a tail comes second
-data Leads (x : ℕ) : Type 0 where
-  e0 : x ≡ 0xE0 → Leads x
-  ed : x ≡ 0xED → Leads x
-  f0 : x ≡ 0xF0 → Leads x
-  f4 : x ≡ 0xF4 → Leads x
-  other : (rs : List Range) → follows characters x ≡ tail ∷ rs → Leads x
-
-module _ (x : ℕ) where
-  leads-two : 0xE0 ≤ x → x < 0xF0 → Leads x
-  leads-two l h =
-      elim (decLe x 0xE0) [
-        | yes a ↦ e0 (omega arith)
-        | no a ↦ elim (decLe x 0xEC) [
-          | yes b ↦ other (tail ∷ []) (follows-three x (omega arith) (omega arith))
-          | no b ↦ elim (decLe x 0xED) [ yes c ↦ ed (omega arith) | no c ↦ other (tail ∷ []) (follows-private x (omega arith) h) ]
-        ]
-      ]
-
-  leads-three : 0xF0 ≤ x → x < 0xF5 → Leads x
-  leads-three l h =
-      elim (decLe x 0xF0) [
-        | yes a ↦ f0 (omega arith)
-        | no a ↦ elim (decLe x 0xF3) [ yes b ↦ other (tail ∷ tail ∷ []) (follows-four x (omega arith) (omega arith)) | no b ↦ f4 (omega arith) ]
-      ]
-
-  leads : 1 ≤ length (follows characters x) → Leads x
-  leads n =
-      elim (decLe x 0xC1) [
-        | yes a ↦ absurd (omega (arith, tails-none x (omega arith)))
-        | no a ↦ elim (decLe x 0xDF) [
-          | yes b ↦ other [] (follows-two x (omega arith) (omega arith))
-          | no b ↦ elim (decLe x 0xEF) [
-            | yes c ↦ leads-two (omega arith) (omega arith)
-            | no c ↦ elim (decLe x 0xF4) [ yes d ↦ leads-three (omega arith) (omega arith) | no d ↦ absurd (omega (arith, tails-above x (omega arith))) ]
-          ]
-        ]
-      ]
-
--- what is no tail is in no range of tails
-no-tail : (a b y : ℕ) → 0x80 ≤ a → b ≤ 0xBF → false ≡ isIn tail y → false ≡ isIn (a to b) y
-no-tail a b y l h e =
-    elim (decLe a y) [
-      | yes c ↦ elim (decLe y b) [ yes d ↦ e ∙ within 0x80 0xBF y (omega arith) (omega arith) ∙ sym (within a b y c d) | no d ↦ sym (beyond a b y (omega arith)) ]
-      | no c ↦ sym (below a b y (omega arith))
-    ]
-
--- the ends of a tail's range
-tail-low : (y : ℕ) → true ≡ isIn tail y → leb 0x80 y ≡ true
-unfolding isIn
-tail-low y e = T-true (leb 0x80 y) (and-l (leb 0x80 y) (leb y 0xBF) (subst T e tt))
-
-tail-high : (y : ℕ) → true ≡ isIn tail y → leb y 0xBF ≡ true
-unfolding isIn
-tail-high y e = T-true (leb y 0xBF) (and-r (leb 0x80 y) (leb y 0xBF) (subst T e tt))
-
-module _ (x y : ℕ) (n : 1 ≤ length (follows characters x)) (t : Bool) (q : t ≡ isIn tail y) where
-  -- what is no tail comes second nowhere
-  pub second-none : t ≡ false → false ≡ inFirst (follows characters x) y
-  unfolding follows characters isIn inFirst
-  second-none h = go (leads x n)
-    where
-      go : Leads x → false ≡ inFirst (follows characters x) y
-      go (e0 e) = rw e (no-tail 0xA0 0xBF y (omega arith) (omega arith) (sym h ∙ q))
-      go (ed e) = rw e (no-tail 0x80 0x9F y (omega arith) (omega arith) (sym h ∙ q))
-      go (f0 e) = rw e (no-tail 0x90 0xBF y (omega arith) (omega arith) (sym h ∙ q))
-      go (f4 e) = rw e (no-tail 0x80 0x8F y (omega arith) (omega arith) (sym h ∙ q))
-      go (other rs e) = rw e (sym h ∙ q)
-
-  module _ (h : t ≡ true) where
-    -- after E0 less would be overlong
-    pub second-e0 : x ≡ 0xE0 → leb 0xA0 y ≡ inFirst (follows characters x) y
-    unfolding follows characters isIn inFirst
-    second-e0 e = rw (e, tail-high y (sym h ∙ q)) (sym (and-true (leb 0xA0 y)))
-
-    -- after ED more would be a surrogate
-    pub second-ed : x ≡ 0xED → leb y 0x9F ≡ inFirst (follows characters x) y
-    unfolding follows characters isIn inFirst
-    second-ed e = rw (e, tail-low y (sym h ∙ q))
-
-    -- after F0 less would be overlong
-    pub second-f0 : x ≡ 0xF0 → leb 0x90 y ≡ inFirst (follows characters x) y
-    unfolding follows characters isIn inFirst
-    second-f0 e = rw (e, tail-high y (sym h ∙ q)) (sym (and-true (leb 0x90 y)))
-
-    -- after F4 more would be above U+10FFFF
-    pub second-f4 : x ≡ 0xF4 → leb y 0x8F ≡ inFirst (follows characters x) y
-    unfolding follows characters isIn inFirst
-    second-f4 e = rw (e, tail-low y (sym h ∙ q))
-
-    -- after any other a tail will do
-    pub second-other : (x ≡ 0xE0 → ⊥) → (x ≡ 0xED → ⊥) → (x ≡ 0xF0 → ⊥) → (x ≡ 0xF4 → ⊥) → true ≡ inFirst (follows characters x) y
-    unfolding inFirst
-    second-other a b c d = go (leads x n)
-      where
-        go : Leads x → true ≡ inFirst (follows characters x) y
-        go (e0 e) = absurd (a e)
-        go (ed e) = absurd (b e)
-        go (f0 e) = absurd (c e)
-        go (f4 e) = absurd (d e)
-        go (other rs e) = rw e (sym h ∙ q)
-
-pub ruleset second = (needs, not-true, not-false, second-none, second-e0, second-ed, second-f0, second-f4, second-other)
+use Rattle.form.proofs.FirstByteLaws.{beyond}
 
 -- ---- a text of ASCII
 
@@ -228,25 +33,17 @@ module _ (x : ℕ) (b : Bool) (q : b ≡ isTextByte x) where
 
 pub ruleset asciiText = (needs, not-true, not-false, ascii-no, ascii-yes)
 
-ascii-starts : (x : ℕ) → x ≤ 0x7F → starts characters x ≡ true
-unfolding starts characters
-ascii-starts x h = rw (within 0 0x7F x (omega arith) h)
+-- it is ASCII
+text-ascii : (x : ℕ) → T (isAsciiText x) → T (isAscii x)
+unfolding isAsciiText isAscii
+text-ascii x t = le→leb x 127 (omega (arith, ltb→lt x 127 (and-r (isTextByte x) (ltb x 127) t)))
 
--- its characters are its bytes
-ascii-characters : (w : ℕ) (t : List ℕ) → T (all isAsciiText t) → atMost w [] t ≡ leb (length t) w
-unfolding atMost isAsciiText
-ascii-characters w [] e = sym (leb·zero w)
-ascii-characters zero (x ∷ u) e = sym (leb·suc-zero (length u))
-ascii-characters (suc w) (x ∷ u) e =
-    let h : x ≤ 0x7F = omega (arith, ltb→lt x 127 (and-r (isTextByte x) (ltb x 127) (and-l (isAsciiText x) (all isAsciiText u) e))) in
-    rw (ascii-starts x h, follows-ascii x h) (ascii-characters w u (and-r (isAsciiText x) (all isAsciiText u) e) ∙ sym (leb·suc-suc (length u) w))
-
--- so they alone count
+-- so its bytes are its characters, and they alone count
 pub ascii-width : (w : ℕ) (t : List ℕ) → all isAsciiText t ≡ true → byCharacters w t ≡ leb (length t) w
 unfolding byCharacters isAsciiText
 ascii-width w t e =
     let h : T (all isAsciiText t) = subst T (sym e) tt in
-    rw (T-true (all isTextByte t) (all-map isAsciiText isTextByte (λ x c. and-l (isTextByte x) (ltb x 127) c) t h)) (ascii-characters w t h)
+    rw (T-true (all isTextByte t) (all-map isAsciiText isTextByte (λ x c. and-l (isTextByte x) (ltb x 127) c) t h)) (ascii-most w t (all-map isAsciiText isAscii text-ascii t h))
 
 -- ---- a character of more than one byte
 
@@ -260,60 +57,49 @@ areTails : List Range → Bool
 areTails [] = true
 areTails (a to b ∷ rs) = eqb a 0x80 && (eqb b 0xBF && areTails rs)
 
--- all after the first are
-tailsAfter : List Range → Bool
-tailsAfter [] = true
-tailsAfter (r ∷ rs) = areTails rs
+-- a range of bytes that are no ASCII
+isHigh : Range → Bool
+isHigh (a to b) = leb 0x80 a
 
--- a row of two ranges or more, in which all after the second are tails
-isLong : List Range → Bool
-isLong row = leb 2 (length row) && tailsAfter (drop 1 row)
+-- ranges of such, in which all after the first are tails
+wanted : List Range → Bool
+wanted rs = all isHigh rs && areTails (drop 1 rs)
 
--- whatever begins one of such rows is followed by something
-follows-some : (rows : List (List Range)) (x : ℕ) → T (all isLong rows) → starts rows x ≡ leb 1 (length (follows rows x))
-unfolding starts follows isLong
+-- such ranges follow whatever begins one of these rows
+follows-wanted : (rows : List (List Range)) (x : ℕ) → T (all (λ row. wanted (drop 1 row)) rows) → T (wanted (follows rows x))
+unfolding follows wanted areTails
+follows-wanted [] x t = tt
+follows-wanted ([] ∷ rows) x t = follows-wanted rows x t
+follows-wanted ((r ∷ rs) ∷ rows) x t = go (isIn r x) (follows-wanted rows x (and-r (wanted rs) (all (λ row. wanted (drop 1 row)) rows) t))
+  where
+    go : (b : Bool) → T (wanted (follows rows x)) → T (wanted (pick b rs (follows rows x)))
+    go true u = and-l (wanted rs) (all (λ row. wanted (drop 1 row)) rows) t
+    go false u = u
+
+-- as they do in the table
+table-wanted : (x : ℕ) → T (wanted (follows characters x))
+unfolding characters wanted isHigh areTails
+table-wanted x = follows-wanted characters x tt
+
+-- where each row has two ranges or more, something follows
+follows-some : (rows : List (List Range)) (x : ℕ) → T (all (λ row. leb 2 (length row)) rows) → starts rows x ≡ leb 1 (length (follows rows x))
+unfolding starts follows
 follows-some [] x t = refl
 follows-some ([] ∷ rows) x t = absurd t
 follows-some ((r ∷ []) ∷ rows) x t = absurd t
-follows-some ((r ∷ (s ∷ rs)) ∷ rows) x t = go (isIn r x) (follows-some rows x (and-r (isLong (r ∷ (s ∷ rs))) (all isLong rows) t))
+follows-some ((r ∷ (s ∷ rs)) ∷ rows) x t = go (isIn r x) (follows-some rows x (and-r (leb 2 (length (r ∷ (s ∷ rs)))) (all (λ row. leb 2 (length row)) rows) t))
   where
     go : (b : Bool) → starts rows x ≡ leb 1 (length (follows rows x)) → (b || starts rows x) ≡ leb 1 (length (pick b (s ∷ rs) (follows rows x)))
     go true e = sym (le-leb 1 (suc (length rs)) (omega arith))
     go false e = e
 
--- and that ends in tails
-follows-tails : (rows : List (List Range)) (x : ℕ) → T (all isLong rows) → T (tailsAfter (follows rows x))
-unfolding follows isLong tailsAfter
-follows-tails [] x t = tt
-follows-tails ([] ∷ rows) x t = absurd t
-follows-tails ((r ∷ rs) ∷ rows) x t =
-    go (isIn r x) (and-r (leb 2 (length (r ∷ rs))) (tailsAfter rs) (and-l (isLong (r ∷ rs)) (all isLong rows) t)) (follows-tails rows x (and-r (isLong (r ∷ rs)) (all isLong rows) t))
-  where
-    go : (b : Bool) → T (tailsAfter rs) → T (tailsAfter (follows rows x)) → T (tailsAfter (pick b rs (follows rows x)))
-    go true u v = u
-    go false u v = v
-
--- the rows after that of ASCII are such
-rows-long : T (all isLong (drop 1 characters))
-unfolding characters isLong tailsAfter areTails
-rows-long = tt
-
 module _ (x : ℕ) (h : 0x80 ≤ x) where
-  -- a byte that is no ASCII looks past ASCII's row
-  past-ascii : follows characters x ≡ follows (drop 1 characters) x
-  unfolding follows characters
-  past-ascii = rw (beyond 0 0x7F x (omega arith))
-
+  -- as it does in the rows after that of ASCII, which a byte that is none looks past
   high-starts : starts characters x ≡ leb 1 (length (follows characters x))
-  high-starts = rw past-ascii (go ∙ follows-some (drop 1 characters) x rows-long)
-    where
-      go : starts characters x ≡ starts (drop 1 characters) x
-      go = unfold starts characters in rw (beyond 0 0x7F x (omega arith))
+  unfolding starts follows characters
+  high-starts = rw (beyond 0 0x7F x (omega arith)) (follows-some (drop 1 characters) x tt)
 
-  high-tails : T (tailsAfter (follows characters x))
-  high-tails = rw past-ascii (follows-tails (drop 1 characters) x rows-long)
-
-  -- and may stand in a text
+  -- and it may stand in a text
   high-text : isTextByte x ≡ true
   unfolding isTextByte
   high-text = rw (le-leb 32 x (omega arith), ne-eqb x 34 (λ e. omega arith), ne-eqb x 127 (λ e. omega arith))
@@ -332,16 +118,20 @@ each-tail (a to b ∷ rs) (y ∷ u) t =
 
 -- so do they where the first of them is another range
 each-after :
-    (rs : List Range) (u : List ℕ) → T (tailsAfter rs) → 1 ≤ length rs
+    (rs : List Range) (u : List ℕ) → T (wanted rs) → 1 ≤ length rs
     → inEach rs u ≡ (leb (length rs) (length u) && (inFirst rs (getD u 0 0) && all (isIn tail) (take (length rs - 1) (drop 1 u))))
-unfolding inEach tailsAfter inFirst
+unfolding inEach wanted inFirst
 each-after [] u t n = absurd (omega arith)
 each-after (r ∷ rs) [] t n = rw (leb·suc-zero (length rs))
 each-after (r ∷ rs) (y ∷ u) t n =
     let z : suc (length rs) - 1 ≡ length rs = omega arith in
-    rw (z, each-tail rs u t, leb·suc-suc (length rs) (length u)) (swap (isIn r y) (leb (length rs) (length u)) (all (isIn tail) (take (length rs) u)))
+    rw (z, each-tail rs u (and-r (all isHigh (r ∷ rs)) (areTails rs) t), leb·suc-suc (length rs) (length u)) (swap (isIn r y) (leb (length rs) (length u)) (all (isIn tail) (take (length rs) u)))
 
 -- ---- how many bytes the first character has
+
+low-ascii : (x : ℕ) → x < 0x80 → T (isAscii x)
+unfolding isAscii
+low-ascii x h = le→leb x 127 (omega arith)
 
 module _ (t : List ℕ) (h : 1 ≤ length t) where
   abbrev first : ℕ
@@ -358,7 +148,7 @@ module _ (t : List ℕ) (h : 1 ≤ length t) where
     where
       go : (t : List ℕ) → 1 ≤ length t → getD t 0 0 < 0x80 → characterLength t ≡ pick (isTextByte (getD t 0 0)) 1 0
       go [] h l = absurd (omega arith)
-      go (x ∷ u) h l = rw (follows-ascii x (omega arith), ascii-starts x (omega arith), and-true (isTextByte x))
+      go (x ∷ u) h l = let a = low-ascii x l in rw (ascii-follows x a, ascii-starts x a, and-true (isTextByte x))
 
   pub length-ascii : first < 0x80 → (b : Bool) → b ≡ isTextByte first → b ≡ true → 1 ≡ characterLength t
   length-ascii l b q e = rw (length-low l, sym q ∙ e)
@@ -388,7 +178,7 @@ module _ (t : List ℕ) (h : 1 ≤ length t) where
           go (x ∷ u) h l n q m =
               let z : n + 1 - 2 ≡ n - 1 = omega arith in
               let y : n + 1 ≡ suc n = omega arith in
-              rw (z, y, q, high-text x l, high-starts x l, le-leb 1 (length (follows characters x)) (omega (arith, q)), each-after (follows characters x) u (high-tails x l) (omega (arith, q)), leb·suc-suc (length (follows characters x)) (length u))
+              rw (z, y, q, high-text x l, high-starts x l, le-leb 1 (length (follows characters x)) (omega (arith, q)), each-after (follows characters x) u (table-wanted x) (omega (arith, q)), leb·suc-suc (length (follows characters x)) (length u))
 
       -- the bytes end before it does
       pub length-cut : length t ≤ n → 0 ≡ characterLength t
@@ -419,10 +209,7 @@ at-most-each w [] u = refl
 at-most-each w (r ∷ rs) [] = refl
 at-most-each w (r ∷ rs) (x ∷ u) = rw (at-most-each w rs u) (sym (and-assoc (isIn r x) (inEach rs u) (atMost w [] (drop (length rs) u))))
 
--- bytes in ranges above ASCII may stand in a text
-isHigh : Range → Bool
-isHigh (a to b) = leb 0x80 a
-
+-- bytes that are no ASCII may stand in a text
 high-in : (r : Range) (x : ℕ) → T (isHigh r) → T (isIn r x) → isTextByte x ≡ true
 unfolding isHigh isIn
 high-in (a to b) x t i = high-text x (omega (arith, leb→le 0x80 a t, leb→le a x (and-l (leb a x) (leb x b) i)))
@@ -434,21 +221,6 @@ text-each (r ∷ rs) [] t i = absurd i
 text-each (r ∷ rs) (x ∷ u) t i =
     rw (high-in r x (and-l (isHigh r) (all isHigh rs) t) (and-l (isIn r x) (inEach rs u) i))
     (text-each rs u (and-r (isHigh r) (all isHigh rs) t) (and-r (isIn r x) (inEach rs u) i))
-
--- as all are that follow a first byte
-follows-high : (rows : List (List Range)) (x : ℕ) → T (all (λ row. all isHigh (drop 1 row)) rows) → T (all isHigh (follows rows x))
-unfolding follows
-follows-high [] x t = tt
-follows-high ([] ∷ rows) x t = follows-high rows x t
-follows-high ((r ∷ rs) ∷ rows) x t = go (isIn r x) (follows-high rows x (and-r (all isHigh rs) (all (λ row. all isHigh (drop 1 row)) rows) t))
-  where
-    go : (b : Bool) → T (all isHigh (follows rows x)) → T (all isHigh (pick b rs (follows rows x)))
-    go true u = and-l (all isHigh rs) (all (λ row. all isHigh (drop 1 row)) rows) t
-    go false u = u
-
-rows-high : T (all (λ row. all isHigh (drop 1 row)) characters)
-unfolding characters isHigh
-rows-high = tt
 
 -- the ranges are not more than the bytes
 each-short : (rs : List Range) (u : List ℕ) → T (inEach rs u) → length rs ≤ length u
@@ -463,10 +235,10 @@ stands x u = isTextByte x && (starts characters x && inEach (follows characters 
 
 -- a text of one character more
 one-more : (w x : ℕ) (u : List ℕ) → byCharacters (suc w) (x ∷ u) ≡ (stands x u && byCharacters w (drop (length (follows characters x)) u))
-unfolding byCharacters atMost
+unfolding byCharacters atMost wanted
 one-more w x u =
     rw (at-most-each w (follows characters x) u)
-    (go (isTextByte x) (starts characters x) (inEach (follows characters x) u) (text-each (follows characters x) u (follows-high characters x rows-high)))
+    (go (isTextByte x) (starts characters x) (inEach (follows characters x) u) (text-each (follows characters x) u (and-l (all isHigh (follows characters x)) (areTails (drop 1 (follows characters x))) (table-wanted x))))
   where
     k : ℕ
     k = length (follows characters x)

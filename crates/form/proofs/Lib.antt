@@ -1,3 +1,4 @@
 pub mod TextLaws
+pub mod FirstByteLaws
 pub mod CharacterLaws
 pub mod CodeLaws

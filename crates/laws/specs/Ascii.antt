@@ -26,12 +26,12 @@ unfolding isAscii
 digit-ascii x t = le→leb x 127 (omega (arith, digit-high x t))
 
 -- it begins a character
-ascii-starts : (x : ℕ) → T (isAscii x) → starts characters x ≡ true
+pub ascii-starts : (x : ℕ) → T (isAscii x) → starts characters x ≡ true
 unfolding isAscii characters starts isIn
 ascii-starts x t = rw (leb·zero x, T-true (leb x 127) t)
 
 -- and nothing follows it there
-ascii-follows : (x : ℕ) → T (isAscii x) → follows characters x ≡ []
+pub ascii-follows : (x : ℕ) → T (isAscii x) → follows characters x ≡ []
 unfolding isAscii characters follows isIn
 ascii-follows x t = rw (leb·zero x, T-true (leb x 127) t)
 

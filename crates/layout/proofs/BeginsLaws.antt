@@ -38,7 +38,7 @@ module _ (p e old new : List ℕ) (n : ℕ) (pn : n ≡ length p) (w : new ≡ i
 pub both-length : (p e : List ℕ) (n m : ℕ) → n ≡ length p → m ≡ length e → n + m ≡ length (p ++ e)
 both-length p e n m a b = omega (arith, length-append p e)
 
-module _ (p e old new : List ℕ) (n : ℕ) (pn : n ≡ length (p ++ e)) (w : new ≡ inFront (p ++ e) old) (pl : length p ≤ mostOfAny) (el : length e ≤ mostOfAny) (ol : length old ≡ 544) where
+module _ (p e old new : List ℕ) (n : ℕ) (pn : n ≡ length (p ++ e)) (w : new ≡ inFront (p ++ e) old) (pl : length p ≤ mostOfAny) (el : length e ≤ mostOfAny) (ol : length old ≡ 2044) where
   -- what stands in front is within what was lent
   pub together-room : n ≤ length new
   together-room = omega (arith, front-same (p ++ e) old new (omega (arith, length-append p e)) w, length-append p e)
@@ -82,6 +82,26 @@ over-none a b n h = omega arith
 
 pub ruleset going = (needs, not-true, not-false, short-row, over-none, goes-over, goes-stop, goes-turn, goes-done)
 
+-- ---- one sample and those after it
+
+module _ (sound : List ℕ → Bool) (p s : List ℕ) (ss : List (List ℕ)) (b : Bool) (e : b ≡ goesOn sound p s) where
+  -- the first sample goes on
+  pub begins-first : b ≡ true → true ≡ begins sound (s ∷ ss) p
+  unfolding begins
+  begins-first t = rw (sym e ∙ t)
+
+  -- the others are asked
+  pub begins-others : b ≡ false → (r : Bool) → r ≡ begins sound ss p → r ≡ begins sound (s ∷ ss) p
+  unfolding begins
+  begins-others t r q = rw (sym e ∙ t) q
+
+-- one alone
+pub begins-last : (sound : List ℕ → Bool) (p s : List ℕ) (r : Bool) → r ≡ goesOn sound p s → r ≡ begins sound (s ∷ []) p
+unfolding begins
+begins-last sound p s r e = e ∙ sym (or-false (goesOn sound p s))
+
+pub ruleset beginning = (needs, not-true, not-false, begins-longer, begins-first, begins-others, begins-last)
+
 -- ---- codes in quotes
 
 module _ (sound : List ℕ → Bool) (p codes : List ℕ) (i : ℕ) (x : Bool) (e : begins sound (inQuotes (drop i codes)) p ≡ x) where
@@ -111,13 +131,13 @@ take-alike (suc d) zero x h = absurd (omega arith)
 take-alike (suc d) (suc n) x h = ap (λ l. x ∷ l) (take-alike d n x (omega arith))
 
 -- 0, a point and zeros, of which as many are lent as there are decimals
-noughts : (d : ℕ) → 2 + d ≤ mostOfAny → take (2 + d - 0) (drop 0 (set (replicate 272 48) 1 46)) ≡ bytes "0." ++ replicate d 48
+noughts : (d : ℕ) → 2 + d ≤ mostOfAny → take (2 + d - 0) (drop 0 (set (replicate 1022 48) 1 46)) ≡ bytes "0." ++ replicate d 48
 unfolding bytes
 noughts d h =
     let z : 2 + d - 0 ≡ suc (suc d) = omega arith in
-    rw z (ap (λ l. 48 ∷ 46 ∷ l) (take-alike d 270 48 (omega arith)))
+    rw z (ap (λ l. 48 ∷ 46 ∷ l) (take-alike d 1020 48 (omega arith)))
 
-pub decimal-goes : (sound : List ℕ → Bool) (p : List ℕ) (d : ℕ) (r : Bool) → 2 + d ≤ mostOfAny → r ≡ goesOn sound p (take (2 + d - 0) (drop 0 (set (replicate 272 48) 1 46)))
+pub decimal-goes : (sound : List ℕ → Bool) (p : List ℕ) (d : ℕ) (r : Bool) → 2 + d ≤ mostOfAny → r ≡ goesOn sound p (take (2 + d - 0) (drop 0 (set (replicate 1022 48) 1 46)))
     → r ≡ goesOn sound p (bytes "0." ++ replicate d 48)
 decimal-goes sound p d r h e = e ∙ ap (goesOn sound p) (noughts d h)
 
@@ -155,8 +175,7 @@ module _ (sound : List ℕ → Bool) (p : List ℕ) (form : Code) (m : Form) (i 
 
   -- one alone
   pub arm-one : (r : Bool) (s : List ℕ) → r ≡ goesOn sound p s → samples (meant arm) ≡ s ∷ [] → r ≡ begins sound (samples m) p
-  unfolding begins
-  arm-one r s e a = arm-all r (s ∷ []) (e ∙ sym (or-false (goesOn sound p s))) a
+  arm-one r s e a = arm-all r (s ∷ []) (begins-last sound p s r e) a
 
   -- the first, whatever follows it
   pub arm-first : (b : Bool) (s : List ℕ) → b ≡ goesOn sound p s → b ≡ true → samples (meant arm) ≡ s ∷ drop 1 (samples (meant arm)) → true ≡ begins sound (samples m) p
@@ -173,18 +192,3 @@ pub decimal-room : (row : ℕ) (form : Code) (w d : ℕ) → meant form ≡ form
 decimal-room row form w d m f = omega (arith, wide-decimal row form m w d f)
 
 pub ruleset filling = (needs, not-true, not-false, arm-all, arm-one, arm-first, arm-second, decimal-room)
-
--- ---- all of it
-
-module _ (sound : List ℕ → Bool) (p s : List ℕ) (ss : List (List ℕ)) (b : Bool) (e : b ≡ goesOn sound p s) where
-  -- the first sample goes on
-  pub begins-first : b ≡ true → true ≡ begins sound (s ∷ ss) p
-  unfolding begins
-  begins-first t = rw (sym e ∙ t)
-
-  -- the others are asked
-  pub begins-others : b ≡ false → (r : Bool) → r ≡ begins sound ss p → r ≡ begins sound (s ∷ ss) p
-  unfolding begins
-  begins-others t r q = rw (sym e ∙ t) q
-
-pub ruleset beginning = (needs, not-true, not-false, begins-longer, begins-first, begins-others)

@@ -2,7 +2,7 @@
 use mathlib.Core.Path.{_≡_, refl, sym, ap}
 use mathlib.Core.Bool.{Bool, true, false, not, _&&_, _||_}
 use mathlib.Core.List.{List, [], _∷_, _++_, append-nil}
-use Prim.Native.Nat.{ℕ, zero, suc, _+_, _-_, _/_, _%_, _≤_, _<_}
+use Prim.Native.Nat.{ℕ, zero, suc, _+_, _*_, _-_, _/_, _%_, _≤_, _<_}
 use native.Mathlib.Omega.{arith}
 use borrow.Author.Needs.{needs}
 use lib.Dec.{T, eqb, leb, leb→le, eqb→eq}
@@ -11,8 +11,9 @@ use Rattle.base.specs.Lists.{all, pick, same, upTo, past, bytes}
 use Rattle.base.specs.Tests.{and-l, and-r, same-test}
 use Rattle.base.specs.ListLaws.{same-eq}
 use Rattle.theory.specs.Decimal.{value}
-use Rattle.meaning.specs.Forms.{Form, number, atLeast1, decimal, date, time, text, changeType, xrefType, fileType, keyText, isDigit, isNumber, isDigits, unsigned, isDecimal, isDate, isTime, quoted, inside, byBytes, changeTypes, xrefTypes, fileTypes, oneOf, isText, isKey, hasForm, isTextual, emptyOf, isEmpty, soundAs}
+use Rattle.meaning.specs.Forms.{Form, number, atLeast1, decimal, date, time, text, changeType, xrefType, fileType, keyText, isDigit, isNumber, isDigits, unsigned, isDecimal, isDate, isTime, isTextByte, quoted, inside, byCharacters, changeTypes, xrefTypes, fileTypes, oneOf, isText, isKey, hasForm, isTextual, emptyOf, isEmpty, soundAs}
 use Rattle.meaning.specs.Place.{goesOn, begins}
+use Rattle.laws.specs.CharacterLaws.{most-bytes}
 use Rattle.form.specs.Meant.{meant}
 use Rattle.form.specs.declared.Form.{Form as Code}
 use Rattle.form.specs.declared.Form.the-variants.{Decimal, Text}
@@ -57,11 +58,11 @@ decimal-most w d f t =
     let m = digits-are d (past 46 g) (and-r (isNumber w (upTo 46 g)) (isDigits d (past 46 g)) t) in
     omega (arith, signed f, parted 46 g)
 
-text-most : (w : ℕ) (f : List ℕ) → T (isText byBytes w f) → length f ≤ 2 + w
-unfolding isText byBytes
+text-most : (w : ℕ) (f : List ℕ) → T (isText byCharacters w f) → length f ≤ 2 + 4 * w
+unfolding isText byCharacters
 text-most w f t =
     let e = same-eq f (quoted (inside f)) (and-l (same f (quoted (inside f))) _ t) in
-    let n = leb→le (length (inside f)) w (and-l (leb (length (inside f)) w) _ (and-r (same f (quoted (inside f))) _ t)) in
+    let n = most-bytes w [] (inside f) (and-r (all isTextByte (inside f)) _ (and-r (same f (quoted (inside f))) _ t)) in
     omega (arith, ap length e, length-append (inside f) (34 ∷ []))
 
 -- values that are all of one length
@@ -74,7 +75,7 @@ one-most n (v ∷ vs) f h t = go (same f v) refl (one-most n vs f (and-r (eqb (l
     go true e r u = omega (arith, ap length (same-eq f v (rw e tt)), eqb→eq (length v) n (and-l (eqb (length v) n) _ h))
     go false e r u = r u
 
-form-most : (m : Form) (f : List ℕ) → T (hasForm byBytes m f) → length f ≤ longest m
+form-most : (m : Form) (f : List ℕ) → T (hasForm byCharacters m f) → length f ≤ longest m
 unfolding hasForm longest isDate isTime isKey bytes
 form-most (number w) f t = number-most w f t
 form-most (atLeast1 w) f t = number-most w f (and-l (isNumber w f) (leb 1 (value f)) t)
@@ -85,7 +86,7 @@ form-most (text w) f t = text-most w f t
 form-most changeType f t = one-most 3 changeTypes f tt t
 form-most xrefType f t = one-most 1 xrefTypes f tt t
 form-most fileType f t = one-most 3 fileTypes f tt t
-form-most (keyText letter) f t = omega (arith, eqb→eq (length f) 16 (and-l (eqb (length f) 16) _ (and-r (isText byBytes 14 f) _ t)))
+form-most (keyText letter) f t = omega (arith, eqb→eq (length f) 16 (and-l (eqb (length f) 16) _ (and-r (isText byCharacters 14 f) _ t)))
 
 -- the empty field is no longer than a filled one
 empty-most : (m : Form) → length (emptyOf m) ≤ longest m
@@ -101,11 +102,11 @@ empty-most xrefType = omega arith
 empty-most fileType = omega arith
 empty-most (keyText letter) = omega arith
 
-sound-most : (m : Form) (filled : Bool) (f : List ℕ) → T (soundAs byBytes m filled f) → length f ≤ longest m
+sound-most : (m : Form) (filled : Bool) (f : List ℕ) → T (soundAs byCharacters m filled f) → length f ≤ longest m
 unfolding soundAs isEmpty
 sound-most m filled f t = go (same f (emptyOf m)) refl t
   where
-    go : (b : Bool) → same f (emptyOf m) ≡ b → T (pick b (not filled) (hasForm byBytes m f)) → length f ≤ longest m
+    go : (b : Bool) → same f (emptyOf m) ≡ b → T (pick b (not filled) (hasForm byCharacters m f)) → length f ≤ longest m
     go true e u = omega (arith, ap length (same-eq f (emptyOf m) (rw e tt)), empty-most m)
     go false e u = form-most m f u
 
@@ -177,7 +178,7 @@ module _ (row : ℕ) (form : Code) (m : meant form ≡ formDecoded row) where
   unfolding longest
   wide-decimal w d e = let h = row-most row in rw (← m, e) at h
 
-  pub wide-text : (w : ℕ) → form ≡ Text w → 2 + w ≤ mostOfAny
+  pub wide-text : (w : ℕ) → form ≡ Text w → 2 + 4 * w ≤ mostOfAny
   unfolding longest
   wide-text w e = let h = row-most row in rw (← m, e) at h
 

@@ -1,5 +1,5 @@
 -- How long a sound field can be.
-use Prim.Native.Nat.{ℕ, _+_}
+use Prim.Native.Nat.{ℕ, _+_, _*_}
 use Rattle.meaning.specs.Forms.{Form, number, atLeast1, decimal, date, time, text, changeType, xrefType, fileType, keyText}
 
 -- the most bytes of a sound field of a form
@@ -9,12 +9,12 @@ longest (atLeast1 w) = w
 longest (decimal w d) = 2 + w + d
 longest date = 10
 longest time = 6
-longest (text w) = 2 + w
+longest (text w) = 2 + 4 * w
 longest changeType = 3
 longest xrefType = 1
 longest fileType = 3
 longest (keyText letter) = 16
 
--- the most of any form that a row of the table can say: a minus, 255 digits, a point and 15 digits
+-- the most of any form that a row of the table can say: two quotes and 255 characters of four bytes
 abbrev pub mostOfAny : ℕ
-mostOfAny = 272
+mostOfAny = 1022

@@ -1,13 +1,13 @@
 // Whether bytes begin a field that is sound as a row has it: whether they are sound with the end of one of the form's samples after them.
 // Only the one field of a file that is malformed is asked so, so nothing here need be quick.
 ghost use mathlib.Core.Path.{_≡_};
-ghost use mathlib.Core.List.{_++_, _∷_};
+ghost use mathlib.Core.List.{_++_, _∷_, map};
 ghost use Prim.Native.Nat.{_+_, _-_, _≤_};
 ghost use lib.ListN.{length, replicate};
 ghost use Rattle.base.specs.Lists.{bytes};
 ghost use Rattle.text.specs.Front.{inFront};
 ghost use Rattle.meaning.specs.Forms.{emptyOf, quoted};
-ghost use Rattle.meaning.specs.Place.{goesOn, samples};
+ghost use Rattle.meaning.specs.Place.{goesOn, letters, samples};
 ghost use Rattle.meaning.specs.Place.{begins as beginsWith};
 ghost use Rattle.form.specs.Codes.{inQuotes};
 ghost use Rattle.layout.specs.Rows.{formDecoded, soundBy};
@@ -20,8 +20,8 @@ use form::codes::FILE_TYPES;
 use form::is_textual;
 use text::put;
 
-// The most bytes of a sound field of any form that a row of the table can say: a minus, 255 digits, a point and 15 digits.
-const MOST_OF_ANY: usize = 272;
+// The most bytes of a sound field of any form that a row of the table can say: two quotes and 255 characters of four bytes.
+const MOST_OF_ANY: usize = 1022;
 
 // The most bytes of a field that is sound as a row has it.
 fn most_bytes(row: u32) -> usize
@@ -34,7 +34,7 @@ fn most_bytes(row: u32) -> usize
         Form::Decimal(width, decimals) => 2 + width + decimals,
         Form::Date => 10,
         Form::Time => 6,
-        Form::Text(width) => 2 + width,
+        Form::Text(width) => 2 + 4 * width,
         Form::ChangeType => 3,
         Form::XrefType => 1,
         Form::FileType => 3,
@@ -116,6 +116,23 @@ fn goes_on_decimal(row: u32, p: &[u8], decimals: usize) -> bool
     goes_on(row, p, &zeros[0..end])
 }
 
+// Whether bytes are sound with the end of a text of one letter after them: a, or U+0800, U+10000 or U+40000, which end a letter that is begun.
+fn goes_on_text(row: u32, p: &[u8]) -> bool
+    requires { ⌜ length (now p) ≤ longest (formDecoded row) ⌝ }
+    ensures { λ r. ⌜ r ≡ beginsWith (soundBy row) (map quoted letters) (now (p .entry)) ⌝ }
+{
+    if goes_on(row, p, b"\"a\"") {
+        return true;
+    }
+    if goes_on(row, p, b"\"\xE0\xA0\x80\"") {
+        return true;
+    }
+    if goes_on(row, p, b"\"\xF0\x90\x80\x80\"") {
+        return true;
+    }
+    goes_on(row, p, b"\"\xF1\x80\x80\x80\"")
+}
+
 // Whether bytes are sound with the end of a key with that letter after them.
 fn goes_on_key(row: u32, p: &[u8], letter: u8) -> bool
     requires { ⌜ length (now p) ≤ longest (formDecoded row) ⌝ }
@@ -143,7 +160,7 @@ fn begins_filled(row: u32, p: &[u8]) -> bool
             goes_on(row, p, b"9999-11-30")
         }
         Form::Time => goes_on(row, p, b"000000"),
-        Form::Text(_) => goes_on(row, p, b"\"a\""),
+        Form::Text(_) => goes_on_text(row, p),
         Form::ChangeType => goes_on_quoted(row, p, &CHANGE_TYPES),
         Form::XrefType => {
             if goes_on(row, p, b"1") {

@@ -1,5 +1,5 @@
 -- `form::characters::may_follow` meets its contract.
-use Rattle.form.proofs.CharacterLaws.{second}
+use Rattle.form.proofs.FirstByteLaws.{second}
 use Rattle.form.proofs.characters.may_follow.Statement.{statement}
 use Rattle.form.proofs.characters.may_follow.Tie as tie
 

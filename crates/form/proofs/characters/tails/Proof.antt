@@ -1,5 +1,5 @@
 -- `form::characters::tails` meets its contract.
-use Rattle.form.proofs.CharacterLaws.{tailing}
+use Rattle.form.proofs.FirstByteLaws.{tailing}
 use Rattle.form.proofs.characters.tails.Statement.{statement}
 use Rattle.form.proofs.characters.tails.Tie as tie
 

@@ -1,8 +1,8 @@
 -- `layout::begins::begins_filled` meets its contract.
+use Rattle.layout.proofs.BeginsLaws.{filling}
 use Rattle.base.specs.Lists.{bytes}
 use Rattle.meaning.specs.Place.{samples}
 use Rattle.form.specs.Codes.{inQuotes}
-use Rattle.layout.proofs.BeginsLaws.{filling}
 use Rattle.layout.proofs.begins.begins_filled.Statement.{statement}
 use Rattle.layout.proofs.begins.begins_filled.Tie as tie
 
@@ -30,17 +30,16 @@ begins-filled-spec =
     (λ c. search filling)  -- slice-aggregate-goes-on-5
     (λ c κs. search filling)  -- goes-on-requires-5
     (λ c. search filling)  -- enum-told-5
-    (λ c. search filling)  -- slice-aggregate-goes-on-6
-    (λ c κs. search filling)  -- goes-on-requires-6
+    (λ c κs. search filling)  -- goes-on-text-requires
     (λ c. search filling)  -- enum-told-6
     (λ c. search filling)  -- slice-aggregate-goes-on-quoted
     (λ c κs. search filling)  -- goes-on-quoted-requires
     (λ c. search filling)  -- enum-told-7
+    (λ c. search filling)  -- slice-aggregate-goes-on-6
+    (λ c κs. search filling)  -- goes-on-requires-6
+    (λ c. search filling)  -- returns-2
     (λ c. search filling)  -- slice-aggregate-goes-on-7
     (λ c κs. search filling)  -- goes-on-requires-7
-    (λ c. search filling)  -- returns-2
-    (λ c. search filling)  -- slice-aggregate-goes-on-8
-    (λ c κs. search filling)  -- goes-on-requires-8
     (λ c. search filling)  -- enum-told-8
     (λ c. search filling)  -- slice-aggregate-goes-on-quoted-2
     (λ c κs. search filling)  -- goes-on-quoted-requires-2

@@ -19,6 +19,7 @@ most-bytes-spec =
     (λ c. search needs)  -- enum-told
     (λ c. search needs)  -- enum-told-2
     (λ c. search needs)  -- enum-known-form-4
+    (λ c. let w = wide-text _ _ (c .before .before .before .form-of .ensures) _ (c .before .form4 .given .1) in search needs)  -- mul-result
     (λ c. let w = wide-text _ _ (c .before .before .before .form-of .ensures) _ (c .before .form4 .given .1) in search needs)  -- add-result-3
     (λ c. search needs)  -- enum-told-3
     (λ c. search needs)  -- enum-told-4
