@@ -1,13 +1,13 @@
 -- Paper 02, request 02: what the rules by bytes and by characters say alike: of ASCII all, and of codes, keys and CHANGE_TYPE all, whatever the bytes.
 use mathlib.Core.Path.{_≡_, refl, sym, ap, _∙_, subst, fun-ext}
-use mathlib.Core.Bool.{Bool, true, false, not, and-comm}
+use mathlib.Core.Bool.{Bool, true, false, not, _&&_, and-comm}
 use mathlib.Core.List.{List, [], _∷_, _++_, map}
-use Prim.Native.Nat.{ℕ, zero, suc, _-_, _<_}
+use Prim.Native.Nat.{ℕ, zero, suc, _-_, _≤_, _<_}
 use native.Mathlib.Omega.{arith}
-use lib.Dec.{T, leb, le→leb}
-use lib.ListN.{length, take, drop}
+use lib.Dec.{T, leb, eqb, le→leb, nleb→lt, eqb→eq, not-T}
+use lib.ListN.{length, take, drop, replicate}
 use Rattle.base.specs.Lists.{all, part, bytes}
-use Rattle.base.specs.Tests.{and-in, and-l, and-r, same-test}
+use Rattle.base.specs.Tests.{and-in, and-l, and-r, same-test, T-false}
 use Rattle.base.specs.ListLaws.{all-append, append-all}
 use Rattle.meaning.specs.Characters.{atMost}
 use Rattle.meaning.specs.Forms.{Form, number, atLeast1, decimal, date, time, text, changeType, xrefType, fileType, keyText, isTextByte, quoted, inside, TextRule, byCharacters, isText, hasForm, isTextual, emptyOf, isEmpty, soundAs}
@@ -20,10 +20,10 @@ use Rattle.meaning.specs.Sound.{soundField, placeIn}
 use Rattle.meaning.specs.Computes.{computed}
 use Rattle.laws.specs.Kinds.{every}
 use Rattle.laws.specs.PlaceLaws.{begins-now, begins-rest}
-use Rattle.laws.specs.EnoughNumbers.{all-drop}
+use Rattle.laws.specs.EnoughNumbers.{all-drop, noughts}
 use Rattle.laws.specs.ContentLaws.{Ruled, bytes-front, bytes-ruled}
 use Rattle.laws.specs.Ascii.{isAscii, ascii, ascii-most, ascii-past}
-use Rattle.laws.specs.CharacterLaws.{characters-ruled}
+use Rattle.laws.specs.CharacterLaws.{key-letter, characters-ruled}
 use Rattle.laws.specs.EnoughTexts.{filledText, text-at}
 use Rattle.laws.specs.EnoughKeys.{keyLetter, key-carry}
 use Rattle.laws.specs.Enough.{full, sound-at, enough}
@@ -55,7 +55,7 @@ isFreeText xrefType = false
 isFreeText fileType = false
 isFreeText (keyText letter) = false
 
--- the form names no byte but ASCII: a key's letter is ASCII (a key of another letter was one, and is none)
+-- the form names no byte but ASCII: a key's letter is ASCII
 unfoldable pub isPlain : Form → Bool
 isPlain (number w) = true
 isPlain (atLeast1 w) = true
@@ -72,6 +72,34 @@ isPlain (keyText letter) = isAscii letter
 letter-same : (letter : ℕ) → T (isAscii letter) → keyLetter byBytes letter ≡ keyLetter byCharacters letter
 unfolding keyLetter isAscii
 letter-same letter l = rules-agree 14 _ (and-in (leb letter 127) true l tt)
+
+-- no less is enough: any other letter may stand there by bytes, and may not by characters
+pub letter-only : (letter : ℕ) → T (not (isAscii letter)) → T (keyLetter byBytes letter) × (T (keyLetter byCharacters letter) → ⊥)
+unfolding keyLetter byBytes byCharacters isTextByte isAscii
+letter-only letter n = (and-in (isTextByte letter) true byte tt, λ t. subst T (T-false (isAscii letter) n) (between t))
+  where
+    front : List ℕ
+    front = replicate 4 48
+
+    back : List ℕ
+    back = replicate 9 48
+
+    key : List ℕ
+    key = front ++ (letter ∷ back)
+
+    between : T (all isTextByte key && atMost 14 [] key) → T (isAscii letter)
+    between t = key-letter letter front back (noughts 4) (noughts 9) (and-r (all isTextByte key) (atMost 14 [] key) t)
+
+    high : 127 < letter
+    high = nleb→lt letter 127 n
+
+    other : (x : ℕ) → x ≤ 127 → T (not (eqb letter x))
+    other x h = not-T (eqb letter x) (λ e. omega (arith, eqb→eq letter x e, high))
+
+    byte : T (isTextByte letter)
+    byte =
+        and-in (leb 32 letter) _ (le→leb 32 letter (omega (arith, high)))
+        (and-in (not (eqb letter 34)) (not (eqb letter 127)) (other 34 (omega arith)) (other 127 (omega arith)))
 
 others-form : (m : Form) → T (not (isFreeText m)) → T (isPlain m) → (f : List ℕ) → hasForm byBytes m f ≡ hasForm byCharacters m f
 unfolding isFreeText isPlain hasForm

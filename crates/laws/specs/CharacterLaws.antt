@@ -157,7 +157,7 @@ alone x y (suc w) u d t =
         absurd (omega (arith, leb→le 128 c p, digit-high y d, leb→le c y (and-l (leb c y) (leb y e) (and-l (leb c y && leb y e) (atMost w rs u) t))))
 
 -- a letter between digits is
-key-letter : (letter : ℕ) (a b : List ℕ) → T (isDigits 4 a) → T (isDigits 9 b) → T (atMost 14 [] (a ++ (letter ∷ b))) → T (isAscii letter)
+pub key-letter : (letter : ℕ) (a b : List ℕ) → T (isDigits 4 a) → T (isDigits 9 b) → T (atMost 14 [] (a ++ (letter ∷ b))) → T (isAscii letter)
 key-letter letter a [] da db t = absurd (omega (arith, digits-length 9 [] db))
 key-letter letter a (y ∷ b) da db t =
     let v = ascii-past 14 a (letter ∷ (y ∷ b)) (all-map isDigit isAscii digit-ascii a (digits-each 4 a da)) t in
