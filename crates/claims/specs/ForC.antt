@@ -14,6 +14,7 @@ use Rattle.answers.specs.Meant.{answerOf, verdictOf, answerList, verdictList, t
 use Rattle.answers.specs.declared.numbers.Answer.{Answer}
 use Rattle.answers.specs.declared.numbers.Verdict.{Verdict}
 use Rattle.muiwash.specs.Numbers.{partList, sidedList, Applies, Undoes}
+use Rattle.claims.specs.AsBefore.{FindInCAsBefore, find-in-c-before, ForceInCAsBefore, force-in-c-before}
 use Rattle.claims.specs.CheckClaims.{FileClaims, file-claims, HoldingClaims, holding-claims}
 use Rattle.claims.specs.LoadClaims.{ApplyClaims, apply-claims, UndoClaims, undo-claims}
 
@@ -83,10 +84,18 @@ pub record FindInC (old : List ℕ) (kind n : ℕ) (answer : List ℕ) : Type 0 
   pub found : Found
   pub numbers : answer ≡ partList found
   pub why : FindAnswers scottish old kind n found
+  -- paper 02, request 02: of ASCII alone, the answer is what it was before, with bytes counted
+  pub before : FindInCAsBefore old kind n answer
 
 -- every outcome is so
 pub find-in-c : (old : List ℕ) (kind n : ℕ) (answer : List ℕ) → answer ≡ partList (find scottish old kind n) → FindInC old kind n answer
-find-in-c old kind n answer o = record { outcome = o; found = find scottish old kind n; numbers = o; why = find-answers scottish scottish-regular old kind n }
+find-in-c old kind n answer o = record {
+  outcome = o;
+  found = find scottish old kind n;
+  numbers = o;
+  why = find-answers scottish scottish-regular old kind n;
+  before = find-in-c-before old kind n answer o;
+}
 
 -- six numbers of the record in force, with the side on which its line stands
 pub record ForceInC (old file : List ℕ) (kind n : ℕ) (answer : List ℕ) : Type 0 where
@@ -94,10 +103,18 @@ pub record ForceInC (old file : List ℕ) (kind n : ℕ) (answer : List ℕ) : T
   pub found : Found
   pub numbers : answer ≡ sidedList found
   pub why : ForceAnswers scottish old file kind n found
+  -- paper 02, request 02: of ASCII alone, the answer is what it was before, with bytes counted
+  pub before : ForceInCAsBefore old file kind n answer
 
 -- every outcome is so
 pub force-in-c : (old file : List ℕ) (kind n : ℕ) (answer : List ℕ) → answer ≡ sidedList (inForce scottish old file kind n) → ForceInC old file kind n answer
-force-in-c old file kind n answer o = record { outcome = o; found = inForce scottish old file kind n; numbers = o; why = force-answers scottish scottish-regular old file kind n }
+force-in-c old file kind n answer o = record {
+  outcome = o;
+  found = inForce scottish old file kind n;
+  numbers = o;
+  why = force-answers scottish scottish-regular old file kind n;
+  before = force-in-c-before old file kind n answer o;
+}
 
 -- five numbers of one field of a line
 pub record FieldInC (bytes : List ℕ) (l f : ℕ) (answer : List ℕ) : Type 0 where

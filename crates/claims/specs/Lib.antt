@@ -1,6 +1,7 @@
 pub mod Demand1
 pub mod Demand2
 pub mod Demand3
+pub mod AsBefore
 pub mod CheckClaims
 pub mod LoadClaims
 pub mod BackClaims
