@@ -1,4 +1,5 @@
 //! What a field may look like.
+use super::characters::count;
 
 #[derive(Clone, Copy, PartialEq, Eq)]
 pub enum Form {
@@ -78,8 +79,13 @@ fn is_decimal(field: &[u8], width: usize, decimals: usize) -> bool {
     }
 }
 
-pub fn is_text(text: &[u8], width: usize) -> bool {
-    text.len() <= width && text.iter().all(|byte| *byte >= 0x20 && *byte != b'"' && *byte != 0x7F)
+/// A width counts characters.
+fn is_text(text: &[u8], width: usize) -> bool {
+    text.iter().all(is_text_byte) && count(text).is_some_and(|count| count.whole <= width && !count.begun)
+}
+
+pub fn is_text_byte(byte: &u8) -> bool {
+    *byte >= 0x20 && *byte != b'"' && *byte != 0x7F
 }
 
 fn is_key(text: &[u8], letter: u8) -> bool {

@@ -1,6 +1,7 @@
 //! The rules of the papers a second time, in Rust, written from them and not from the Rattle sources.
 //! It aims at being plain, not fast: every reference of the holding is looked at again after every step.
 pub mod answers;
+pub mod characters;
 pub mod enquiries;
 pub mod file;
 pub mod forms;

@@ -1,5 +1,6 @@
 //! Paper 02's request 01: the place, from 1, of the first byte at which no sound field could go on.
-use super::forms::{days, is_text, number, Form};
+use super::characters::count;
+use super::forms::{days, is_text_byte, number, Form};
 use std::ops::RangeInclusive;
 
 impl Form {
@@ -36,12 +37,17 @@ impl Form {
     /// Whether these bytes can stand behind the first quote of a filled field, before the quotes are closed.
     fn begins_within(self, text: &[u8]) -> bool {
         match self {
-            Form::Text(width) => is_text(text, width),
+            Form::Text(width) => text_within(width, text),
             Form::Letter(codes) => one_of(codes, text),
             Form::Key(letter) => key(letter, text),
             _ => false,
         }
     }
+}
+
+/// Characters up to the width, of which the last may lack bytes.
+fn text_within(width: usize, start: &[u8]) -> bool {
+    start.iter().all(is_text_byte) && count(start).is_some_and(|count| count.whole + usize::from(count.begun) <= width)
 }
 
 /// No byte yet, or a code.

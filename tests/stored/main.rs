@@ -1,4 +1,5 @@
-//! cases [--write]: the tables of crates/cases, crates/field_places and crates/loads, answered anew by the reference.
+//! cases [--write]: the tables of crates/cases, crates/field_places and crates/loads, answered anew by the reference; and what the reference
+//! counts in bytes, against Rust's library.
 mod added;
 mod forms;
 mod modules;
@@ -7,6 +8,7 @@ mod modules;
 mod reference;
 mod rows;
 mod terms;
+mod utf8;
 mod wants;
 
 use std::path::{Path, PathBuf};
@@ -71,6 +73,8 @@ fn write_wanted() -> bool {
 
 fn main() {
     let write = write_wanted();
+    let counted = utf8::check().unwrap_or_else(|error| fail(&error));
+    println!("tests/cases: {counted} runs of bytes are the characters to the reference that they are to Rust's library");
     let (mut rows, mut differ) = (0, 0);
     for path in modules() {
         let stored = read(&path);
