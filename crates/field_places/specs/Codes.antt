@@ -145,6 +145,18 @@ cases =
     ∷ (fileType, (bytes "\"A"), (3 ∷ 3 ∷ []))
     ∷ (fileType, ((191 ∷ 144 ∷ 236 ∷ 236 ∷ []) ++ (bytes "\"2")), (1 ∷ 1 ∷ []))
     ∷ (fileType, (bytes "\"BB"), (3 ∷ 3 ∷ []))
+    ∷ (changeType, (bytes "\"" ++ ((195 ∷ 153 ∷ []) ++ (bytes "\""))), (2 ∷ 2 ∷ []))
+    ∷ (changeType, (bytes "\"" ++ ((196 ∷ 176 ∷ []) ++ (bytes "\""))), (2 ∷ 2 ∷ []))
+    ∷ (changeType, (bytes "\"I" ++ ((204 ∷ 129 ∷ []) ++ (bytes "\""))), (3 ∷ 3 ∷ []))
+    ∷ (changeType, (bytes "\"I" ++ ((195 ∷ []) ++ (bytes "\""))), (3 ∷ 3 ∷ []))
+    ∷ (changeType, (bytes "\"" ++ ((196 ∷ []) ++ (bytes "\""))), (2 ∷ 2 ∷ []))
+    ∷ (xrefType, ((239 ∷ 188 ∷ 145 ∷ [])), (1 ∷ 1 ∷ []))
+    ∷ (xrefType, (bytes "1" ++ ((204 ∷ 129 ∷ []))), (2 ∷ 2 ∷ []))
+    ∷ (xrefType, ((194 ∷ 178 ∷ [])), (1 ∷ 1 ∷ []))
+    ∷ (fileType, (bytes "\"" ++ ((195 ∷ 128 ∷ []) ++ (bytes "\""))), (2 ∷ 2 ∷ []))
+    ∷ (fileType, (bytes "\"A" ++ ((204 ∷ 128 ∷ []) ++ (bytes "\""))), (3 ∷ 3 ∷ []))
+    ∷ (fileType, (bytes "\"A" ++ ((224 ∷ []) ++ (bytes "\""))), (3 ∷ 3 ∷ []))
+    ∷ (fileType, (bytes "\"" ++ ((224 ∷ 128 ∷ 128 ∷ []) ++ (bytes "\""))), (2 ∷ 2 ∷ []))
     ∷ []
 
 -- each field has the places that the reference gave

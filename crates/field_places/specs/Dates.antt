@@ -80,6 +80,8 @@ cases =
     ∷ (date, (bytes "20010101"), (5 ∷ 5 ∷ []))
     ∷ (date, (bytes "2001/01/01"), (5 ∷ 5 ∷ []))
     ∷ (date, (bytes "10000-01-01"), (2 ∷ 2 ∷ []))
+    ∷ (date, (bytes "2001" ++ ((226 ∷ 128 ∷ 147 ∷ []) ++ (bytes "01" ++ ((226 ∷ 128 ∷ 147 ∷ []) ++ (bytes "01"))))), (5 ∷ 5 ∷ []))
+    ∷ (date, (bytes "2001-01-0" ++ ((239 ∷ 188 ∷ 145 ∷ []))), (10 ∷ 10 ∷ []))
     ∷ []
 
 -- each field has the places that the reference gave

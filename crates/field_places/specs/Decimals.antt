@@ -100,6 +100,9 @@ cases =
     ∷ (decimal 2 1, (bytes "-4.1"), (0 ∷ 0 ∷ []))
     ∷ (decimal 2 1, (bytes "a" ++ ((143 ∷ []) ++ (bytes ","))), (1 ∷ 1 ∷ []))
     ∷ (decimal 2 1, (bytes "93!.3"), (3 ∷ 3 ∷ []))
+    ∷ (decimal 7 2, ((226 ∷ 136 ∷ 146 ∷ []) ++ (bytes "1.00")), (1 ∷ 1 ∷ []))
+    ∷ (decimal 7 2, (bytes "1" ++ ((194 ∷ 183 ∷ []) ++ (bytes "00"))), (2 ∷ 2 ∷ []))
+    ∷ (decimal 7 2, (bytes "1.0" ++ ((239 ∷ 188 ∷ 144 ∷ []))), (4 ∷ 4 ∷ []))
     ∷ []
 
 -- each field has the places that the reference gave

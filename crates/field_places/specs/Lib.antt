@@ -6,5 +6,8 @@ pub mod Decimals
 pub mod Dates
 pub mod Times
 pub mod Texts
+pub mod Texts12
+pub mod Texts40
+pub mod Characters
 pub mod Codes
 pub mod Keys

@@ -145,6 +145,10 @@ cases =
     ∷ (number 16, (bytes "/" ++ ((194 ∷ 193 ∷ []) ++ (bytes "-" ++ ((224 ∷ []) ++ (bytes "."))))), (1 ∷ 1 ∷ []))
     ∷ (number 16, (bytes "0000000000"), (0 ∷ 0 ∷ []))
     ∷ (number 16, (bytes "5839478/70930" ++ ((191 ∷ []))), (8 ∷ 8 ∷ []))
+    ∷ (number 4, ((239 ∷ 188 ∷ 145 ∷ [])), (1 ∷ 1 ∷ []))
+    ∷ (number 4, (bytes "12" ++ ((195 ∷ 169 ∷ []))), (3 ∷ 3 ∷ []))
+    ∷ (number 4, (bytes "1" ++ ((194 ∷ 160 ∷ []) ++ (bytes "234"))), (2 ∷ 2 ∷ []))
+    ∷ (number 4, (bytes "12" ++ ((233 ∷ []))), (3 ∷ 3 ∷ []))
     ∷ []
 
 -- each field has the places that the reference gave
