@@ -27,9 +27,9 @@ fn take(all: &mut Vec<Added>, line: &str) -> Option<()> {
     }
     let Added { case, apply, undo, .. } = all.last_mut()?;
     match word {
-        "holding" => case.old.extend_from_slice(format!("{rest}\r\n").as_bytes()),
-        "file" => case.change.extend_from_slice(format!("{rest}\r\n").as_bytes()),
-        "unended" => case.change.extend_from_slice(rest.as_bytes()),
+        "holding" => case.old.extend([bytes_of(rest)?.as_slice(), b"\r\n"].concat()),
+        "file" => case.change.extend([bytes_of(rest)?.as_slice(), b"\r\n"].concat()),
+        "unended" => case.change.extend(bytes_of(rest)?),
         "lengths" => {
             let numbers: Option<Vec<usize>> = rest.split(' ').map(|number| number.parse().ok()).collect();
             [case.room, case.undo_room, case.space] = numbers?.try_into().ok()?;
@@ -39,6 +39,18 @@ fn take(all: &mut Vec<Added>, line: &str) -> Option<()> {
         _ => return None,
     }
     Some(())
+}
+
+/// The bytes of a line of the list, in which \xHH is a byte that is no letter of UTF-8.
+fn bytes_of(line: &str) -> Option<Vec<u8>> {
+    let mut parts = line.split("\\x");
+    let mut bytes = parts.next()?.as_bytes().to_vec();
+    for part in parts {
+        let (byte, rest) = part.split_at_checked(2)?;
+        bytes.push(u8::from_str_radix(byte, 16).ok()?);
+        bytes.extend_from_slice(rest.as_bytes());
+    }
+    Some(bytes)
 }
 
 impl Added {
