@@ -5,7 +5,7 @@ use Rattle.base.specs.Lists.{bytes}
 use Rattle.meaning.specs.Computes.{computed}
 use Rattle.cases.specs.Cases.{Case, misses, opened}
 
--- a file with a text that is ill-formed, in each field there is; with what the reference answered, as below
+-- a file with an ill-formed text, in each text field in turn, and what the reference answered; as below
 unfoldable pub broken : List Case
 broken =
     record { old = (bytes "11,\"I\",1,1,1,1,,,,2001-01-01,2001-01-01,2001-01-01,,0.00,0.00,0.00,0.00" ++ ((13 ∷ 10 ∷ []) ++ (bytes "21,\"I\",2,1,1,,,,0.00,0.00,1,1,2001-01-01,,2001-01-01,2001-01-01" ++ ((13 ∷ 10 ∷ []))))); change = (bytes "10,\"" ++ ((128 ∷ []) ++ (bytes "\",1,2001-01-01,1,2001-01-01,000000,1.0,\"A\"" ++ ((13 ∷ 10 ∷ []) ++ (bytes "29,\"a\",\"a\",\"a\",\"a\",\"a\",1,\"a\",\"a\",2001-01-01,\"a\",\"a\",2001-01-01,\"a\",\"a\"" ++ ((13 ∷ 10 ∷ []) ++ (bytes "99,1,0,2001-01-01,000000" ++ ((13 ∷ 10 ∷ []))))))))); room = 285; undoRoom = 347; space = 285; fileWants = (5 ∷ 1 ∷ 2 ∷ 0 ∷ 0 ∷ 0 ∷ 2 ∷ []); heldWants = (0 ∷ 0 ∷ 0 ∷ []); applyWants = (5 ∷ 1 ∷ 2 ∷ 0 ∷ 0 ∷ 0 ∷ 2 ∷ []); output = []; undoWants = (5 ∷ 1 ∷ 2 ∷ 0 ∷ 0 ∷ 0 ∷ 2 ∷ []); undoOutput = [] }
