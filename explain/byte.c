@@ -32,31 +32,30 @@ static size_t letter(struct bytes line, size_t at) {
     if (value < least[length] || value == 0x7F || (value >= 0xD800 && value <= 0xDFFF) || value > 0x10FFFF) return 0;
     return length;
 }
-static size_t step(struct bytes line, size_t at) { return letter(line, at) ? letter(line, at) : 1; }
+size_t step(struct bytes line, size_t at) { return letter(line, at) ? letter(line, at) : 1; }
 /* How many columns those bytes of a line take; one that isn't printed as it is takes those of \xHH. */
 static size_t columns(struct bytes line, size_t from, size_t to) {
     size_t count = 0;
     for (; from < to; from += step(line, from)) count += letter(line, from) ? 1 : 4;
     return count;
 }
-static void print_part(struct bytes line, size_t from, size_t to) {
+void print_part(struct bytes line, size_t from, size_t to) {
     for (; from < to; from += step(line, from))
         if (letter(line, from)) fwrite(line.start + from, 1, letter(line, from), stdout);
         else printf("\\x%02X", (unsigned)line.start[from]);
 }
-/* A line, or what is around that byte of a long one, and the mark under the letter that the byte is part of. */
+/* A line, or what is around that byte of a long one, and the mark under the byte, which begins a letter or is in none. */
 static void print_marked(struct bytes line, size_t at) {
-    size_t marked = 0, from = 0, to = line.length;
-    while (marked < at && marked + step(line, marked) <= at) marked += step(line, marked);
+    size_t from = 0, to = line.length;
     if (columns(line, 0, line.length) > WIDE) {
-        for (size_t left = columns(line, 0, marked); left > LEFT; from += step(line, from)) left -= columns(line, from, from + 1);
-        to = marked;
+        for (size_t left = columns(line, 0, at); left > LEFT; from += step(line, from)) left -= columns(line, from, from + 1);
+        to = at;
         while (to < line.length && columns(line, from, to + step(line, to)) <= WIDE) to += step(line, to);
     }
     printf("\n%*s%s", INDENT, "", from ? ".." : "");
     print_part(line, from, to);
     printf("%s\n", to < line.length ? ".." : "");
-    printf("%*s^ ", INDENT + (from ? 2 : 0) + (int)columns(line, from, marked), "");
+    printf("%*s^ ", INDENT + (from ? 2 : 0) + (int)columns(line, from, at), "");
 }
 
 /* ---- what could have stood there */
@@ -91,13 +90,27 @@ static void find_bytes(const struct fault *f, uint8_t could[BYTES]) {
         could[b] = (uint8_t)could_be(f, (struct bytes){rest, open ^ (b == '"') ? 2 : 1});
     }
 }
-/* Whether all bytes that a text can have are among them; if so they are taken out. */
-static int take_text(uint8_t could[BYTES]) {
-    for (int b = 0x20; b < BYTES; b++)
-        if (b != '"' && b != 0x7F && !could[b]) return 0;
-    for (int b = 0x20; b < BYTES; b++)
-        if (b != '"' && b != 0x7F) could[b] = 0;
+/* Whether a character of a text can begin with that byte. */
+static int begins_character(int b) { return b < 0x80 ? b >= ' ' && b != '"' && b != 0x7F : b >= 0xC2 && b <= 0xF4; }
+/* Whether all those bytes are among them; if so they are taken out. */
+static int take_characters(uint8_t could[BYTES]) {
+    for (int b = 0; b < BYTES; b++)
+        if (begins_character(b) && !could[b]) return 0;
+    for (int b = 0; b < BYTES; b++)
+        if (begins_character(b)) could[b] = 0;
     return 1;
+}
+/* How many bytes before the place begin a letter of UTF-8 that only the end of one can follow. */
+static size_t begun(const struct fault *f, const uint8_t could[BYTES]) {
+    const uint8_t *at = f->line.start + f->start + f->place - 1;
+    size_t count = 1;
+    int many = 0;
+    for (int b = 0; b < BYTES; b++) {
+        if (could[b] && (b & 0xC0) != 0x80) return 0;
+        many += could[b];
+    }
+    while (many && (*(at - count) & 0xC0) == 0x80) count++;
+    return many ? count : 0;
 }
 /* Three bytes or more that follow each other are one run; two are two. */
 static int find_runs(const uint8_t could[BYTES], struct run runs[BYTES]) {
@@ -115,8 +128,8 @@ static void print_byte(int b) {
 /* "0 to 9", "- or 0 to 9", "D, I or U"; how many were said. */
 static int print_bytes(uint8_t could[BYTES]) {
     struct run runs[BYTES];
-    int text = take_text(could), count = find_runs(could, runs);
-    if (text) printf("any byte of a text");
+    int text = take_characters(could), count = find_runs(could, runs);
+    if (text) printf("any character of a text");
     for (int i = 0; i < count; i++) {
         if (text + i > 0) printf(i < count - 1 ? ", " : " or ");
         print_byte(runs[i].first);
@@ -124,14 +137,29 @@ static int print_bytes(uint8_t could[BYTES]) {
     }
     return text + count;
 }
+/* What an accented vowel is that stands by itself, as Latin-1 has it. */
+static void print_accent(const uint8_t *byte) {
+    static const char capitals[] = "\xC0\xC1\xC8\xC9\xCC\xCD\xD2\xD3\xD9\xDA";
+    if (byte[1] < 0x80 && byte[0] >= 0xC0 && strchr(capitals, (char)(byte[0] & 0xDF))) printf(" (\xC3%c in Latin-1)", byte[0] & 0xBF);
+}
+/* What is wrong with bytes that are no letter of UTF-8: those cut off at the place, or where there are none the byte there. */
+static void print_no_letter(const uint8_t *at, size_t cut) {
+    struct bytes found = {at - cut, cut ? cut : 1};
+    print_part(found, 0, found.length);
+    if (found.length == 1) print_accent(found.start);
+    printf(cut ? " begins a letter of UTF-8 that is cut here: " : " begins no letter of UTF-8: ");
+}
 static void print_could(const struct fault *f) {
+    const uint8_t *at = f->line.start + f->start + f->place - 1;
     uint8_t could[BYTES];
     int ends = could_be(f, (struct bytes){NULL, 0}), past = f->place > f->end - f->start, many = 0;
     find_bytes(f, could);
     for (int b = 0; b < BYTES; b++) many += could[b];
+    size_t cut = begun(f, could);
     if (past) printf("the field stops too soon: "); else printf("byte %" PRIu64 " of the field: ", f->place);
-    if (many == 1 && !ends) printf("only ");
-    if (print_bytes(could)) printf(past ? " could follow" : " could stand here");
+    if (cut || (!past && *at >= 0x80 && could['a'] && could[0xC3])) print_no_letter(at, cut);
+    if (cut || (many == 1 && !ends)) printf("only ");
+    if (print_bytes(could)) printf(past || cut ? " could follow" : " could stand here");
     else printf("nothing could stand here, the field must end before it");
     if (many && ends) printf(f->place == 1 ? ", or the field could be empty" : ", or the field could end");
 }

@@ -112,11 +112,11 @@ static struct bytes before(struct bytes holding, struct bytes file, uint64_t lin
 
 /* ---- words */
 
+/* The bytes, or as many of them as are shown; no letter is cut. */
 static void print(struct bytes b) {
-    size_t shown = b.length < SHOWN ? b.length : SHOWN;
-    while (shown < b.length && (b.start[shown] & 0xC0) == 0x80) shown--; /* no letter is cut */
-    for (size_t i = 0; i < shown; i++)
-        if (b.start[i] < 0x20 || b.start[i] == 0x7F) printf("\\x%02X", (unsigned)b.start[i]); else putchar(b.start[i]);
+    size_t shown = 0;
+    while (shown < b.length && shown + step(b, shown) <= SHOWN) shown += step(b, shown);
+    print_part(b, 0, shown);
     if (shown < b.length) printf("..");
 }
 /* "USRN 500", by name. */
@@ -152,7 +152,7 @@ static void print_form(const struct field *field) {
         break;
     case FORM_date: printf("is not a day (CCYY-MM-DD, from 1583 on)"); break;
     case FORM_time: printf("is not a time (HHMMSS)"); break;
-    case FORM_text: printf("is not a text of at most "), print_many(field->width, "byte"), printf(" within quotes"); break;
+    case FORM_text: printf("is not a text of at most "), print_many(field->width, "character"), printf(" of UTF-8 within quotes"); break;
     case FORM_changeType: printf("is not \"I\", \"U\" or \"D\""); break;
     case FORM_xrefType: printf("is neither 1 nor 2"); break;
     case FORM_fileType: printf("is not a code of document 002's table 3, \"A\" to \"H\""); break;

@@ -13,6 +13,8 @@
  * Place. The last number of check_file, apply and undo: for a malformed field (5) the place, from 1 and with its quotes counted, of the
  *   first byte of the field at which no sound field could go on, or one past the field's end where it stops too soon. With the start that
  *   muiwash_field gives for that line and field, that byte is file[start + place - 1]. The place is 0 for every code but 5.
+ * Texts. A text is well-formed UTF-8 (RFC 3629), in a file and in a holding, and its width counts characters: any other is malformed.
+ *   Places, starts and lengths count bytes.
  * Memory. Nothing is allocated, kept or freed, and nothing is read or written but what is lent. A call needs up to 256 KiB of stack: give
  *   a thread of your own that much and some for itself.
  * Threads. There is no state: any number of threads may call at once, so long as no one writes what another call was lent.
