@@ -56,17 +56,17 @@ isFreeText fileType = false
 isFreeText (keyText letter) = false
 
 -- the form names no byte but ASCII: a key's letter is ASCII
-unfoldable pub isPlain : Form → Bool
-isPlain (number w) = true
-isPlain (atLeast1 w) = true
-isPlain (decimal w d) = true
-isPlain date = true
-isPlain time = true
-isPlain (text w) = true
-isPlain changeType = true
-isPlain xrefType = true
-isPlain fileType = true
-isPlain (keyText letter) = isAscii letter
+unfoldable pub namesAscii : Form → Bool
+namesAscii (number w) = true
+namesAscii (atLeast1 w) = true
+namesAscii (decimal w d) = true
+namesAscii date = true
+namesAscii time = true
+namesAscii (text w) = true
+namesAscii changeType = true
+namesAscii xrefType = true
+namesAscii fileType = true
+namesAscii (keyText letter) = isAscii letter
 
 -- an ASCII letter may stand in a key under both rules or none
 letter-same : (letter : ℕ) → T (isAscii letter) → keyLetter byBytes letter ≡ keyLetter byCharacters letter
@@ -101,8 +101,8 @@ letter-only letter n = (and-in (isTextByte letter) true byte tt, λ t. subst T (
         and-in (leb 32 letter) _ (le→leb 32 letter (omega (arith, high)))
         (and-in (not (eqb letter 34)) (not (eqb letter 127)) (other 34 (omega arith)) (other 127 (omega arith)))
 
-others-form : (m : Form) → T (not (isFreeText m)) → T (isPlain m) → (f : List ℕ) → hasForm byBytes m f ≡ hasForm byCharacters m f
-unfolding isFreeText isPlain hasForm
+others-form : (m : Form) → T (not (isFreeText m)) → T (namesAscii m) → (f : List ℕ) → hasForm byBytes m f ≡ hasForm byCharacters m f
+unfolding isFreeText namesAscii hasForm
 others-form (number w) o t f = refl
 others-form (atLeast1 w) o t f = refl
 others-form (decimal w d) o t f = refl
@@ -119,13 +119,13 @@ others-form (keyText letter) o t f =
 
 -- both rules find the same fields sound
 pub others-sound :
-    (m : Form) (filled : Bool) → T (not (isFreeText m)) → T (isPlain m) → (f : List ℕ) → soundAs byBytes m filled f ≡ soundAs byCharacters m filled f
+    (m : Form) (filled : Bool) → T (not (isFreeText m)) → T (namesAscii m) → (f : List ℕ) → soundAs byBytes m filled f ≡ soundAs byCharacters m filled f
 unfolding soundAs
 others-sound m filled o t f = rw (others-form m o t f)
 
 -- and give the same place
 pub others-place :
-    (m : Form) (filled : Bool) → T (not (isFreeText m)) → T (isPlain m) → (f : List ℕ) → placeAs byBytes m filled f ≡ placeAs byCharacters m filled f
+    (m : Form) (filled : Bool) → T (not (isFreeText m)) → T (namesAscii m) → (f : List ℕ) → placeAs byBytes m filled f ≡ placeAs byCharacters m filled f
 unfolding placeAs
 others-place m filled o t f = ap (λ sound. place sound (emptyOf m ∷ samples m) f) (fun-ext (others-sound m filled o t))
 
@@ -238,15 +238,15 @@ text-or-other P a b fileType = b fileType tt
 text-or-other P a b (keyText letter) = b (keyText letter) tt
 
 -- both rules find the same fields of ASCII sound
-pub ascii-sound : (m : Form) (filled : Bool) → T (isPlain m) → (f : List ℕ) → T (ascii f) → soundAs byBytes m filled f ≡ soundAs byCharacters m filled f
+pub ascii-sound : (m : Form) (filled : Bool) → T (namesAscii m) → (f : List ℕ) → T (ascii f) → soundAs byBytes m filled f ≡ soundAs byCharacters m filled f
 ascii-sound m filled t f a =
-    text-or-other (λ m. T (isPlain m) → soundAs byBytes m filled f ≡ soundAs byCharacters m filled f)
+    text-or-other (λ m. T (namesAscii m) → soundAs byBytes m filled f ≡ soundAs byCharacters m filled f)
     (λ w t. text-sound w filled f a) (λ m o t. others-sound m filled o t f) m t
 
 -- and give the same place
-pub ascii-place : (m : Form) (filled : Bool) → T (isPlain m) → (f : List ℕ) → T (ascii f) → placeAs byBytes m filled f ≡ placeAs byCharacters m filled f
+pub ascii-place : (m : Form) (filled : Bool) → T (namesAscii m) → (f : List ℕ) → T (ascii f) → placeAs byBytes m filled f ≡ placeAs byCharacters m filled f
 ascii-place m filled t f a =
-    text-or-other (λ m. T (isPlain m) → placeAs byBytes m filled f ≡ placeAs byCharacters m filled f)
+    text-or-other (λ m. T (namesAscii m) → placeAs byBytes m filled f ≡ placeAs byCharacters m filled f)
     (λ w t. text-place w filled f a) (λ m o t. others-place m filled o t f) m t
 
 -- ---- the rows of the table
@@ -255,17 +255,17 @@ ascii-place m filled t f a =
 abbrev pub SameField : Format → Format → Field → List ℕ → Type 0
 SameField F G d f = (soundField F d f ≡ soundField G d f) × (placeIn F d f ≡ placeIn G d f)
 
--- every row of the table is plain
-isPlainRow : Field → Bool
-isPlainRow d = isPlain (d .form)
+-- every row of the table names no byte but ASCII
+rowNamesAscii : Field → Bool
+rowNamesAscii d = namesAscii (d .form)
 
-plain-rows : (k : Kind) → T (all isPlainRow (fields k))
-unfolding computed isPlainRow isPlain isAscii
-plain-rows k = every (λ k. all isPlainRow (fields k)) tt k
+ascii-rows : (k : Kind) → T (all rowNamesAscii (fields k))
+unfolding computed rowNamesAscii namesAscii isAscii
+ascii-rows k = every (λ k. all rowNamesAscii (fields k)) tt k
 
-plain-at : (k : Kind) (i : ℕ) → i < length (fields k) → T (isPlain (rowAt k i .form))
-unfolding isPlainRow
-plain-at k i h = all-at isPlainRow (fields k) i h (plain-rows k)
+ascii-row : (k : Kind) (i : ℕ) → i < length (fields k) → T (namesAscii (rowAt k i .form))
+unfolding rowNamesAscii
+ascii-row k i h = all-at rowNamesAscii (fields k) i h (ascii-rows k)
 
 -- codes, keys, CHANGE_TYPE, numbers and dates, whatever their bytes, are as they were before
 pub scottish-others :
@@ -273,11 +273,11 @@ pub scottish-others :
 unfolding soundField placeIn
 scottish-others k i h o f =
     let d = rowAt k i in
-    (others-sound (d .form) (d .filled) o (plain-at k i h) f, others-place (d .form) (d .filled) o (plain-at k i h) f)
+    (others-sound (d .form) (d .filled) o (ascii-row k i h) f, others-place (d .form) (d .filled) o (ascii-row k i h) f)
 
 -- and so is every field of ASCII
 pub scottish-ascii : (k : Kind) (i : ℕ) → i < length (fields k) → (f : List ℕ) → T (ascii f) → SameField before scottish (rowAt k i) f
 unfolding soundField placeIn
 scottish-ascii k i h f a =
     let d = rowAt k i in
-    (ascii-sound (d .form) (d .filled) (plain-at k i h) f a, ascii-place (d .form) (d .filled) (plain-at k i h) f a)
+    (ascii-sound (d .form) (d .filled) (ascii-row k i h) f a, ascii-place (d .form) (d .filled) (ascii-row k i h) f a)
