@@ -6,8 +6,8 @@
 //
 // What is lent is a Uint8Array and is only read. An answer is an array of numbers that begins with code, line, field; those of checkFile,
 // apply and undo end with the place, which counts bytes and not the units of a string. `out` is the new holding, or the undo, without the
-// zeros behind it: no bytes on a refusal. Buffers are as long as is always enough, so 13 isn't answered for want of room, and neither is 17;
-// give `room`, or `undoRoom`, for another length. A call runs to its end on the thread that makes it.
+// zeros behind it: no bytes on a refusal. Buffers are as long as is always enough, so 13 isn't answered for want of room, and neither is
+// 17; give `room`, or `undoRoom`, for another length. A call runs to its end on the thread that makes it.
 
 // How long a buffer is always enough for the new holding, and for the undo, as muiwash.h says it.
 const enough = (holding, file) => holding.length + file.length + 24576;

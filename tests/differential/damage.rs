@@ -1,12 +1,24 @@
 //! Faults put into sound bytes.
 use crate::random::Random;
-use crate::reference::forms::Form;
+use crate::reference::forms::{quoted, Form};
 use crate::reference::lines::{fields, lines, Line};
 use crate::reference::table::{columns, kind_of, position, HELD_KINDS, KINDS};
-use crate::sound::{any_line, field, joined, quote, DATES};
+use crate::sound::{any_line, field, joined, quote, CHARACTERS, DATES};
 use std::ops::Range;
 
-const BYTES: &[u8] = b"\r\n\"\",,-./:+ 01239AILUDXx\x00\x1F\x20\x7F\x80\xFF";
+const BYTES: &[u8] = b"\r\n\"\",,-./:+ 01239AILUDXx\x00\x1F\x20\x7F\x80\xC3\xFF";
+/// Bytes that are no character: overlong, a surrogate, beyond U+10FFFF, cut, a byte that begins none; accents of Latin-1.
+const NO_CHARACTERS: [&[u8]; 24] = [
+    b"\x80", b"\xBF", b"\xC0\x80", b"\xC1\xBF", b"\xC2", b"\xC3", b"\xDF", b"\xE0\x80\x80", b"\xE0\x9F\xBF", b"\xE0\xA0", b"\xE1\xBA",
+    b"\xED\xA0\x80", b"\xED\xBF\xBF", b"\xEF\xBF", b"\xF0\x80\x80\x80", b"\xF0\x8F\xBF\xBF", b"\xF0\x90\x80", b"\xF1", b"\xF4\x8F\xBF",
+    b"\xF4\x90\x80\x80", b"\xF5\x80\x80\x80", b"\xFF", b"\xE0r", b"\xF9r",
+];
+/// Bytes at the edges of RFC 3629's ranges.
+const EDGES: &[u8] = b"\x7F\x80\x8F\x90\x9F\xA0\xBF\xC0\xC1\xC2\xDF\xE0\xE1\xEC\xED\xEE\xEF\xF0\xF1\xF3\xF4\xF5";
+const TEXTS: [&str; 10] = [
+    "CUSTODIAN_NAME", "CROSS_REFERENCE", "SOURCE", "LANGUAGE", "SAO_START_SUFFIX", "SAO_TEXT", "PAO_TEXT", "SUB_LOCALITY", "POST_TOWN",
+    "GAZ_NAME",
+];
 const FIELDS: [&str; 20] = [
     "", "\"\"", "\"", " ", "\" \"", "0", "00000000", "1", "-1", "+1", "3", "4097", "99999999999999999", "\"a\"\"b\"", "a\"b,c\"d", "\"I\"",
     "\"U\"", "\"D\"", "\"i\"", "I",
@@ -31,6 +43,9 @@ pub fn damage(random: &mut Random, bytes: &mut Vec<u8>) {
     }
     if random.one_in(6) {
         return within_field(random, bytes);
+    }
+    if random.one_in(5) {
+        return within_text(random, bytes);
     }
     match random.below(8) {
         0 => one_byte(random, bytes),
@@ -151,6 +166,37 @@ fn within_field(random: &mut Random, bytes: &mut Vec<u8>) {
     bytes.splice(hit, field);
 }
 
+/// One text: characters, or bytes that are none, put in, cut, doubled or changed between its quotes.
+fn within_text(random: &mut Random, bytes: &mut Vec<u8>) {
+    let name = random.pick(&TEXTS);
+    let Some((hit, form)) = one_named(random, bytes, name) else { return };
+    let Some(mut text) = quoted(&bytes[hit.clone()]).map(<[u8]>::to_vec) else { return };
+    let (at, end) = (random.below(text.len() + 1), text.len());
+    let other = random.below(end + 1);
+    match random.below(8) {
+        0 | 1 => drop(text.splice(at..at, random.pick(&CHARACTERS).bytes())),
+        2 => drop(text.splice(at..at, random.pick(&NO_CHARACTERS).iter().copied())),
+        3 => drop(text.drain(at..)),
+        4 => drop(text.drain(at.min(other)..at.max(other).min(at.min(other) + 3))),
+        5 => text.extend_from_within(at..end),
+        6 if at < end => text[at] = random.pick(EDGES),
+        _ => text = quoted(&edge(random, form)).map(<[u8]>::to_vec).unwrap_or_default(),
+    }
+    bytes.splice(hit, quote(&text));
+}
+
+/// About as many characters as the width, then one, or bytes that are none.
+fn wide(random: &mut Random, width: usize) -> Vec<u8> {
+    let character = random.pick(&CHARACTERS).as_bytes();
+    let mut text = character.repeat(width - 1 + random.below(2));
+    match random.below(4) {
+        0 => text.push(random.pick(b" a~\x1F\x7F\x80\xFF")),
+        1 => text.extend_from_slice(random.pick(&NO_CHARACTERS)),
+        _ => text.extend_from_slice(random.pick(&CHARACTERS).as_bytes()),
+    }
+    text
+}
+
 /// A field at the edge of its form, on either side.
 fn edge(random: &mut Random, form: Form) -> Vec<u8> {
     let beyond = random.below(2);
@@ -168,10 +214,7 @@ fn edge(random: &mut Random, form: Form) -> Vec<u8> {
         }
         Form::Date => random.pick(&DATE_EDGES).as_bytes().to_vec(),
         Form::Time => random.pick(&TIME_EDGES).as_bytes().to_vec(),
-        Form::Text(width) => {
-            let byte = random.pick(&[b' ', b'a', 0x1F, 0x7E, 0x7F, 0x80, 0xFF]);
-            quote(&[vec![b'a'; width - 1 + beyond], vec![byte]].concat())
-        }
+        Form::Text(width) => quote(&wide(random, width)),
         Form::Digit(_) => vec![random.pick(b"0123")],
         Form::Letter(_) => quote(&[random.pick(b"@ABCDEFGHIJUVa ")]),
         Form::Key(letter) => {

@@ -9,7 +9,12 @@ pub const DATES: [&str; 10] = [
     "1583-01-01", "1600-02-29", "1999-12-31", "2000-02-29", "2001-01-01", "2001-01-02", "2004-02-29", "2024-06-30", "2100-02-28",
     "9999-12-31",
 ];
-const TEXT: &[u8] = b"aZ09 ,,.-'\x20\x21\x23\x7E\x80\xC3\xFF";
+/// Characters of one to four bytes, with the first and the last of each length; so many of them are ASCII.
+pub const CHARACTERS: [&str; 26] = [
+    "a", "Z", "0", "9", " ", ",", ",", ".", "-", "'", "!", "#", "~", "\u{80}", "\u{9F}", "ò", "À", "\u{301}", "\u{7FF}", "\u{800}", "ẁ",
+    "\u{D7FF}", "\u{E000}", "\u{FFFF}", "\u{10000}", "\u{10FFFF}",
+];
+const ASCII: usize = 13;
 
 /// A body line in the making. Keys are drawn from 1 to `spread`, so that they meet.
 pub struct Draft {
@@ -33,7 +38,8 @@ fn number_text(random: &mut Random, value: u64, width: usize) -> String {
 fn text(random: &mut Random, width: usize, least: usize) -> Vec<u8> {
     let most = if random.one_in(12) { width } else { width.min(4) };
     let length = if random.one_in(12) { most } else { least + random.below(most + 1 - least) };
-    (0..length).map(|_| random.pick(TEXT)).collect()
+    let most = if random.one_in(4) { CHARACTERS.len() } else { ASCII };
+    (0..length).flat_map(|_| random.pick(&CHARACTERS[..most]).bytes()).collect()
 }
 
 pub fn quote(text: &[u8]) -> Vec<u8> {
