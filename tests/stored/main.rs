@@ -74,7 +74,7 @@ fn write_wanted() -> bool {
 fn main() {
     let write = write_wanted();
     let counted = utf8::check().unwrap_or_else(|error| fail(&error));
-    println!("tests/cases: {counted} runs of bytes are the characters to the reference that they are to Rust's library");
+    println!("tests/cases: in {counted} comparisons the reference finds the characters that Rust's library does");
     let (mut rows, mut differ) = (0, 0);
     for path in modules() {
         let stored = read(&path);

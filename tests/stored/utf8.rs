@@ -17,7 +17,7 @@ fn by_library(bytes: &[u8]) -> Option<Count> {
     }
 }
 
-/// Compares all bytes that begin so and go on with bytes of each of these lists; how many there are.
+/// Compares all bytes that begin so and go on with bytes of each of these lists, or of the first of them; how many comparisons that is.
 fn compare(bytes: &mut Vec<u8>, lists: &[&[u8]]) -> Result<usize, String> {
     if count(bytes) != by_library(bytes) {
         return Err(format!("of the bytes {bytes:02X?} the reference and the library don't say the same"));
