@@ -2,3 +2,4 @@ pub mod TextLaws
 pub mod FirstByteLaws
 pub mod CharacterLaws
 pub mod CodeLaws
+pub mod KeyLaws

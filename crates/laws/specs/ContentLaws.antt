@@ -57,7 +57,7 @@ pub record Ruled (rule : TextRule) : Type 0 where
 -- ---- the bytes of a key
 
 -- a digit may stand in a text
-digit-text : (x : ℕ) → T (isDigit x) → T (isTextByte x)
+pub digit-text : (x : ℕ) → T (isDigit x) → T (isTextByte x)
 unfolding isTextByte
 digit-text x t =
     and-in (leb 32 x) _ (le→leb 32 x (omega (arith, digit-low x t)))
