@@ -54,26 +54,44 @@ fn exchanged(text: &str) -> Option<&'static str> {
     })
 }
 
-/// A number one more and one less; a byte the same; in bytes the first letter or digit one more.
+/// A number one more and one less; a byte the same; in bytes the first letter, digit or \xHH one more.
 fn stepped(token: &Token) -> Vec<String> {
     match token.class {
-        Class::Number => {
-            let digits = token.text.find(|c: char| !c.is_ascii_digit()).unwrap_or(token.text.len());
-            let n: u64 = token.text[..digits].parse().unwrap();
-            let near = [n.checked_add(1), n.checked_sub(1)];
-            near.into_iter().flatten().map(|m| format!("{m}{}", &token.text[digits..])).collect()
-        }
+        Class::Number => numbers_near(token.text),
         Class::Byte => {
             let byte = token.text.as_bytes()[token.text.len() - 2];
             vec![format!("{}u8", byte + 1), format!("{}u8", byte - 1)]
         }
-        Class::Bytes => {
-            let place = token.text[2..].find(|c: char| c.is_ascii_alphanumeric()).map(|p| p + 2);
-            let next = |p: usize| (token.text.as_bytes()[p] + 1) as char;
-            place.map(|p| format!("{}{}{}", &token.text[..p], next(p), &token.text[p + 1..])).into_iter().collect()
-        }
+        Class::Bytes => next_bytes(token.text).into_iter().collect(),
         _ => Vec::new(),
     }
+}
+
+/// With its type behind it as it stands, if it has one.
+fn numbers_near(text: &str) -> Vec<String> {
+    if let Some(hex) = text.strip_prefix("0x") {
+        let n = u64::from_str_radix(hex, 16).unwrap();
+        return [n.checked_add(1), n.checked_sub(1)].into_iter().flatten().map(|m| format!("{m:#X}").replace("0X", "0x")).collect();
+    }
+    let digits = text.find(|c: char| !c.is_ascii_digit()).unwrap_or(text.len());
+    let n: u64 = text[..digits].parse().unwrap();
+    [n.checked_add(1), n.checked_sub(1)].into_iter().flatten().map(|m| format!("{m}{}", &text[digits..])).collect()
+}
+
+fn next_bytes(text: &str) -> Option<String> {
+    let mut at = 2;
+    while at < text.len() {
+        let rest = &text[at..];
+        if rest.starts_with("\\x") {
+            let byte = u8::from_str_radix(&rest[2..4], 16).unwrap();
+            return Some(format!("{}\\x{:02X}{}", &text[..at], byte.wrapping_add(1), &rest[4..]));
+        }
+        if rest.starts_with(|c: char| c.is_ascii_alphanumeric()) {
+            return Some(format!("{}{}{}", &text[..at], (rest.as_bytes()[0] + 1) as char, &rest[1..]));
+        }
+        at += if rest.starts_with('\\') { 2 } else { 1 };
+    }
+    None
 }
 
 /// Each pair of n places, the lower first.

@@ -17,7 +17,7 @@ use Rattle.meaning.specs.Characters.{Range, _to_, isIn, tail, characters, start
 use Rattle.meaning.specs.Forms.{isTextByte, byCharacters}
 use Rattle.laws.specs.Ascii.{isAscii, ascii-starts, ascii-follows, ascii-most}
 use Rattle.form.specs.Characters.{isAsciiText, inFirst, inEach, characterLength}
-use Rattle.form.proofs.FirstByteLaws.{beyond}
+use Rattle.form.proofs.FirstByteLaws.{low-ascii, beyond}
 
 -- ---- a text of ASCII
 
@@ -128,10 +128,6 @@ each-after (r ∷ rs) (y ∷ u) t n =
     rw (z, each-tail rs u (and-r (all isHigh (r ∷ rs)) (areTails rs) t), leb·suc-suc (length rs) (length u)) (swap (isIn r y) (leb (length rs) (length u)) (all (isIn tail) (take (length rs) u)))
 
 -- ---- how many bytes the first character has
-
-low-ascii : (x : ℕ) → x < 0x80 → T (isAscii x)
-unfolding isAscii
-low-ascii x h = le→leb x 127 (omega arith)
 
 module _ (t : List ℕ) (h : 1 ≤ length t) where
   abbrev first : ℕ

@@ -1,19 +1,25 @@
 -- RFC 3629's table, as the code asks it: how many bytes follow a character's first byte, and which may come second.
-use mathlib.Core.Path.{_≡_, sym, _∙_, subst}
+use mathlib.Core.Path.{_≡_, refl, sym, _∙_, subst}
 use mathlib.Core.Bool.{Bool, true, false, and-true, and-false}
-use mathlib.Core.List.{List, [], _∷_}
+use mathlib.Core.List.{List, [], _∷_, _++_}
 use Prim.Native.Nat.{ℕ, _≤_, _<_}
 use native.Mathlib.Decide.{decLe}
 use native.Mathlib.Omega.{arith}
 use borrow.Author.Needs.{needs}
 use borrow.Author.Tests.{not-true, not-false, le-leb, lt-leb}
-use lib.Dec.{T, leb}
-use lib.ListN.{length}
+use lib.Dec.{T, leb, ltb, leb→le, le→leb, ltb→lt}
+use lib.ListN.{length, take, drop}
+use Rattle.base.specs.Lists.{all}
 use Rattle.base.specs.Tests.{and-l, and-r, T-true}
 use Rattle.meaning.specs.Characters.{Range, _to_, isIn, tail, characters, follows}
+use Rattle.laws.specs.Ascii.{isAscii, ascii-follows}
 use Rattle.form.specs.Characters.{inFirst}
 
 -- ---- a byte and a range
+
+pub low-ascii : (x : ℕ) → x < 0x80 → T (isAscii x)
+unfolding isAscii
+low-ascii x h = le→leb x 127 (omega arith)
 
 within : (a b x : ℕ) → a ≤ x → x ≤ b → isIn (a to b) x ≡ true
 unfolding isIn
@@ -29,50 +35,77 @@ beyond a b x h = rw (lt-leb x b h) (and-false (leb a x))
 
 -- ---- what follows a first byte
 
-module _ (x : ℕ) where
-  -- nothing follows ASCII
-  follows-ascii : x ≤ 0x7F → follows characters x ≡ []
-  unfolding follows characters
-  follows-ascii h = rw (within 0 0x7F x (omega arith) h)
+-- a row whose first range ends below n
+endsBelow : ℕ → List Range → Bool
+endsBelow n [] = true
+endsBelow n (a to b ∷ rs) = ltb b n
 
-  -- nor a byte that begins no row: a tail, and C0 and C1, which could begin only what is overlong
+-- a row whose first range begins at n or above
+beginsFrom : ℕ → List Range → Bool
+beginsFrom n [] = true
+beginsFrom n (a to b ∷ rs) = leb n a
+
+module _ (x : ℕ) where
+  -- a byte looks past the rows that end below it
+  past : (n : ℕ) (rows rest : List (List Range)) → T (all (endsBelow n) rows) → n ≤ x → follows (rows ++ rest) x ≡ follows rest x
+  unfolding follows endsBelow
+  past n [] rest t h = refl
+  past n ([] ∷ rows) rest t h = past n rows rest t h
+  past n ((a to b ∷ rs) ∷ rows) rest t h =
+      rw (beyond a b x (omega (arith, ltb→lt b n (and-l (ltb b n) (all (endsBelow n) rows) t)))) (past n rows rest (and-r (ltb b n) (all (endsBelow n) rows) t) h)
+
+  -- so it finds the row that it begins
+  in-row :
+      (a b : ℕ) (rows : List (List Range)) (rs : List Range) (rest : List (List Range)) → T (all (endsBelow a) rows) → a ≤ x → x ≤ b
+      → follows (rows ++ ((a to b ∷ rs) ∷ rest)) x ≡ rs
+  unfolding follows
+  in-row a b rows rs rest t l h = past a rows ((a to b ∷ rs) ∷ rest) t l ∙ go
+    where
+      go : follows ((a to b ∷ rs) ∷ rest) x ≡ rs
+      go = rw (within a b x l h)
+
+  -- and none among rows that begin above it
+  before : (n : ℕ) (rows : List (List Range)) → T (all (beginsFrom n) rows) → x < n → follows rows x ≡ []
+  unfolding follows beginsFrom
+  before n [] t h = refl
+  before n ([] ∷ rows) t h = before n rows t h
+  before n ((a to b ∷ rs) ∷ rows) t h =
+      rw (below a b x (omega (arith, leb→le n a (and-l (leb n a) (all (beginsFrom n) rows) t)))) (before n rows (and-r (leb n a) (all (beginsFrom n) rows) t) h)
+
+  -- nothing follows a byte that begins no row: a tail, and C0 and C1, which could begin only what is overlong
   follows-tail : 0x80 ≤ x → x < 0xC2 → follows characters x ≡ []
-  unfolding follows characters
-  follows-tail l h =
-      rw (beyond 0 0x7F x (omega arith), below 0xC2 0xDF x h, below 0xE0 0xE0 x (omega arith), below 0xE1 0xEC x (omega arith), below 0xED 0xED x (omega arith), below 0xEE 0xEF x (omega arith), below 0xF0 0xF0 x (omega arith), below 0xF1 0xF3 x (omega arith), below 0xF4 0xF4 x (omega arith))
+  unfolding characters endsBelow beginsFrom
+  follows-tail l h = past 0x80 (take 1 characters) (drop 1 characters) tt l ∙ before 0xC2 (drop 1 characters) tt h
 
   -- or F5 and above
   follows-above : 0xF5 ≤ x → follows characters x ≡ []
-  unfolding follows characters
-  follows-above l =
-      rw (beyond 0 0x7F x (omega arith), beyond 0xC2 0xDF x (omega arith), beyond 0xE0 0xE0 x (omega arith), beyond 0xE1 0xEC x (omega arith), beyond 0xED 0xED x (omega arith), beyond 0xEE 0xEF x (omega arith), beyond 0xF0 0xF0 x (omega arith), beyond 0xF1 0xF3 x (omega arith), beyond 0xF4 0xF4 x (omega arith))
+  unfolding characters follows endsBelow
+  follows-above l = past 0xF5 characters [] tt l
 
   -- UTF8-2
   follows-two : 0xC2 ≤ x → x < 0xE0 → follows characters x ≡ tail ∷ []
-  unfolding follows characters
-  follows-two l h = rw (beyond 0 0x7F x (omega arith), within 0xC2 0xDF x l (omega arith))
+  unfolding characters endsBelow
+  follows-two l h = in-row 0xC2 0xDF (take 1 characters) (tail ∷ []) (drop 2 characters) tt l (omega arith)
 
   -- the second row of UTF8-3, between E0 and ED
   follows-three : 0xE0 < x → x < 0xED → follows characters x ≡ tail ∷ tail ∷ []
-  unfolding follows characters
-  follows-three l h = rw (beyond 0 0x7F x (omega arith), beyond 0xC2 0xDF x (omega arith), beyond 0xE0 0xE0 x l, within 0xE1 0xEC x (omega arith) (omega arith))
+  unfolding characters endsBelow
+  follows-three l h = in-row 0xE1 0xEC (take 3 characters) (tail ∷ tail ∷ []) (drop 4 characters) tt (omega arith) (omega arith)
 
   -- its last row, after ED
   follows-private : 0xED < x → x < 0xF0 → follows characters x ≡ tail ∷ tail ∷ []
-  unfolding follows characters
-  follows-private l h =
-      rw (beyond 0 0x7F x (omega arith), beyond 0xC2 0xDF x (omega arith), beyond 0xE0 0xE0 x (omega arith), beyond 0xE1 0xEC x (omega arith), beyond 0xED 0xED x l, within 0xEE 0xEF x (omega arith) (omega arith))
+  unfolding characters endsBelow
+  follows-private l h = in-row 0xEE 0xEF (take 5 characters) (tail ∷ tail ∷ []) (drop 6 characters) tt (omega arith) (omega arith)
 
   -- the second row of UTF8-4, between F0 and F4
   follows-four : 0xF0 < x → x < 0xF4 → follows characters x ≡ tail ∷ tail ∷ tail ∷ []
-  unfolding follows characters
-  follows-four l h =
-      rw (beyond 0 0x7F x (omega arith), beyond 0xC2 0xDF x (omega arith), beyond 0xE0 0xE0 x (omega arith), beyond 0xE1 0xEC x (omega arith), beyond 0xED 0xED x (omega arith), beyond 0xEE 0xEF x (omega arith), beyond 0xF0 0xF0 x l, within 0xF1 0xF3 x (omega arith) (omega arith))
+  unfolding characters endsBelow
+  follows-four l h = in-row 0xF1 0xF3 (take 7 characters) (tail ∷ tail ∷ tail ∷ []) (drop 8 characters) tt (omega arith) (omega arith)
 
   -- ---- how many bytes follow
 
   pub tails-none : x < 0xC2 → 0 ≡ length (follows characters x)
-  tails-none h = elim (decLe x 0x7F) [ yes a ↦ rw (follows-ascii a) | no a ↦ rw (follows-tail (omega arith) h) ]
+  tails-none h = elim (decLe x 0x7F) [ yes a ↦ rw (ascii-follows x (low-ascii x (omega arith))) | no a ↦ rw (follows-tail (omega arith) h) ]
 
   pub tails-one : 0xC2 ≤ x → x < 0xE0 → 1 ≡ length (follows characters x)
   tails-one l h = rw (follows-two l h)
