@@ -10,7 +10,7 @@ use lib.Dec.{T, leb, ltb, eqb, leb→le, le→leb, ltb→lt, leb·zero, leb·suc
 use lib.ListN.{length, getD, take, drop, length-drop}
 use lib.Seq.{take-all, drop-drop}
 use Rattle.base.specs.Lists.{all, pick}
-use Rattle.base.specs.Tests.{and-in, and-l, and-r, T-true}
+use Rattle.base.specs.Tests.{and-l, and-r, T-true}
 use Rattle.base.specs.ListLaws.{all-map}
 use Rattle.base.proofs.Walk.{at-end}
 use Rattle.meaning.specs.Characters.{Range, _to_, isIn, tail, characters, starts, follows, atMost}
@@ -43,7 +43,8 @@ pub ascii-width : (w : ℕ) (t : List ℕ) → all isAsciiText t ≡ true → by
 unfolding byCharacters isAsciiText
 ascii-width w t e =
     let h : T (all isAsciiText t) = subst T (sym e) tt in
-    rw (T-true (all isTextByte t) (all-map isAsciiText isTextByte (λ x c. and-l (isTextByte x) (ltb x 127) c) t h)) (ascii-most w t (all-map isAsciiText isAscii text-ascii t h))
+    rw (T-true (all isTextByte t) (all-map isAsciiText isTextByte (λ x c. and-l (isTextByte x) (ltb x 127) c) t h))
+    (ascii-most w t (all-map isAsciiText isAscii text-ascii t h))
 
 -- ---- a character of more than one byte
 
@@ -125,7 +126,8 @@ each-after [] u t n = absurd (omega arith)
 each-after (r ∷ rs) [] t n = rw (leb·suc-zero (length rs))
 each-after (r ∷ rs) (y ∷ u) t n =
     let z : suc (length rs) - 1 ≡ length rs = omega arith in
-    rw (z, each-tail rs u (and-r (all isHigh (r ∷ rs)) (areTails rs) t), leb·suc-suc (length rs) (length u)) (swap (isIn r y) (leb (length rs) (length u)) (all (isIn tail) (take (length rs) u)))
+    rw (z, each-tail rs u (and-r (all isHigh (r ∷ rs)) (areTails rs) t), leb·suc-suc (length rs) (length u))
+    (swap (isIn r y) (leb (length rs) (length u)) (all (isIn tail) (take (length rs) u)))
 
 -- ---- how many bytes the first character has
 
@@ -169,12 +171,14 @@ module _ (t : List ℕ) (h : 1 ≤ length t) where
       length-high = go t h l n q (omega arith)
         where
           go : (t : List ℕ) → 1 ≤ length t → 0x80 ≤ getD t 0 0 → (n : ℕ) → n ≡ length (follows characters (getD t 0 0)) → 1 ≤ n
-              → characterLength t ≡ pick (leb (n + 1) (length t) && (inFirst (follows characters (getD t 0 0)) (getD t 1 0) && all (isIn tail) (take (n + 1 - 2) (drop 2 t)))) (n + 1) 0
+              → characterLength t
+              ≡ pick (leb (n + 1) (length t) && (inFirst (follows characters (getD t 0 0)) (getD t 1 0) && all (isIn tail) (take (n + 1 - 2) (drop 2 t)))) (n + 1) 0
           go [] h l n q m = absurd (omega arith)
           go (x ∷ u) h l n q m =
               let z : n + 1 - 2 ≡ n - 1 = omega arith in
               let y : n + 1 ≡ suc n = omega arith in
-              rw (z, y, q, high-text x l, high-starts x l, le-leb 1 (length (follows characters x)) (omega (arith, q)), each-after (follows characters x) u (table-wanted x) (omega (arith, q)), leb·suc-suc (length (follows characters x)) (length u))
+              let c = follows characters x in
+              rw (z, y, q, high-text x l, high-starts x l, le-leb 1 (length c) (omega (arith, q)), each-after c u (table-wanted x) (omega (arith, q)), leb·suc-suc (length c) (length u))
 
       -- the bytes end before it does
       pub length-cut : length t ≤ n → 0 ≡ characterLength t
@@ -234,7 +238,8 @@ one-more : (w x : ℕ) (u : List ℕ) → byCharacters (suc w) (x ∷ u) ≡ (st
 unfolding byCharacters atMost wanted
 one-more w x u =
     rw (at-most-each w (follows characters x) u)
-    (go (isTextByte x) (starts characters x) (inEach (follows characters x) u) (text-each (follows characters x) u (and-l (all isHigh (follows characters x)) (areTails (drop 1 (follows characters x))) (table-wanted x))))
+    (go (isTextByte x) (starts characters x) (inEach (follows characters x) u)
+    (text-each (follows characters x) u (and-l (all isHigh (follows characters x)) (areTails (drop 1 (follows characters x))) (table-wanted x))))
   where
     k : ℕ
     k = length (follows characters x)
@@ -272,7 +277,8 @@ next-more w (x ∷ u) n = go (stands x u) (one-more w x u) n
     k : ℕ
     k = length (follows characters x)
 
-    go : (b : Bool) → byCharacters (suc w) (x ∷ u) ≡ (b && byCharacters w (drop k u)) → (pick b (suc k) 0 ≡ 0 → ⊥) → byCharacters (suc w) (x ∷ u) ≡ byCharacters w (drop (pick b (suc k) 0) (x ∷ u))
+    go : (b : Bool) → byCharacters (suc w) (x ∷ u) ≡ (b && byCharacters w (drop k u)) → (pick b (suc k) 0 ≡ 0 → ⊥)
+        → byCharacters (suc w) (x ∷ u) ≡ byCharacters w (drop (pick b (suc k) 0) (x ∷ u))
     go true e n = e
     go false e n = absurd (n refl)
 

@@ -1,8 +1,8 @@
 -- A key by the tests of the code: every byte of it is ASCII, so no walk for a text is needed.
-use mathlib.Core.Path.{_≡_, refl, sym, ap, _∙_, subst}
+use mathlib.Core.Path.{_≡_, refl, sym, _∙_, subst}
 use mathlib.Core.Bool.{Bool, true, false, not, _&&_, and-false}
 use mathlib.Core.List.{List, [], _∷_, _++_}
-use Prim.Native.Nat.{ℕ, _-_, _≤_, _<_}
+use Prim.Native.Nat.{ℕ, _-_}
 use native.Mathlib.Decide.{decLe}
 use native.Mathlib.Omega.{arith}
 use borrow.Author.Tests.{eq-eqb}
@@ -31,7 +31,7 @@ digit-ascii : (x : ℕ) → T (isDigit x) → T (isAsciiText x)
 unfolding isAsciiText
 digit-ascii x t = and-in (isTextByte x) (ltb x 127) (digit-text x t) (lt→ltb x 127 (omega (arith, digit-high x t)))
 
--- and DEL is none
+-- a byte of ASCII that may stand in a text is below DEL
 below : (x : ℕ) → T (isTextByte x) → T (isAscii x) → T (ltb x 127)
 unfolding isTextByte isAscii
 below x s h =
@@ -70,7 +70,9 @@ between letter a b da db = same-test (byCharacters 14 (a ++ (letter ∷ b))) (is
 unfoldable pub keyTests : ℕ → List ℕ → Bool
 keyTests letter f =
     isAsciiText letter
-    && (eqb (length f) 16 && (eqb (getD f 0 0) 34 && (eqb (getD f 15 0) 34 && (isDigits 4 (part f 1 5) && (same (part f 5 6) (letter ∷ []) && isDigits 9 (part f 6 15))))))
+    && (eqb (length f) 16
+    && (eqb (getD f 0 0) 34
+    && (eqb (getD f 15 0) 34 && (isDigits 4 (part f 1 5) && (same (part f 5 6) (letter ∷ []) && isDigits 9 (part f 6 15))))))
 
 -- sixteen bytes without the first and the last
 inside-parts : (f : List ℕ) → length f ≡ 16 → inside f ≡ part f 1 5 ++ (part f 5 6 ++ part f 6 15)
@@ -92,7 +94,9 @@ reorder true true c a true true true f = rw (f tt tt tt)
 
 module _ (letter : ℕ) (f : List ℕ) where
   -- what stands between the quotes of sixteen bytes
-  within : length f ≡ 16 → T (isDigits 4 (part f 1 5)) → T (same (part f 5 6) (letter ∷ [])) → T (isDigits 9 (part f 6 15)) → byCharacters 14 (inside f) ≡ isAsciiText letter
+  within :
+      length f ≡ 16 → T (isDigits 4 (part f 1 5)) → T (same (part f 5 6) (letter ∷ [])) → T (isDigits 9 (part f 6 15))
+      → byCharacters 14 (inside f) ≡ isAsciiText letter
   within e d l n = rw (inside-parts f e, same-eq (part f 5 6) (letter ∷ []) l) (between letter (part f 1 5) (part f 6 15) d n)
 
   -- a key is what passes the tests
@@ -104,13 +108,15 @@ module _ (letter : ℕ) (f : List ℕ) where
       last = isDigits 4 (part f 1 5) && (same (part f 5 6) (letter ∷ []) && isDigits 9 (part f 6 15))
 
       go : (b : Bool) → eqb (length f) 16 ≡ b
-          → ((same f (quoted (inside f)) && byCharacters 14 (inside f)) && (b && last)) ≡ (isAsciiText letter && (b && (eqb (getD f 0 0) 34 && (eqb (getD f 15 0) 34 && last))))
+          → ((same f (quoted (inside f)) && byCharacters 14 (inside f)) && (b && last))
+          ≡ (isAsciiText letter && (b && (eqb (getD f 0 0) 34 && (eqb (getD f 15 0) 34 && last))))
       go false e = and-false (same f (quoted (inside f)) && byCharacters 14 (inside f)) ∙ sym (and-false (isAsciiText letter))
       go true e =
           let n : length f ≡ 16 = eqb→eq (length f) 16 (subst T (sym e) tt) in
           let z : length f - 1 ≡ 15 = omega arith in
           rw (quotes f (omega arith), z)
-          (reorder (eqb (getD f 0 0) 34) (eqb (getD f 15 0) 34) (byCharacters 14 (inside f)) (isAsciiText letter) (isDigits 4 (part f 1 5)) (same (part f 5 6) (letter ∷ [])) (isDigits 9 (part f 6 15)) (within n))
+          (reorder (eqb (getD f 0 0) 34) (eqb (getD f 15 0) 34) (byCharacters 14 (inside f)) (isAsciiText letter)
+          (isDigits 4 (part f 1 5)) (same (part f 5 6) (letter ∷ [])) (isDigits 9 (part f 6 15)) (within n))
 
 -- for the tests in their order: `search keyed depth 24`, where many have passed with `fits 20000`
 pub ruleset keyed = (key-tests, places)
