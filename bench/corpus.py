@@ -1,6 +1,7 @@
 #!/usr/bin/env python3
 """The benchmark's corpora: corpus.py FOLDER makes FOLDER/NAME/holding.csv and change.csv for each NAME of CORPORA, the same bytes
-on every machine (SUMS), and prints the names. Every holding is sound, and every step of its file is allowed.
+on every machine (SUMS), and prints the names. Every holding is sound, and every step of its file is allowed. For each NAME of TEXTS it
+makes a sound file, over a holding that is empty.
 """
 import datetime
 import hashlib
@@ -528,6 +529,9 @@ SUMS = {
     "large": "ddb9a8a77ad1a9946a93edaafd5ed3ba1082cf55503ea11f58e9437d6942f559",
     "full": "8bac76f9eb14a074a3040ec3c538a1051d8a8e586e09a082c98634182e1e8f87",
 }
+# files for check_file alone, of so many LPIs: what stands in the two longest texts of each
+TEXT_LINES = 1000
+TEXTS = {"no-texts": "", "texts-of-ascii": "a" * 90, "texts-of-accents": "ò" * 90}
 HEADER = '10,"Stirling Council",%s,2009-04-15,1,2009-04-15,163030,1.0,"B"' % CUST
 METADATA = ('29,"Local Property Gazetteer","Properties as defined in the Scottish Gazetteer Conventions",'
             '"Stirling","Stirling Council","cag@stirling.gov.uk",%s,"British National Grid","Metres",2009-04-10,'
@@ -538,21 +542,36 @@ def joined(lines):
     return "".join(x + "\r\n" for x in lines).encode("utf-8")
 
 
-def make(folder, name):
-    records, count, mix = CORPORA[name]
-    g = Gen(1)
-    g.holding(records)
-    holding = joined(g.holding_lines())
-    change = joined([HEADER] + g.changes(count, mix) + [METADATA, "99,0,%d,2009-04-15,163031" % count])
-    if hashlib.sha256(holding + change).hexdigest() != SUMS[name]:
-        raise SystemExit("corpus.py: %s isn't the corpus that was measured before" % name)
+def framed(body):
+    return joined([HEADER] + body + [METADATA, "99,0,%d,2009-04-15,163031" % len(body)])
+
+
+def store(folder, name, holding, change):
     os.makedirs(os.path.join(folder, name), exist_ok=True)
     for part, data in (("holding.csv", holding), ("change.csv", change)):
         with open(os.path.join(folder, name, part), "wb") as f:
             f.write(data)
 
 
+def make(folder, name):
+    records, count, mix = CORPORA[name]
+    g = Gen(1)
+    g.holding(records)
+    holding = joined(g.holding_lines())
+    change = framed(g.changes(count, mix))
+    if hashlib.sha256(holding + change).hexdigest() != SUMS[name]:
+        raise SystemExit("corpus.py: %s isn't the corpus that was measured before" % name)
+    store(folder, name, holding, change)
+
+
+def make_texts(folder, name):
+    lpi = '24,"I",%d,1,"9000L%09d","GAE",1,2009-01-01,,2009-01-01,2009-01-01,,"",,"","%s",,"",,"","%s",1,"",,"Y","","",""'
+    store(folder, name, b"", framed([lpi % (i, i, TEXTS[name], TEXTS[name]) for i in range(1, TEXT_LINES + 1)]))
+
+
 if __name__ == "__main__":
+    for texts in TEXTS:
+        make_texts(sys.argv[1], texts)
     for corpus in CORPORA:
         make(sys.argv[1], corpus)
         print(corpus)

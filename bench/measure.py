@@ -7,7 +7,7 @@ import os
 import subprocess
 import sys
 
-from corpus import CORPORA
+from corpus import CORPORA, TEXT_LINES, TEXTS
 
 FOLDER, OWN, WASM, MACHINES = sys.argv[1], sys.argv[2], sys.argv[3], sys.argv[4:]
 RUNS = "25"
@@ -67,6 +67,12 @@ def large_to_half(machine, large, half):
             ratio["undo"], ratio["SQLite with undo"], "", ""]
 
 
+def a_character(machine, texts):
+    """Instructions of check_file for one character more in a text."""
+    least, most = (executed(machine, "driver", "check_file", name) - executed(machine, "driver", "none", name) for name in ("no-texts", texts))
+    return "%.1f" % ((most - least) / (2 * TEXT_LINES * len(TEXTS[texts])))
+
+
 def main():
     rows, counted = [], {}
     for corpus, (records, changes, _) in CORPORA.items():
@@ -83,6 +89,9 @@ def main():
     rows += [large_to_half(machine, counted[machine, "large"], counted[machine, "half"]) for machine in MACHINES]
     for cells in [HEADS, ["---"] * len(HEADS)] + rows:
         print("| " + " | ".join(cells) + " |")
+    for machine in MACHINES:
+        print("\nOne character more in a text costs `check_file` %s instructions on %s where it is ASCII, and %s where it is ò."
+              % (a_character(machine, "texts-of-ascii"), machine, a_character(machine, "texts-of-accents")))
 
 
 main()

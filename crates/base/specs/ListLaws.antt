@@ -4,7 +4,7 @@ use mathlib.Core.Bool.{Bool}
 use mathlib.Core.List.{List, [], _∷_, _++_}
 use Prim.Native.Nat.{ℕ, zero, suc}
 use lib.Dec.{T, eqb, eqb-refl, eqb→eq}
-use lib.ListN.{length}
+use lib.ListN.{length, take, drop}
 use Rattle.base.specs.Lists.{all, same, zeros}
 use Rattle.base.specs.Tests.{and-in, and-l, and-r, bools}
 
@@ -41,6 +41,18 @@ all-append p (x ∷ l) m s t = and-in (p x) (all p (l ++ m)) (and-l (p x) (all p
 pub append-all : {A : Type 0} (p : A → Bool) (l m : List A) → T (all p (l ++ m)) → T (all p l) × T (all p m)
 append-all p [] m t = (tt, t)
 append-all p (x ∷ l) m t = let h = append-all p l m (and-r (p x) (all p (l ++ m)) t) in (and-in (p x) (all p l) (and-l (p x) (all p (l ++ m)) t) (h .0), h .1)
+
+-- what is left after n elements
+pub all-drop : {A : Type 0} (p : A → Bool) (n : ℕ) (l : List A) → T (all p l) → T (all p (drop n l))
+all-drop p zero l t = t
+all-drop p (suc n) [] t = tt
+all-drop p (suc n) (x ∷ l) t = all-drop p n l (and-r (p x) (all p l) t)
+
+-- and these n
+pub all-take : {A : Type 0} (p : A → Bool) (n : ℕ) (l : List A) → T (all p l) → T (all p (take n l))
+all-take p zero l t = tt
+all-take p (suc n) [] t = tt
+all-take p (suc n) (x ∷ l) t = and-in (p x) (all p (take n l)) (and-l (p x) (all p l) t) (all-take p n l (and-r (p x) (all p l) t))
 
 -- ---- runs of bytes
 

@@ -1,5 +1,5 @@
 -- Paper 02, request 02: a file of ASCII, against a holding of ASCII, gets the answer that it had before, when a text's width counted bytes. What that
--- is of each operation, and that every outcome is so; each stands as the field `before` in what is claimed of the operation.
+-- is of each operation, and that every outcome is so; each stands as the field `asBefore` in what is claimed of the operation.
 use mathlib.Core.Path.{_≡_, sym, ap, _∙_, subst}
 use mathlib.Core.Bool.{Bool, true, false}
 use mathlib.Core.Option.{Option·getD}

@@ -80,7 +80,7 @@ pub record FileClaims (file : List ℕ) (r : Answer) : Type 0 where
   -- any number but 5 has no place
   pub unplaced : (r .code ≡ fieldMalformed → ⊥) → r .place ≡ 0
   -- paper 02, request 02: of ASCII alone, the answer is what it was before, with bytes counted
-  pub before : FileAsBefore file r
+  pub asBefore : FileAsBefore file r
 
 module _ (file : List ℕ) (r : Answer) (o : r ≡ answerOf (checkFile scottish file)) where
   refused-there : (r .code ≡ 0 → ⊥) → FileFails scottish file (r .code) (r .line) (r .field) (r .place)
@@ -122,7 +122,7 @@ module _ (file : List ℕ) (r : Answer) (o : r ≡ answerOf (checkFile scottish 
     eight = λ e. eight-line scottish file (r .line) (r .field) (r .place) (refused-with recordCountWrong e (λ z. omega (arith, z)));
     nine = λ e. nine-line scottish file (r .line) (r .field) (r .place) (refused-with tooManyBodyLines e (λ z. omega (arith, z)));
     unplaced = pointed-none (r .code) (r .place) (check-file-numbers file r o .place);
-    before = file-before file r o;
+    asBefore = file-before file r o;
   }
 
 -- ---- a holding
@@ -138,7 +138,7 @@ pub record HoldingClaims (old : List ℕ) (v : Verdict) : Type 0 where
   -- 14 exactly if it isn't
   pub unsound : (v .code ≡ holdingUnsound) ↔ Unsound scottish old
   -- paper 02, request 02: of ASCII alone, the answer is what it was before, with bytes counted
-  pub before : HoldingAsBefore old v
+  pub asBefore : HoldingAsBefore old v
 
 -- every answer of check_holding is so
 pub holding-claims : (old : List ℕ) (v : Verdict) → v ≡ verdictOf (checkHolding scottish old) → HoldingClaims old v
@@ -150,5 +150,5 @@ holding-claims old v o = record {
     λ s. ap (λ x. x .code) o ∙ ap (λ x. x .code) (holding-checked scottish scottish-regular old (s .state) (s .sounds)),
   );
   unsound = rw o (check-14 scottish scottish-regular old);
-  before = holding-before old v o;
+  asBefore = holding-before old v o;
 }

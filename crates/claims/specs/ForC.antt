@@ -85,7 +85,7 @@ pub record FindInC (old : List ℕ) (kind n : ℕ) (answer : List ℕ) : Type 0 
   pub numbers : answer ≡ partList found
   pub why : FindAnswers scottish old kind n found
   -- paper 02, request 02: of ASCII alone, the answer is what it was before, with bytes counted
-  pub before : FindInCAsBefore old kind n answer
+  pub asBefore : FindInCAsBefore old kind n answer
 
 -- every outcome is so
 pub find-in-c : (old : List ℕ) (kind n : ℕ) (answer : List ℕ) → answer ≡ partList (find scottish old kind n) → FindInC old kind n answer
@@ -94,7 +94,7 @@ find-in-c old kind n answer o = record {
   found = find scottish old kind n;
   numbers = o;
   why = find-answers scottish scottish-regular old kind n;
-  before = find-in-c-before old kind n answer o;
+  asBefore = find-in-c-before old kind n answer o;
 }
 
 -- six numbers of the record in force, with the side on which its line stands
@@ -104,7 +104,7 @@ pub record ForceInC (old file : List ℕ) (kind n : ℕ) (answer : List ℕ) : T
   pub numbers : answer ≡ sidedList found
   pub why : ForceAnswers scottish old file kind n found
   -- paper 02, request 02: of ASCII alone, the answer is what it was before, with bytes counted
-  pub before : ForceInCAsBefore old file kind n answer
+  pub asBefore : ForceInCAsBefore old file kind n answer
 
 -- every outcome is so
 pub force-in-c : (old file : List ℕ) (kind n : ℕ) (answer : List ℕ) → answer ≡ sidedList (inForce scottish old file kind n) → ForceInC old file kind n answer
@@ -113,7 +113,7 @@ force-in-c old file kind n answer o = record {
   found = inForce scottish old file kind n;
   numbers = o;
   why = force-answers scottish scottish-regular old file kind n;
-  before = force-in-c-before old file kind n answer o;
+  asBefore = force-in-c-before old file kind n answer o;
 }
 
 -- five numbers of one field of a line

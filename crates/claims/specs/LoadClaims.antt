@@ -85,7 +85,7 @@ pub record ApplyClaims (old file : List ℕ) (room : ℕ) (r : Answer) (out : Li
   -- and each code is given exactly then
   pub whys : WhyRefused old file room r
   -- paper 02, request 02: of ASCII alone, the answer is what it was before, with bytes counted
-  pub before : ApplyAsBefore old file room r out
+  pub asBefore : ApplyAsBefore old file room r out
 
 -- every outcome of apply is so
 pub apply-claims : (old file : List ℕ) (room : ℕ) (r : Answer) (out : List ℕ) → Outcome old file room r out → ApplyClaims old file room r out
@@ -106,7 +106,7 @@ apply-claims old file room r out o = record {
     start = λ m. rw (o .0) (apply-start scottish scottish-regular old file room m);
     roomless = λ st h l. rw (o .0) (apply-13 scottish scottish-regular old file room st h l);
   };
-  before = apply-before old file room r out o;
+  asBefore = apply-before old file room r out o;
 }
 
 -- ---- undo
@@ -136,7 +136,7 @@ pub record UndoClaims (old file : List ℕ) (room space : ℕ) (r : Answer) (out
   -- and each code is given exactly then
   pub whys : WhyRefused old file space r
   -- paper 02, request 02: of ASCII alone, the answer is what it was before, with bytes counted
-  pub before : UndoAsBefore old file room space r out work
+  pub asBefore : UndoAsBefore old file room space r out work
 
 undo-counts : (old file : List ℕ) (room space : ℕ) (r : Answer) → r ≡ answerOf (undoFile scottish old file room space .answer) → r .code ≡ 0 → (m : BothSound scottish old file)
     → (r .inserts ≡ count ins (m .cs)) × (r .updates ≡ count upd (m .cs)) × (r .deletes ≡ count del (m .cs))
@@ -167,5 +167,5 @@ undo-claims old file room space r out work o = record {
     start = λ m. rw (o .0) (undo-start scottish scottish-regular old file room space m);
     roomless = λ st h l. rw (o .0) (undo-13 scottish scottish-regular old file room space st h l);
   };
-  before = undo-before old file room space r out work o;
+  asBefore = undo-before old file room space r out work o;
 }

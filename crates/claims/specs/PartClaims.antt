@@ -37,7 +37,7 @@ pub record FindClaims (s r : RefT (List ℕ)) (kind n : ℕ) (answer : List ℕ)
   -- the part of a record that is found is its held line, without CR LF
   pub line : (w : FoundIt scottish (s .now) kind n found) → r .now ≡ changeText (w .number) (insertOf (w .rec))
   -- paper 02, request 02: of ASCII alone, the answer is what it was before, with bytes counted
-  pub before : FindAsBefore s r kind n answer
+  pub asBefore : FindAsBefore s r kind n answer
 
 -- every outcome of find is so
 pub find-claims : (s r : RefT (List ℕ)) (kind n : ℕ) (answer : List ℕ) → Handed (find scottish (s .now) kind n) s r answer → FindClaims s r kind n answer
@@ -48,7 +48,7 @@ find-claims s r kind n answer o = record {
   handed = o;
   why = find-answers scottish scottish-regular (s .now) kind n;
   line = λ w. o .part .bytes ∙ w .bytes;
-  before = find-before s r kind n answer o;
+  asBefore = find-before s r kind n answer o;
 }
 
 -- ---- the record in force
@@ -65,7 +65,7 @@ pub record ForceClaims (s t r : RefT (List ℕ)) (kind n : ℕ) (answer : List �
   -- and why it is that: 15, 14, the file check, 11, the last line that names the key, or the held line
   pub why : ForceAnswers scottish (s .now) (t .now) kind n found
   -- paper 02, request 02: of ASCII alone, the answer is what it was before, with bytes counted
-  pub before : ForceAsBefore s t r kind n answer
+  pub asBefore : ForceAsBefore s t r kind n answer
 
 -- every outcome of in_force is so
 pub force-claims : (s t r : RefT (List ℕ)) (kind n : ℕ) (answer : List ℕ) → HandedOf (inForce scottish (s .now) (t .now) kind n) s t r answer → ForceClaims s t r kind n answer
@@ -75,7 +75,7 @@ force-claims s t r kind n answer o = record {
   found = inForce scottish (s .now) (t .now) kind n;
   handed = o;
   why = force-answers scottish scottish-regular (s .now) (t .now) kind n;
-  before = force-before s t r kind n answer o;
+  asBefore = force-before s t r kind n answer o;
 }
 
 -- ---- one field of a line

@@ -35,7 +35,7 @@ pub record PrintClaims (held : Bool) (holding : List ℕ) (sent : Bool) (change 
   pub takes : (unusable (inputOf held holding) || unusable (inputOf sent change)) ≡ false → (a : Allowed scottish holding change programRoom)
       → Prints (printNumbers (apply scottish holding change programRoom .answer) ++ written (afterAll scottish a)) buffer n printed
   -- paper 02, request 02: of ASCII alone, the answer is what it was before, with bytes counted
-  pub before : PrintAsBefore held holding sent change buffer n printed
+  pub asBefore : PrintAsBefore held holding sent change buffer n printed
 
 or-true : (a : Bool) → (a || true) ≡ true
 or-true true = refl
@@ -59,5 +59,5 @@ module _ (held : Bool) (holding : List ℕ) (sent : Bool) (change buffer : List 
     eighteen = λ e. prints _ (prints-18 scottish (inputOf held holding) (inputOf sent change) e) o;
     refuses = λ e k. let b = both-read held sent holding change e in prints _ (rw (b .0, b .1) (prints-refused scottish holding change (rw (b .0, b .1) at e) k)) o;
     takes = λ e a. let b = both-read held sent holding change e in prints _ (rw (b .0, b .1) (prints-taken scottish scottish-regular holding change (rw (b .0, b .1) at e) a)) o;
-    before = print-before held holding sent change buffer n printed o;
+    asBefore = print-before held holding sent change buffer n printed o;
   }

@@ -65,17 +65,17 @@ module _ (x : ℕ) where
       go = rw (within a b x l h)
 
   -- and none among rows that begin above it
-  before : (n : ℕ) (rows : List (List Range)) → T (all (beginsFrom n) rows) → x < n → follows rows x ≡ []
+  none-above : (n : ℕ) (rows : List (List Range)) → T (all (beginsFrom n) rows) → x < n → follows rows x ≡ []
   unfolding follows beginsFrom
-  before n [] t h = refl
-  before n ([] ∷ rows) t h = before n rows t h
-  before n ((a to b ∷ rs) ∷ rows) t h =
-      rw (below a b x (omega (arith, leb→le n a (and-l (leb n a) (all (beginsFrom n) rows) t)))) (before n rows (and-r (leb n a) (all (beginsFrom n) rows) t) h)
+  none-above n [] t h = refl
+  none-above n ([] ∷ rows) t h = none-above n rows t h
+  none-above n ((a to b ∷ rs) ∷ rows) t h =
+      rw (below a b x (omega (arith, leb→le n a (and-l (leb n a) (all (beginsFrom n) rows) t)))) (none-above n rows (and-r (leb n a) (all (beginsFrom n) rows) t) h)
 
   -- nothing follows a byte that begins no row: a tail, and C0 and C1, which could begin only what is overlong
   follows-tail : 0x80 ≤ x → x < 0xC2 → follows characters x ≡ []
   unfolding characters endsBelow beginsFrom
-  follows-tail l h = past 0x80 (take 1 characters) (drop 1 characters) tt l ∙ before 0xC2 (drop 1 characters) tt h
+  follows-tail l h = past 0x80 (take 1 characters) (drop 1 characters) tt l ∙ none-above 0xC2 (drop 1 characters) tt h
 
   -- or F5 and above
   follows-above : 0xF5 ≤ x → follows characters x ≡ []

@@ -6,8 +6,8 @@ use Prim.Native.Nat.{ℕ, _-_}
 use native.Mathlib.Decide.{decLe}
 use native.Mathlib.Omega.{arith}
 use borrow.Author.Tests.{eq-eqb}
-use lib.Dec.{T, leb, ltb, eqb, leb→le, eqb→eq, lt→ltb, le→leb}
-use lib.ListN.{length, getD, length-append}
+use lib.Dec.{T, leb, ltb, eqb, leb→le, eqb→eq, lt→ltb}
+use lib.ListN.{length, getD}
 use Rattle.base.specs.Lists.{all, same, part}
 use Rattle.base.specs.Tests.{and-in, and-l, and-r, same-test, T-true}
 use Rattle.base.specs.ListLaws.{all-map, all-append, append-all, same-eq}
@@ -15,8 +15,8 @@ use Rattle.number.proofs.ByteLaws.{places}
 use Rattle.meaning.specs.Characters.{atMost}
 use Rattle.meaning.specs.Forms.{isDigit, isDigits, isTextByte, quoted, inside, byCharacters, isText, isKey}
 use Rattle.laws.specs.Digits.{digit-high}
-use Rattle.laws.specs.ContentLaws.{digit-text}
-use Rattle.laws.specs.EnoughNumbers.{digits-length, digits-each}
+use Rattle.laws.specs.ContentLaws.{digit-text, key-size}
+use Rattle.laws.specs.EnoughNumbers.{digits-each}
 use Rattle.laws.specs.EnoughDates.{spell, spelled}
 use Rattle.laws.specs.Ascii.{isAscii}
 use Rattle.laws.specs.CharacterLaws.{key-letter}
@@ -27,9 +27,9 @@ use Rattle.form.proofs.TextLaws.{quotes}
 -- ---- what stands between the quotes
 
 -- a digit is ASCII of a text
-digit-ascii : (x : ℕ) → T (isDigit x) → T (isAsciiText x)
+digit-ascii-text : (x : ℕ) → T (isDigit x) → T (isAsciiText x)
 unfolding isAsciiText
-digit-ascii x t = and-in (isTextByte x) (ltb x 127) (digit-text x t) (lt→ltb x 127 (omega (arith, digit-high x t)))
+digit-ascii-text x t = and-in (isTextByte x) (ltb x 127) (digit-text x t) (lt→ltb x 127 (omega (arith, digit-high x t)))
 
 -- a byte of ASCII that may stand in a text is below DEL
 below : (x : ℕ) → T (isTextByte x) → T (isAscii x) → T (ltb x 127)
@@ -56,13 +56,11 @@ between letter a b da db = same-test (byCharacters 14 (a ++ (letter ∷ b))) (is
 
     each : T (isAsciiText letter) → T (all isAsciiText t)
     each u =
-        all-append isAsciiText a (letter ∷ b) (all-map isDigit isAsciiText digit-ascii a (digits-each 4 a da))
-        (and-in (isAsciiText letter) (all isAsciiText b) u (all-map isDigit isAsciiText digit-ascii b (digits-each 9 b db)))
+        all-append isAsciiText a (letter ∷ b) (all-map isDigit isAsciiText digit-ascii-text a (digits-each 4 a da))
+        (and-in (isAsciiText letter) (all isAsciiText b) u (all-map isDigit isAsciiText digit-ascii-text b (digits-each 9 b db)))
 
     back : T (isAsciiText letter) → T (byCharacters 14 t)
-    back u =
-        subst T (sym (ascii-width 14 t (T-true (all isAsciiText t) (each u))))
-        (le→leb (length t) 14 (omega (arith, length-append a (letter ∷ b), digits-length 4 a da, digits-length 9 b db)))
+    back u = subst T (sym (ascii-width 14 t (T-true (all isAsciiText t) (each u)))) (key-size letter a b da db)
 
 -- ---- the tests
 

@@ -8,7 +8,7 @@ use lib.Dec.{T, leb, eqb, le→leb, nleb→lt, eqb→eq, not-T}
 use lib.ListN.{length, take, drop, replicate}
 use Rattle.base.specs.Lists.{all, part, bytes}
 use Rattle.base.specs.Tests.{and-in, and-l, and-r, same-test, T-false}
-use Rattle.base.specs.ListLaws.{all-append, append-all}
+use Rattle.base.specs.ListLaws.{all-append, append-all, all-drop, all-take}
 use Rattle.meaning.specs.Characters.{atMost}
 use Rattle.meaning.specs.Forms.{Form, number, atLeast1, decimal, date, time, text, changeType, xrefType, fileType, keyText, isTextByte, quoted, inside, TextRule, byCharacters, isText, hasForm, isTextual, emptyOf, isEmpty, soundAs}
 use Rattle.meaning.specs.Place.{goesOn, begins, reach, place, samples, placeAs}
@@ -20,7 +20,7 @@ use Rattle.meaning.specs.Sound.{soundField, placeIn}
 use Rattle.meaning.specs.Computes.{computed}
 use Rattle.laws.specs.Kinds.{every}
 use Rattle.laws.specs.PlaceLaws.{begins-now, begins-rest}
-use Rattle.laws.specs.EnoughNumbers.{all-drop, noughts}
+use Rattle.laws.specs.EnoughNumbers.{noughts}
 use Rattle.laws.specs.ContentLaws.{Ruled, bytes-front, bytes-ruled}
 use Rattle.laws.specs.Ascii.{isAscii, ascii, ascii-most, ascii-past}
 use Rattle.laws.specs.CharacterLaws.{key-letter, characters-ruled}
@@ -31,12 +31,7 @@ use Rattle.laws.specs.ScottishPlaces.{rowAt, all-at}
 
 -- ---- the two rules agree on ASCII
 
--- two rules say the same of ASCII
-abbrev pub AgreeOnAscii : TextRule → TextRule → Type 0
-AgreeOnAscii p q = (w : ℕ) (t : List ℕ) → T (ascii t) → p w t ≡ q w t
-
--- these two do
-pub rules-agree : AgreeOnAscii byBytes byCharacters
+rules-agree : (w : ℕ) (t : List ℕ) → T (ascii t) → byBytes w t ≡ byCharacters w t
 unfolding byBytes byCharacters
 rules-agree w t a = rw (ascii-most w t a) (and-comm (leb (length t) w) (all isTextByte t))
 
@@ -130,11 +125,6 @@ unfolding placeAs
 others-place m filled o t f = ap (λ sound. place sound (emptyOf m ∷ samples m) f) (fun-ext (others-sound m filled o t))
 
 -- ---- texts of ASCII
-
-all-take : (t : ℕ → Bool) (n : ℕ) (l : List ℕ) → T (all t l) → T (all t (take n l))
-all-take t zero l u = tt
-all-take t (suc n) [] u = tt
-all-take t (suc n) (x ∷ l) u = and-in (t x) (all t (take n l)) (and-l (t x) (all t l) u) (all-take t n l (and-r (t x) (all t l) u))
 
 inside-ascii : (f : List ℕ) → T (ascii f) → T (ascii (inside f))
 unfolding inside part

@@ -11,7 +11,7 @@ use Rattle.base.specs.Tests.{and-in, and-l, and-r}
 use Rattle.base.specs.ListLaws.{all-map, all-append, append-all}
 use Rattle.meaning.specs.Characters.{Range, _to_, isIn, characters, starts, follows, atMost}
 use Rattle.meaning.specs.Forms.{isDigit, isDigits, isTextByte, byCharacters}
-use Rattle.meaning.specs.Place.{begins, letters}
+use Rattle.meaning.specs.Place.{begins, sampleCharacters}
 use Rattle.meaning.specs.Computes.{computed}
 use Rattle.laws.specs.Digits.{digit-high}
 use Rattle.laws.specs.PlaceLaws.{begins-carry, Enough}
@@ -54,15 +54,15 @@ most-bytes (suc w) [] (x ∷ u) t =
     let three = row-of (λ rs. length rs ≤ 3) shortRow characters x rows-short (λ r rs k i. omega (arith, leb→le (length (r ∷ rs)) 4 k)) s in
     omega (arith, three, most-bytes w cs u (and-r (starts characters x) (atMost w cs u) t))
 
--- ---- whatever begins what may stand in a text goes on with the end of a letter
+-- ---- whatever begins what may stand in a text goes on with the end of a sample character
 
 -- what may stand in a text after what the character before still wants
 textFrom : ℕ → List Range → List ℕ → Bool
 textFrom w owed t = all isTextByte t && atMost w owed t
 
--- what is wanted can be had by the end of a letter
+-- what is wanted can be had by the end of a sample character
 had : List Range → Bool
-had owed = begins (textFrom 0 owed) letters []
+had owed = begins (textFrom 0 owed) sampleCharacters []
 
 -- and so can what is wanted after each byte of it
 endsHad : List Range → Bool
@@ -88,23 +88,23 @@ wider w [] (x ∷ u) t = absurd t
 -- one byte more
 carried :
     (w v : ℕ) (owed owing : List Range) (step : Bool) (x : ℕ) (q : List ℕ) → T (isTextByte x) → T step
-    → ((t : List ℕ) → atMost w owed (x ∷ t) ≡ (step && atMost v owing t)) → T (begins (textFrom v owing) letters q) → T (begins (textFrom w owed) letters (x ∷ q))
+    → ((t : List ℕ) → atMost w owed (x ∷ t) ≡ (step && atMost v owing t)) → T (begins (textFrom v owing) sampleCharacters q) → T (begins (textFrom w owed) sampleCharacters (x ∷ q))
 unfolding textFrom
 carried w v owed owing step x q b s e t =
     begins-carry (textFrom v owing) (textFrom w owed) q (x ∷ q)
     (λ h k. and-in (isTextByte x && all isTextByte (q ++ h)) (atMost w owed (x ∷ (q ++ h)))
     (and-in (isTextByte x) (all isTextByte (q ++ h)) b (and-l (all isTextByte (q ++ h)) (atMost v owing (q ++ h)) k))
-    (rw (e (q ++ h)) (and-in step (atMost v owing (q ++ h)) s (and-r (all isTextByte (q ++ h)) (atMost v owing (q ++ h)) k)))) letters t
+    (rw (e (q ++ h)) (and-in step (atMost v owing (q ++ h)) s (and-r (all isTextByte (q ++ h)) (atMost v owing (q ++ h)) k)))) sampleCharacters t
 
--- what begins at most w characters goes on with the end of a letter, where what is wanted can be had
+-- what begins at most w characters goes on with the end of a sample character, where what is wanted can be had
 begun-goes :
     (w : ℕ) (owed : List Range) (q r : List ℕ) → T (had owed && endsHad owed) → T (all isTextByte q) → T (atMost w owed (q ++ r))
-    → T (begins (textFrom w owed) letters q)
+    → T (begins (textFrom w owed) sampleCharacters q)
 unfolding textFrom had endsHad atMost
 begun-goes w owed [] r h b t =
     begins-carry (textFrom 0 owed) (textFrom w owed) [] []
     (λ e k. and-in (all isTextByte e) (atMost w owed e) (and-l (all isTextByte e) (atMost 0 owed e) k)
-    (wider w owed e (and-r (all isTextByte e) (atMost 0 owed e) k))) letters (and-l (had owed) (endsHad owed) h)
+    (wider w owed e (and-r (all isTextByte e) (atMost 0 owed e) k))) sampleCharacters (and-l (had owed) (endsHad owed) h)
 begun-goes w (c ∷ cs) (x ∷ q) r h b t =
     carried w w (c ∷ cs) cs (isIn c x) x q (and-l (isTextByte x) (all isTextByte q) b) (and-l (isIn c x) (atMost w cs (q ++ r)) t) (λ t. refl)
     (begun-goes w cs q r (and-r (had (c ∷ cs)) (endsHad (c ∷ cs)) h) (and-r (isTextByte x) (all isTextByte q) b) (and-r (isIn c x) (atMost w cs (q ++ r)) t))
@@ -116,7 +116,7 @@ begun-goes (suc w) [] (x ∷ q) r h b t =
     (begun-goes w cs q r (row-of (λ rs. T (had rs && endsHad rs)) endsHad characters x rows-had (λ c rs k i. k) s) (and-r (isTextByte x) (all isTextByte q) b)
     (and-r (starts characters x) (atMost w cs (q ++ r)) t))
 
-characters-goes : (w : ℕ) → Enough (byCharacters w) letters
+characters-goes : (w : ℕ) → Enough (byCharacters w) sampleCharacters
 unfolding byCharacters textFrom
 characters-goes w q r t =
     let b = all isTextByte (q ++ r) in

@@ -11,7 +11,7 @@ use Rattle.base.specs.Lists.{all, same, part}
 use Rattle.base.specs.Tests.{and-in, and-l, and-r}
 use Rattle.base.specs.ListLaws.{all-map, all-append, append-all, same-refl, same-eq}
 use Rattle.meaning.specs.Forms.{isDigit, isDigits, isTextByte, quoted, inside, TextRule, isText}
-use Rattle.meaning.specs.Place.{letters}
+use Rattle.meaning.specs.Place.{sampleCharacters}
 use Rattle.meaning.specs.Before.{byBytes}
 use Rattle.laws.specs.Digits.{digit-low, digit-high}
 use Rattle.laws.specs.PlaceLaws.{begins-now, Enough}
@@ -45,8 +45,8 @@ module _ (rule : TextRule) where
 -- ---- what is asked of a rule: of what may stand between the quotes of a text
 
 pub record Ruled (rule : TextRule) : Type 0 where
-  -- whatever begins what may stand there goes on with the end of one of the letters
-  pub goes : (w : ℕ) → Enough (rule w) letters
+  -- whatever begins what may stand there goes on with the end of one of the sample characters
+  pub goes : (w : ℕ) → Enough (rule w) sampleCharacters
   -- where something may stand, the letter a may
   pub one : (w x : ℕ) (u : List ℕ) → T (rule w (x ∷ u)) → T (rule w (97 ∷ []))
   -- where a key may stand, it may with other digits
@@ -85,8 +85,8 @@ bytes-front w q u t =
     (le→leb (length q) w (omega (arith, leb→le (length (q ++ u)) w (and-l (leb (length (q ++ u)) w) (all isTextByte (q ++ u)) t), length-append q u)))
     (append-all isTextByte q u (and-r (leb (length (q ++ u)) w) (all isTextByte (q ++ u)) t) .0)
 
-bytes-goes : (w : ℕ) → Enough (byBytes w) letters
-unfolding letters
+bytes-goes : (w : ℕ) → Enough (byBytes w) sampleCharacters
+unfolding sampleCharacters
 bytes-goes w q u t = begins-now (byBytes w) q _ _ (bytes-front w q u t)
 
 bytes-one : (w x : ℕ) (u : List ℕ) → T (byBytes w (x ∷ u)) → T (byBytes w (97 ∷ []))

@@ -11,7 +11,7 @@ use lib.ListN.{length, drop, replicate, length-append, length-drop, length-repli
 use mir.Facts.{yes-eqb}
 use Rattle.base.specs.Lists.{all, pick, upTo, past, bytes}
 use Rattle.base.specs.Tests.{and-in, and-l, and-r, T-false}
-use Rattle.base.specs.ListLaws.{all-append, append-all}
+use Rattle.base.specs.ListLaws.{all-append, append-all, all-drop}
 use Rattle.theory.specs.Decimal.{value, valueF}
 use Rattle.meaning.specs.Forms.{number, atLeast1, decimal, isDigit, isNumber, isDigits, unsigned, isDecimal}
 use Rattle.meaning.specs.Place.{begins, samples}
@@ -23,12 +23,6 @@ use Rattle.laws.specs.PlaceLaws.{begins-first, begins-now, begins-carry,
 pub no-bytes : (r : List ℕ) → length r ≡ 0 → r ≡ []
 no-bytes [] h = refl
 no-bytes (x ∷ r) h = absurd (omega arith)
-
--- a test of every byte holds of those that are left
-pub all-drop : (t : ℕ → Bool) (n : ℕ) (l : List ℕ) → T (all t l) → T (all t (drop n l))
-all-drop t zero l u = u
-all-drop t (suc n) [] u = tt
-all-drop t (suc n) (x ∷ l) u = all-drop t n l (and-r (t x) (all t l) u)
 
 -- and of one that passes it, so many times
 all-replicate : (t : ℕ → Bool) (n x : ℕ) → T (t x) → T (all t (replicate n x))

@@ -11,7 +11,7 @@ use Rattle.base.specs.Lists.{same, bytes}
 use Rattle.base.specs.Tests.{and-in, and-l, and-r, or-r, or-out}
 use Rattle.base.specs.ListLaws.{same-eq}
 use Rattle.meaning.specs.Forms.{text, quoted, inside, TextRule, isText, oneOf}
-use Rattle.meaning.specs.Place.{begins, letters, samples}
+use Rattle.meaning.specs.Place.{begins, sampleCharacters, samples}
 use Rattle.laws.specs.PlaceLaws.{begins-first, begins-sample, begins-now, begins-later, begins-quoted, EnoughAt, Enough}
 use Rattle.laws.specs.EnoughNumbers.{no-bytes}
 use Rattle.laws.specs.ContentLaws.{text-in, text-quoted, text-content, Ruled}
@@ -117,5 +117,5 @@ module _ (rule : TextRule) where
 
     -- so the samples are enough
     pub enough-text : (w : ℕ) → Enough (filledText w) (samples (text w))
-    unfolding samples letters
+    unfolding samples sampleCharacters
     enough-text w p = text-at w _ p (ruled .goes w (drop 1 p))

@@ -7,7 +7,7 @@ ghost use lib.ListN.{length, replicate};
 ghost use Rattle.base.specs.Lists.{bytes};
 ghost use Rattle.text.specs.Front.{inFront};
 ghost use Rattle.meaning.specs.Forms.{emptyOf, quoted};
-ghost use Rattle.meaning.specs.Place.{goesOn, letters, samples};
+ghost use Rattle.meaning.specs.Place.{goesOn, sampleCharacters, samples};
 ghost use Rattle.meaning.specs.Place.{begins as beginsWith};
 ghost use Rattle.form.specs.Codes.{inQuotes};
 ghost use Rattle.layout.specs.Rows.{formDecoded, soundBy};
@@ -116,10 +116,11 @@ fn goes_on_decimal(row: u32, p: &[u8], decimals: usize) -> bool
     goes_on(row, p, &zeros[0..end])
 }
 
-// Whether bytes are sound with the end of a text of one letter after them: a, or U+0800, U+10000 or U+40000, which end a letter that is begun.
+// Whether bytes are sound with the end of a text of one character after them: a, or U+0800, U+10000 or U+40000, which end a character that
+// is begun.
 fn goes_on_text(row: u32, p: &[u8]) -> bool
     requires { ⌜ length (now p) ≤ longest (formDecoded row) ⌝ }
-    ensures { λ r. ⌜ r ≡ beginsWith (soundBy row) (map quoted letters) (now (p .entry)) ⌝ }
+    ensures { λ r. ⌜ r ≡ beginsWith (soundBy row) (map quoted sampleCharacters) (now (p .entry)) ⌝ }
 {
     if goes_on(row, p, b"\"a\"") {
         return true;

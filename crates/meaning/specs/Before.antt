@@ -1,5 +1,5 @@
 -- Paper 02, request 02: 'the answer it had before'. Paper 01 counted a text's width in bytes, and asked nothing else of them than it does now.
--- Only the theorem that ASCII is answered as before speaks of this (laws: AsBefore; claims: AsBefore).
+-- Only the theorem that ASCII is answered as before (laws and claims: AsBefore), and what it rests on, speaks of this.
 use mathlib.Core.Bool.{_&&_}
 use lib.Dec.{leb}
 use lib.ListN.{length}

@@ -26,8 +26,8 @@ unfoldable pub place : (List ℕ → Bool) → List (List ℕ) → List ℕ → 
 place sound samples f = pick (sound f) 0 (suc (reach (begins sound samples) [] f))
 
 -- characters to put into a text: the letter a, U+0800, U+10000 and U+40000, whose ends end every character that is begun
-unfoldable pub letters : List (List ℕ)
-letters = bytes "a" ∷ (0xE0 ∷ 0xA0 ∷ 0x80 ∷ []) ∷ (0xF0 ∷ 0x90 ∷ 0x80 ∷ 0x80 ∷ []) ∷ (0xF1 ∷ 0x80 ∷ 0x80 ∷ 0x80 ∷ []) ∷ []
+unfoldable pub sampleCharacters : List (List ℕ)
+sampleCharacters = bytes "a" ∷ (0xE0 ∷ 0xA0 ∷ 0x80 ∷ []) ∷ (0xF0 ∷ 0x90 ∷ 0x80 ∷ 0x80 ∷ []) ∷ (0xF1 ∷ 0x80 ∷ 0x80 ∷ 0x80 ∷ []) ∷ []
 
 -- filled fields of a form, chosen so that whatever begins a filled field goes on with the end of one of them (laws: Enough proves that it does)
 unfoldable pub samples : Form → List (List ℕ)
@@ -36,7 +36,7 @@ samples (atLeast1 w) = bytes "1" ∷ []
 samples (decimal w d) = (bytes "0." ++ replicate d 48) ∷ []
 samples date = bytes "9999-11-11" ∷ bytes "9999-11-30" ∷ []
 samples time = bytes "000000" ∷ []
-samples (text w) = map quoted letters
+samples (text w) = map quoted sampleCharacters
 samples changeType = changeTypes
 samples xrefType = xrefTypes
 samples fileType = fileTypes

@@ -1,12 +1,12 @@
 -- `layout::begins::goes_on_text` meets its contract.
 use Rattle.layout.proofs.BeginsLaws.{beginning}
 use Rattle.base.specs.Lists.{bytes}
-use Rattle.meaning.specs.Place.{letters}
+use Rattle.meaning.specs.Place.{sampleCharacters}
 use Rattle.layout.proofs.begins.goes_on_text.Statement.{statement}
 use Rattle.layout.proofs.begins.goes_on_text.Tie as tie
 
 pub goes-on-text-spec : {M : Type 1} → statement M
-unfolding letters bytes
+unfolding sampleCharacters bytes
 goes-on-text-spec =
     tie.close
     (tie.spec
