@@ -3,7 +3,7 @@ use mathlib.Core.Path.{_≡_, refl, sym, ap, _∙_}
 use mathlib.Core.Bool.{Bool, true, false, not, _&&_}
 use mathlib.Core.Option.{Option, none, some}
 use mathlib.Core.List.{List, [], _∷_, map}
-use Prim.Native.Nat.{ℕ, suc, _+_, _-_, _≤_, _<_}
+use Prim.Native.Nat.{ℕ, zero, suc, _+_, _-_, _≤_, _<_}
 use Prim.Native.String.{String}
 use native.Mathlib.Numerals.{add-one}
 use native.Mathlib.Omega.{arith}
@@ -14,7 +14,7 @@ use lib.Text.{eqt}
 use lib.ListN.{length, getD, take, drop, length-map, drop-of-length-le}
 use lib.Seq.{drop-cons}
 use Rattle.base.specs.Lists.{pick, ask}
-use Rattle.base.specs.Tests.{and-l, and-r}
+use Rattle.base.specs.Tests.{and-l, and-r, ok-ask}
 use Rattle.meaning.specs.Forms.{soundAs}
 use Rattle.meaning.specs.Place.{placeAs}
 use Rattle.meaning.specs.Lines.{fieldsFrom, fieldsOf, hasFields}
@@ -237,6 +237,30 @@ module _ (kd : Kind) (t a : List ℕ) (l : Layout) (e : l ≡ laidOut kd) (p : P
   -- and its end is noted
   pub noted-there : (k : ℕ) → k < length (fieldsOf t) → k < length a
   noted-there k h = omega (arith, fields-many t (length (fields kd)) (p .many), fields-high kd, p .room)
+
+-- every kind has three fields and more
+fields-three : (kd : Kind) → 3 ≤ length (fields kd)
+unfolding kinds fields
+fields-three kd = leb→le 3 (length (fields kd)) (every (λ k. leb 3 (length (fields k))) tt kd)
+
+-- so a line of a kind has a second and a third, and their ends are noted
+module _ (kd : Kind) (t a : List ℕ) (u : Parted kd t a) (i : ℕ) (h : i ≤ 2) where
+  pub early-there : i < length (fieldsOf t)
+  early-there = omega (arith, fields-many t (length (fields kd)) (u .many), fields-three kd)
+
+  pub early-room : i < length a
+  early-room = omega (arith, u .room)
+
+-- where none is malformed each that is there is sound as its row has it
+pub low-sound :
+    (n : ℕ) (ds : List Row) (fs : List (List ℕ)) (i : ℕ) → none ≡ lowestBad n ds fs → i < length ds → i < length fs
+    → T (soundAs (scottish .textRule) (getD ds i noRow .0) (getD ds i noRow .1) (getD fs i []))
+unfolding lowestBad
+low-sound n [] fs i z h g = absurd (omega arith)
+low-sound n (d ∷ ds) [] i z h g = absurd (omega arith)
+low-sound n (d ∷ ds) (f ∷ fs) zero z h g = ok-ask (soundAs (scottish .textRule) (d .0) (d .1) f) (badField n d f) (lowestBad (suc n) ds fs) (sym z) .0
+low-sound n (d ∷ ds) (f ∷ fs) (suc i) z h g =
+    low-sound (suc n) ds fs i (sym (ok-ask (soundAs (scottish .textRule) (d .0) (d .1) f) (badField n d f) (lowestBad (suc n) ds fs) (sym z) .1)) (omega arith) (omega arith)
 
 module _ (kd : Kind) (t : List ℕ) (l : Layout) (e : l ≡ laidOut kd) where
   -- a kind with no START_DATE has nothing to be before

@@ -38,12 +38,12 @@ unfoldable pub codes : Kind → List ℕ
 codes k = map encoded (map bare (fields k))
 
 -- decoded they are the fields again, of every kind
-rows-right : (k : Kind) → map decoded (codes k) ≡ map bare (fields k)
+pub rows-right : (k : Kind) → map decoded (codes k) ≡ map bare (fields k)
 unfolding kinds codes encoded formEncoded fields formDecoded filledDecoded
 rows-right k = alike (λ k. map decoded (codes k)) (λ k. map bare (fields k)) refl k
 
 -- no row stands for no field
-no-row : decoded 0 ≡ noRow
+pub no-row : decoded 0 ≡ noRow
 unfolding formDecoded filledDecoded
 no-row = refl
 

@@ -119,7 +119,8 @@ pub fn form_of(row: u32) -> Form
         6 => Form::ChangeType,
         7 => Form::XrefType,
         8 => Form::FileType,
-        _ => Form::KeyText((row / 16 % 256) as u8),
+        9 => Form::KeyText((row / 16 % 256) as u8),
+        _ => Form::KeyText((row / 16 % 256) as u8), // no row says more; with 9 by itself clang goes by one table of jumps
     }
 }
 

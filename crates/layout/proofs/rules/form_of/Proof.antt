@@ -13,6 +13,7 @@ form-of-spec =
     (λ c. search needs)  -- cast-width
     (λ c. search needs)  -- cast-decimals
     (λ c. search needs)  -- cast-t10
+    (λ c. search needs)  -- cast-t10-2
     (λ c. rw (c .match .keys1))  -- returns
     (λ c. rw (c .match .keys2))  -- returns-2
     (λ c. rw (c .match .keys3))  -- returns-3
@@ -22,4 +23,5 @@ form-of-spec =
     (λ c. rw (c .match .keys7))  -- returns-7
     (λ c. rw (c .match .keys8))  -- returns-8
     (λ c. rw (c .match .keys9))  -- returns-9
-    (λ c. let r = c .match .rest in simp (ne-eqb _ _ (r .1), ne-eqb _ _ (r .0 .1), ne-eqb _ _ (r .0 .0 .1), ne-eqb _ _ (r .0 .0 .0 .1), ne-eqb _ _ (r .0 .0 .0 .0 .1), ne-eqb _ _ (r .0 .0 .0 .0 .0 .1), ne-eqb _ _ (r .0 .0 .0 .0 .0 .0 .1), ne-eqb _ _ (r .0 .0 .0 .0 .0 .0 .0 .1), ne-eqb _ _ (r .0 .0 .0 .0 .0 .0 .0 .0 .1))))  -- returns-10
+    (λ c. rw (c .match .keys10))  -- returns-10
+    (λ c. let r = c .match .rest in simp (ne-eqb _ _ (r .1), ne-eqb _ _ (r .0 .1), ne-eqb _ _ (r .0 .0 .1), ne-eqb _ _ (r .0 .0 .0 .1), ne-eqb _ _ (r .0 .0 .0 .0 .1), ne-eqb _ _ (r .0 .0 .0 .0 .0 .1), ne-eqb _ _ (r .0 .0 .0 .0 .0 .0 .1), ne-eqb _ _ (r .0 .0 .0 .0 .0 .0 .0 .1), ne-eqb _ _ (r .0 .0 .0 .0 .0 .0 .0 .0 .1), ne-eqb _ _ (r .0 .0 .0 .0 .0 .0 .0 .0 .0 .1))))  -- returns-11
