@@ -35,7 +35,8 @@ use Rattle.volume.specs.declared.walk.Walk.{Walk}
 use Rattle.answers.specs.declared.numbers.Answer.{Answer}
 use Rattle.volume.specs.Meant.{stageMeant}
 use Rattle.volume.specs.Judged.{opensAt, opensAs, opens, closes, judgedAs}
-use Rattle.volume.specs.Walk.{unwalked, tally, walkedOn, checkedFrom, leftOf, stoppedAt, Within}
+use Rattle.volume.specs.Walk.{unwalked, tally, walkedOn, checkedFrom, leftOf, stoppedAt}
+use Rattle.volume.specs.Reading.{Reading}
 use Rattle.answers.specs.Meant.{noFaultAt, faultOf, faultMeant, answerOf}
 use Rattle.meaning.specs.Codes.{endingWrong, identifierUnknown, outOfPlace, fieldCountWrong, endBeforeStart, tooManyBodyLines}
 use Rattle.layout.proofs.PassLaws.{lowest}
@@ -186,12 +187,6 @@ counted-none (file s) = rw (zero-add (count ins (s .1)), zero-add (count upd (s 
 
 -- ---- the walk, at an offset
 
--- what is left answers what the file does, and no number has passed the bytes that were read
-pub record Reading (s : List ℕ) (w : Walk) (at : ℕ) : Type 0 where
-  pub left : leftOf w (linesOf (drop at s)) ≡ checkFile scottish s
-  pub within : Within w at
-  pub stands : at ≤ length s + 2
-
 -- it begins at the file's start
 pub read-start : (s : List ℕ) (w : Walk) → w ≡ unwalked → Reading s w 0
 unfolding leftOf checkFile readFile
@@ -215,8 +210,12 @@ pub read-kept : (s : List ℕ) (w : Walk) (f g : FaultTold) → f ≡ g → Faul
 read-kept s w f g e h = rw e h
 
 -- it ends where no line is left
-pub read-done : (s : List ℕ) (w : Walk) (at : ℕ) (f : FaultTold) (r : Answer) → Reading s w at → length s ≤ at → f .code ≡ 0 → r ≡ answerOf (stoppedAt w (faultMeant f)) → r ≡ answerOf (checkFile scottish s)
-read-done s w at f r v h z e = e ∙ ap answerOf (stopped-none w f z ∙ rw (lines-end s at h) at (v .left))
+pub read-done : (s : List ℕ) (w : Walk) (at : ℕ) (r : Answer) → Reading s w at → length s ≤ at → r ≡ answerOf (leftOf w []) → r ≡ answerOf (checkFile scottish s)
+read-done s w at r v h e = e ∙ ap answerOf (rw (lines-end s at h) at (v .left))
+
+-- also where it stopped without a fault
+pub read-stopped : (s : List ℕ) (w : Walk) (at : ℕ) (f : FaultTold) (r : Answer) → Reading s w at → length s ≤ at → f .code ≡ 0 → r ≡ answerOf (stoppedAt w (faultMeant f)) → r ≡ answerOf (checkFile scottish s)
+read-stopped s w at f r v h z e = read-done s w at r v h (e ∙ ap answerOf (stopped-none w f z))
 
 module _ (s : List ℕ) (w : Walk) (at e : ℕ) (h : at < length s) (q : e ≡ plainEnd s at) where
   -- the lines after this one

@@ -13,7 +13,7 @@ use lib.Dec.{T, eqb, ltb, leb, eqb→eq, ltb→lt, leb→le}
 use lib.ListN.{length, getD}
 use Rattle.base.specs.Lists.{ask, all, same, bytes}
 use Rattle.base.specs.Tests.{and-l, and-r}
-use Rattle.theory.specs.Step.{ins, upd, del}
+use Rattle.theory.specs.Step.{Op, ins, upd, del}
 use Rattle.theory.specs.Decimal.{value}
 use Rattle.meaning.specs.Forms.{Form, number, atLeast1, decimal, date, time, text, changeType, xrefType, fileType, keyText, isNumber, hasForm, isTextual, isEmpty, isDigit, soundAs}
 use Rattle.meaning.specs.Lines.{identifier, fieldsOf}
@@ -24,7 +24,7 @@ use Rattle.meaning.specs.Records.{letter, opOf}
 use Rattle.meaning.specs.File.{Stage, afterTrailer, next, mostBody, hasRoom, countFault, bad, good, verdict}
 use Rattle.laws.specs.Kinds.{every}
 use Rattle.text.specs.Places.{fieldCount}
-use Rattle.text.proofs.FieldLaws.{fields-wrong}
+use Rattle.text.proofs.FieldLaws.{fields-wrong, fields-many}
 use Rattle.layout.specs.declared.kinds.HeldKind.{HeldKind}
 use Rattle.layout.specs.declared.kinds.Kind.{Kind as Named}
 use Rattle.layout.specs.declared.kinds.Kind.the-variants.{Header, Held, Metadata, Trailer}
@@ -37,15 +37,15 @@ use Rattle.meaning.specs.Answers.{ofLine, ofField}
 use Rattle.answers.specs.Meant.{faultOf, faultMeant, noFaultAt}
 use Rattle.layout.specs.Meant.{kindMeant, kindFound}
 use Rattle.layout.specs.Rows.{Row, bare, noRow, rowOf, laidOut}
-use Rattle.layout.specs.Check.{badField, lowestBad, kindDates, told}
+use Rattle.layout.specs.Check.{badField, lowestBad, Parted, kindDates, told}
 use Rattle.layout.proofs.KindLaws.{roleOf, role-of}
-use Rattle.layout.proofs.CheckLaws.{named-at, right-count}
+use Rattle.layout.proofs.CheckLaws.{named-at, right-count, early-there, early-room}
 use Rattle.volume.specs.declared.stages.Stage.{Stage as StageNamed}
 use Rattle.volume.specs.declared.stages.Stage.the-variants.{AfterTrailer}
 use Rattle.volume.specs.declared.stages.StageFound.{StageFound}
 use Rattle.volume.specs.declared.stages.StageFound.the-variants.{At, Nowhere}
 use Rattle.volume.specs.Meant.{stageMeant, stageFound}
-use Rattle.volume.specs.Judged.{opensAt, opensAs, opens, closes}
+use Rattle.volume.specs.Judged.{opensAt, opensAs, opens, stagedAs, closes}
 
 -- ---- the stage, the kind, the change and the number of a line
 
@@ -65,23 +65,29 @@ next-arm p q k c o e i h = h ∙ rw (e, role-of k c i)
 
 pub ruleset nexts = (needs, next-last, next-arm)
 
-module _ (f g : List ℕ) (a : Bool) (e : f ≡ g) (p : a ≡ same f (34 ∷ 73 ∷ 34 ∷ [])) where
+module _ (f : List ℕ) (a : Bool) (p : a ≡ same f (34 ∷ 73 ∷ 34 ∷ [])) where
   -- an insert is written "I"
-  pub change-insert : a ≡ true → ins ≡ opOf g
+  pub change-insert : a ≡ true → ins ≡ opOf f
   unfolding opOf letter bytes
-  change-insert h = rw (← e, sym p ∙ h)
+  change-insert h = rw (sym p ∙ h)
 
   -- an update "U"
-  pub change-update : (b : Bool) → a ≡ false → b ≡ same f (34 ∷ 85 ∷ 34 ∷ []) → b ≡ true → upd ≡ opOf g
+  pub change-update : (b : Bool) → a ≡ false → b ≡ same f (34 ∷ 85 ∷ 34 ∷ []) → b ≡ true → upd ≡ opOf f
   unfolding opOf letter bytes
-  change-update b h q k = rw (← e, sym p ∙ h, sym q ∙ k)
+  change-update b h q k = rw (sym p ∙ h, sym q ∙ k)
 
   -- any other is a delete
-  pub change-delete : (b : Bool) → a ≡ false → b ≡ same f (34 ∷ 85 ∷ 34 ∷ []) → b ≡ false → del ≡ opOf g
+  pub change-delete : (b : Bool) → a ≡ false → b ≡ same f (34 ∷ 85 ∷ 34 ∷ []) → b ≡ false → del ≡ opOf f
   unfolding opOf letter bytes
-  change-delete b h q k = rw (← e, sym p ∙ h, sym q ∙ k)
+  change-delete b h q k = rw (sym p ∙ h, sym q ∙ k)
 
 pub ruleset changes = (needs, change-insert, change-update, change-delete)
+
+-- the field that says it
+pub change-there : (f g : List ℕ) (o : Op) → f ≡ g → o ≡ opOf f → o ≡ opOf g
+change-there f g o e h = rw (← e) h
+
+pub ruleset changed = (needs, change-there)
 
 -- a field is as long as the field it is
 pub as-long : (f g : List ℕ) → f ≡ g → length g ≤ 16 → length f ≤ 16
@@ -220,6 +226,21 @@ module _ (p : Stage) (n : ℕ) (t : List ℕ) (b : Bool) where
 
 pub ruleset opening = (needs, not-true, not-false, open-unended, open-unknown, open-nowhere, open-full, open-count, open-good)
 
+-- ---- a line that was passed, at its stage
+
+module _ (p : Stage) (n : ℕ) (kind : Named) (r : Bool) (m : r ≡ hasRoom (role (kindMeant kind)) n) where
+  -- there is no room for it
+  pub stage-full : r ≡ false → none ≡ stagedAs p n (kindMeant kind)
+  unfolding stagedAs
+  stage-full u = rw (sym m ∙ u)
+
+  -- it stands where it may
+  pub stage-there : r ≡ true → (o : Option Stage) → o ≡ next p (role (kindMeant kind)) → o ≡ stagedAs p n (kindMeant kind)
+  unfolding stagedAs
+  stage-there u o e = rw (sym m ∙ u) e
+
+pub ruleset staging = (needs, not-true, not-false, stage-full, stage-there)
+
 -- ---- a line after its fields
 
 module _ (kind : Named) (n : ℕ) (t : List ℕ) where
@@ -263,4 +284,4 @@ module _ (kind : Named) (n : ℕ) (t : List ℕ) where
             let w = third-is recordCount (kindMeant kind) t (rw (role-of kind Trailer c) at (third (kindMeant kind))) in
             g ∙ rw (sym r ∙ d, role-of kind Trailer c, w .0, w .1, q)
 
-pub ruleset closing = (needs, not-true, not-false, close-short, close-short-last, close-dates, close-header, close-metadata, close-body, close-trailer)
+pub ruleset closing = (needs, early-there, early-room, not-true, not-false, close-short, close-short-last, close-dates, close-header, close-metadata, close-body, close-trailer)

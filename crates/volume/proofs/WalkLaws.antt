@@ -29,6 +29,7 @@ use Rattle.answers.specs.declared.refusal.Fault.{Fault}
 use Rattle.answers.specs.declared.refusal.Refusal.{Refusal}
 use Rattle.answers.specs.declared.numbers.Answer.{Answer}
 use Rattle.answers.specs.Meant.{faultMeant, refusalOf, refusalMeant, countsOf, answerOf}
+use Rattle.layout.proofs.CheckLaws.{early-there, early-room}
 
 -- ---- one body line more
 
@@ -132,7 +133,7 @@ module _ (w : Walk) (p : Stage) (c : Op) (kind : Named) where
   unfolding walkedOn tally bodyAfter countedIn
   after-body v held o h i q = q ∙ rw (i, role-of kind (Held held) h, add-one (w .line))
 
-pub ruleset after = (needs, after-header, after-metadata, after-trailer, after-body, within-stepped)
+pub ruleset after = (needs, early-there, early-room, after-header, after-metadata, after-trailer, after-body, within-stepped)
 
 -- ---- no line is left
 

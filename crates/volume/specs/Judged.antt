@@ -33,6 +33,10 @@ opensAs p n t (some k) = opensAt n t k (next p (role k))
 unfoldable pub opens : Stage → ℕ → Bool → List ℕ → Judged
 opens p n ended t = pick ended (opensAs p n t (kindOf scottish (identifier t))) (bad (ofLine endingWrong))
 
+-- the stage after a line of a kind, where it may stand and there is room for it
+unfoldable pub stagedAs : Stage → ℕ → Kind → Option Stage
+stagedAs p n k = pick (hasRoom (role k) n) (next p (role k)) none
+
 -- a line after its fields: 6, then 7 or 8
 unfoldable pub closes : ℕ → Kind → List ℕ → Option Fault
 closes n k t = ask (kindDates k (fieldsOf t)) (ofField endBeforeStart (fieldNumber 1 endDate (fields k))) (countFault scottish (role k) n k t)

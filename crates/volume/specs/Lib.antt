@@ -1,3 +1,4 @@
 pub mod Meant
 pub mod Judged
 pub mod Walk
+pub mod Reading

@@ -7,10 +7,13 @@ ghost use Rattle.meaning.specs.Answers.{ofLine, atLine, refusedWith};
 ghost use Rattle.meaning.specs.Load.{checkFile};
 ghost use Rattle.answers.specs.Meant.{faultMeant, answerOf};
 ghost use Rattle.volume.specs.Walk.{leftOf, stoppedAt};
+ghost use Rattle.volume.specs.Reading.{Reading};
 use crate::lines::Opened;
 use crate::lines::close_line;
 use crate::lines::open_line;
+use crate::lines::stage_after;
 use crate::stages::Stage;
+use crate::stages::StageFound;
 use crate::walk::Walk;
 use crate::walk::after_line;
 use answers::codes::OUT_OF_PLACE;
@@ -22,6 +25,8 @@ use answers::refusal::Refusal;
 use layout::check::malformed_at;
 use layout::check::sound_at;
 use layout::rules::layout;
+use pass::kind::Found;
+use pass::kind::pass_kind;
 use text::fields::split;
 use text::lines::ends_at;
 use text::lines::plain_end;
@@ -60,13 +65,14 @@ fn stopped(walk: Walk, fault: Fault) -> Answer
     ended(walk)
 }
 
-// The check of a file.
-pub fn check_file(file: &[u8]) -> Answer
+// The check of a file from a line on, each line and within it each field judged by itself: this alone gives codes.
+fn check_from(file: &[u8], from: Walk, start: usize) -> Answer
+    requires { ⌜ Reading (now file) from start ⌝ }
     ensures { λ r. ⌜ r ≡ answerOf (checkFile scottish (now (file .entry))) ⌝ }
 {
     let mut ends = [0usize; 32];
-    let mut walk = Walk::at_start();
-    let mut at = 0;
+    let mut walk = from;
+    let mut at = start;
     let mut bad = Fault::none();
     'lines: while at < file.len() {
         let end = plain_end(file, at);
@@ -95,10 +101,35 @@ pub fn check_file(file: &[u8]) -> Answer
                 if bad.code != 0 {
                     break 'lines;
                 }
-                walk = after_line(walk, kind, text, after);
+                walk = after_line(walk, kind, text, &ends, after);
                 at = end + 2;
             }
         }
     }
     stopped(walk, bad)
+}
+
+// The check of a file: each line is passed in one walk; the first that isn't is judged by itself, with those after it.
+pub fn check_file(file: &[u8]) -> Answer
+    ensures { λ r. ⌜ r ≡ answerOf (checkFile scottish (now (file .entry))) ⌝ }
+{
+    let mut ends = [0usize; 32];
+    let mut walk = Walk::at_start();
+    let mut at = 0;
+    while at < file.len() {
+        let Found::Line(kind, end) = pass_kind(file, at, &mut ends) else {
+            return check_from(file, walk, at);
+        };
+        let text = &file[at..end];
+        let StageFound::At(after) = stage_after(walk, kind) else {
+            return check_from(file, walk, at);
+        };
+        let closed = close_line(kind, walk.body, text, &ends);
+        if closed.code != 0 {
+            return check_from(file, walk, at);
+        }
+        walk = after_line(walk, kind, text, &ends, after);
+        at = end + 2;
+    }
+    ended(walk)
 }

@@ -14,10 +14,10 @@ ghost use Rattle.meaning.specs.File.{hasRoom};
 ghost use Rattle.meaning.specs.Answers.{ofField};
 ghost use Rattle.layout.specs.Meant.{kindMeant};
 ghost use Rattle.layout.specs.Rows.{bare};
-ghost use Rattle.text.specs.Places.{fieldCount};
+ghost use Rattle.text.specs.Places.{fieldCount, Notes};
 ghost use Rattle.layout.specs.Check.{lowestBad, Parted, told};
-ghost use Rattle.volume.specs.Meant.{stageMeant, changeMeant};
-ghost use Rattle.volume.specs.Judged.{opens, closes, judgedAs};
+ghost use Rattle.volume.specs.Meant.{stageMeant, stageFound, changeMeant};
+ghost use Rattle.volume.specs.Judged.{opens, closes, judgedAs, stagedAs};
 use crate::stages::Stage;
 use crate::stages::StageFound;
 use crate::stages::next_stage;
@@ -39,6 +39,7 @@ use layout::kinds::KindFound;
 use layout::limits::File;
 use layout::rules::layout;
 use text::fields::field;
+use text::fields::noted_field;
 use text::order::is_same;
 
 // PRO_ORDER of every body line, and RECORD_COUNT of the trailer: both are field 3.
@@ -100,12 +101,23 @@ pub fn open_line(walk: Walk, text: &[u8], fields: usize, ended: bool) -> Opened
     Opened::Good(kind, after)
 }
 
+// The stage after a line of a kind, where it may stand and there is room for it.
+pub fn stage_after(walk: Walk, kind: Kind) -> StageFound
+    ensures { λ r. ⌜ stageFound r ≡ stagedAs (stageMeant (walk .stage)) (walk .body) (kindMeant kind) ⌝ }
+{
+    let stage = walk.stage;
+    if !has_room(kind, walk.body) {
+        return StageFound::Nowhere;
+    }
+    next_stage(stage, kind)
+}
+
 // The running number of a body line, or the number of body lines that a trailer says.
-fn number_of(text: &[u8]) -> u64
-    requires { ⌜ length (getD (fieldsOf (now text)) 2 []) ≤ 16 ⌝ }
+fn number_of(text: &[u8], ends: &[usize]) -> u64
+    requires { ⌜ Notes (now text) (now ends) × (2 < length (fieldsOf (now text))) × (2 < length (now ends)) × (length (getD (fieldsOf (now text)) 2 []) ≤ 16) ⌝ }
     ensures { λ r. ⌜ r ≡ value (getD (fieldsOf (now (text .entry))) 2 []) ⌝ }
 {
-    text::numbers::value(field(text, NUMBER - 1))
+    text::numbers::value(noted_field(text, ends, NUMBER - 1))
 }
 
 // A fault of the number, where it is not right.
@@ -131,17 +143,16 @@ pub fn close_line(kind: Kind, body: usize, text: &[u8], ends: &[usize]) -> Fault
     let next = lines + 1;
     match kind {
         Kind::Header => Fault::none(),
-        Kind::Held(_) => number_fault(number_of(text) == next, NOT_RUNNING_NUMBER),
+        Kind::Held(_) => number_fault(number_of(text, ends) == next, NOT_RUNNING_NUMBER),
         Kind::Metadata => Fault::none(),
-        Kind::Trailer => number_fault(number_of(text) == lines, RECORD_COUNT_WRONG),
+        Kind::Trailer => number_fault(number_of(text, ends) == lines, RECORD_COUNT_WRONG),
     }
 }
 
-// The change that a sound body line says.
-pub fn change_of(text: &[u8]) -> Change
-    ensures { λ r. ⌜ changeMeant r ≡ opOf (getD (fieldsOf (now (text .entry))) 1 []) ⌝ }
+// The change that a letter says.
+fn change_said(letter: &[u8]) -> Change
+    ensures { λ r. ⌜ changeMeant r ≡ opOf (now (letter .entry)) ⌝ }
 {
-    let letter = field(text, 1);
     if is_same(letter, b"\"I\"") {
         return Change::Insert;
     }
@@ -151,10 +162,26 @@ pub fn change_of(text: &[u8]) -> Change
     Change::Delete
 }
 
+// The change that a sound body line says.
+pub fn change_of(text: &[u8]) -> Change
+    ensures { λ r. ⌜ changeMeant r ≡ opOf (getD (fieldsOf (now (text .entry))) 1 []) ⌝ }
+{
+    change_said(field(text, 1))
+}
+
 // A sound body line of a kind, as it is known.
 pub fn known(kind: HeldKind, text: &[u8]) -> Line
     ensures { λ r. ⌜ (r .kind ≡ kind) × (changeMeant (r .change) ≡ opOf (getD (fieldsOf (now (text .entry))) 1 [])) ⌝ }
 {
     let change = change_of(text);
+    Line { kind, change }
+}
+
+// A sound body line of a kind whose fields' ends are noted, as it is known.
+pub fn known_noted(kind: HeldKind, text: &[u8], ends: &[usize]) -> Line
+    requires { ⌜ Notes (now text) (now ends) × (1 < length (fieldsOf (now text))) × (1 < length (now ends)) ⌝ }
+    ensures { λ r. ⌜ (r .kind ≡ kind) × (changeMeant (r .change) ≡ opOf (getD (fieldsOf (now (text .entry))) 1 [])) ⌝ }
+{
+    let change = change_said(noted_field(text, ends, 1));
     Line { kind, change }
 }

@@ -7,11 +7,12 @@ ghost use Rattle.meaning.specs.Lines.{fieldsOf};
 ghost use Rattle.meaning.specs.Kinds.{role};
 ghost use Rattle.meaning.specs.Records.{opOf};
 ghost use Rattle.layout.specs.Meant.{kindMeant};
+ghost use Rattle.layout.specs.Check.{Parted};
 ghost use Rattle.volume.specs.Meant.{changeMeant};
 ghost use Rattle.volume.specs.Walk.{unwalked, walkedOn, countedIn, Within};
 use crate::lines::Change;
 use crate::lines::Line;
-use crate::lines::known;
+use crate::lines::known_noted;
 use crate::stages::Stage;
 use layout::kinds::Kind;
 
@@ -66,8 +67,8 @@ fn counted(walk: Walk, line: Line) -> Walk
 }
 
 // The walk after a sound line of a kind, before a stage: a body line is counted.
-pub fn after_line(walk: Walk, kind: Kind, text: &[u8], stage: Stage) -> Walk
-    requires { ⌜ Within walk (2 ^ 63) ⌝ }
+pub fn after_line(walk: Walk, kind: Kind, text: &[u8], ends: &[usize], stage: Stage) -> Walk
+    requires { ⌜ Within walk (2 ^ 63) × Parted (kindMeant kind) (now text) (now ends) ⌝ }
     ensures { λ r. ⌜ r ≡ walkedOn walk (role (kindMeant kind)) (opOf (getD (fieldsOf (now (text .entry))) 1 [])) stage ⌝ }
 {
     let after = Walk {
@@ -80,7 +81,7 @@ pub fn after_line(walk: Walk, kind: Kind, text: &[u8], stage: Stage) -> Walk
     };
     match kind {
         Kind::Header => after,
-        Kind::Held(held) => counted(after, known(held, text)),
+        Kind::Held(held) => counted(after, known_noted(held, text, ends)),
         Kind::Metadata => after,
         Kind::Trailer => after,
     }

@@ -1,16 +1,14 @@
--- `volume::check::check_file` meets its contract.
+-- `volume::check::check_file` meets its contract: a line that was passed is walked on by the laws of any line, and the first that isn't is left
+-- to `check_from`.
 use borrow.Author.Needs.{needs}
-use mathlib.Core.Path.{_≡_, ap, _∙_}
-use mathlib.Core.Logic.{⊎-elim}
+use mathlib.Core.Path.{_≡_, _∙_}
 use Prim.Native.Nat.{_-_, _^_, _<_}
 use native.Mathlib.Omega.{arith}
-use borrow.Author.Tests.{not-true, not-false}
 use lib.ListN.{length}
-use Rattle.answers.specs.Meant.{noFaultAt}
-use Rattle.layout.specs.Meant.{kindMeant}
-use Rattle.layout.proofs.PassLaws.{Passing, pass-start, pass-row, pass-few, pass-forward, pass-within, pass-stop, pass-turn, pass-done}
+use Rattle.volume.specs.Reading.{Reading}
 use Rattle.volume.proofs.WalkLaws.{within-more}
-use Rattle.volume.proofs.FileLaws.{Reading, line-short, closed-none, read-start, read-opened, read-fields, read-malformed, read-closed, read-turn, read-kept, read-refused, read-done}
+use Rattle.volume.proofs.FileLaws.{read-start, read-done}
+use Rattle.volume.proofs.PassLaws.{passed-forward, passed-inside, passed-parted, passed-low, passed-turn}
 use Rattle.volume.proofs.check.check_file.Statement.{statement}
 use Rattle.volume.proofs.check.check_file.Tie as tie
 
@@ -18,41 +16,32 @@ pub check-file-spec : {M : Type 1} → statement M
 check-file-spec =
     tie.close
     (tie.spec
-    (λ file ends walk at end text fields kind after count k₀ start₀ k start. Passing (kindMeant kind) text ends count k start)
-    (λ file ends walk at end text fields kind after count k₀ start₀ k start. count - k)
-    (λ file ends₀ walk₀ at₀ bad₀ ends walk at bad. (Reading file walk at) × (bad ≡ noFaultAt) × (length ends ≡ 32) × (length file < 2 ^ 63))
-    (λ file ends₀ walk₀ at₀ bad₀ ends walk at bad. length file - at)
+    (λ file ends₀ walk₀ at₀ ends walk at. (Reading file walk at) × (length ends ≡ 32) × (length file < 2 ^ 63))
+    (λ file ends₀ walk₀ at₀ ends walk at. length file - at)
     (λ c κs. search needs)  -- at-start-requires
-    (λ c κs. search needs)  -- none-requires
-    (λ c. (read-start _ _ (c .before .at-start .ensures), c .none .ensures, search needs, search needs))  -- lines-holds
-    (λ c κs. search needs)  -- plain-end-requires
-    (λ c. search needs)  -- sub-text
-    (λ c. search needs)  -- part-text-start
-    (λ c. search needs)  -- part-text-end
-    (λ c. search needs)  -- slice-aggregate-split
-    (λ c κs. search needs)  -- split-requires
-    (λ c κs. search needs)  -- ends-at-requires
-    (λ c κs. c .before .before .split .ensures .0)  -- open-line-requires
-    (λ c. search needs)  -- enum-known-fault
+    (λ c. (read-start _ _ (c .at-start .ensures), search needs, search needs))  -- loop-holds
+    (λ c. search needs)  -- slice-aggregate-pass-kind
+    (λ c κs. let l = c .before .before in (let h = l .loop .inv .0 .stands in search needs, let m = l .loop .inv .1 in search needs))  -- pass-kind-requires
     (λ c. search needs)  -- enum-known-kind
-    (λ c κs. search needs)  -- layout-requires
-    (λ c. let o = c .before .before .before .before in let e = o .before .before .before .before .before .before in let l = e .before .before in let s = o .before .before .before in pass-start _ _ _ _ (c .layout .ensures) (record { many = read-fields _ _ _ _ (e .before .lines-test .taken) (e .plain-end .ensures .0) (l .lines .inv .0) _ (o .before .ends-at .ensures) (o .open-line .result) (o .open-line .ensures) _ _ (c .before .before .kind .given .1); noted = s .split .ensures .1; room = omega (arith, s .split .ensures .2) }))  -- loop-holds
-    (λ c. let w = pass-few _ _ _ _ _ _ (c .before .loop .inv) (c .loop-test .taken) in search needs)  -- mul-stop
-    (λ c. let w = pass-few _ _ _ _ _ _ (c .before .loop .inv) (c .loop-test .taken) in search needs)  -- array-read-stop
-    (λ c. pass-forward _ _ _ _ _ _ (c .before .loop .inv) (c .loop-test .taken))  -- sub-field
-    (λ c. let f = pass-forward _ _ _ _ _ _ (c .before .loop .inv) (c .loop-test .taken) in let w = pass-within _ _ _ _ _ _ (c .before .loop .inv) (c .loop-test .taken) in search needs)  -- part-field-start
-    (λ c. let w = pass-within _ _ _ _ _ _ (c .before .loop .inv) (c .loop-test .taken) in search needs)  -- part-field-end
-    (λ c κs. let t = c .before in pass-row _ _ _ _ _ _ (t .before .loop .inv) (t .loop-test .taken))  -- sound-at-requires
-    (λ c κs. let t = c .before .before .before in pass-row _ _ _ _ _ _ (t .before .loop .inv) (t .loop-test .taken))  -- malformed-at-requires
-    (λ c. let t = c .before .before .before in let o = t .before .before .before .before .before .before in let e = o .before .before .before .before .before .before in let h = e .before .before .lines .inv .3 in omega (arith, pass-within _ _ _ _ _ _ (t .before .loop .inv) (t .loop-test .taken), line-short (e .before .before .before .before .before .before .args .file .now) (e .before .before .lines .at) (e .plain-end .result)))  -- add-start
-    (λ c. let t = c .before .before .before in let w = pass-few _ _ _ _ _ _ (t .before .loop .inv) (t .loop-test .taken) in search needs)  -- add-k
-    (λ c. search needs)  -- loop-less
-    (λ c. let t = c .before .before .before in pass-turn _ _ _ _ _ _ (t .before .loop .inv) (t .loop-test .taken) _ (c .before .sound-at .ensures) (not-false _ (c .if1 .left)))  -- loop-again
+    (λ c. search needs)  -- enum-told
+    (λ c κs. c .before .before .before .before .before .before .loop .inv .0)  -- check-from-requires
+    (λ c. c .check-from .ensures)  -- returns
+    (λ c. let k = c .before in let p = k .before .before .before in let f = passed-forward _ _ _ _ (p .pass-kind .ensures .1) _ _ (k .kind .given .1) in let i = passed-inside _ _ _ _ (p .pass-kind .ensures .1) _ _ (k .kind .given .1) in search needs)  -- sub-text
+    (λ c. let k = c .before in let p = k .before .before .before in let f = passed-forward _ _ _ _ (p .pass-kind .ensures .1) _ _ (k .kind .given .1) in let i = passed-inside _ _ _ _ (p .pass-kind .ensures .1) _ _ (k .kind .given .1) in search needs)  -- part-text-start
+    (λ c. let k = c .before in let p = k .before .before .before in let f = passed-forward _ _ _ _ (p .pass-kind .ensures .1) _ _ (k .kind .given .1) in let i = passed-inside _ _ _ _ (p .pass-kind .ensures .1) _ _ (k .kind .given .1) in search needs)  -- part-text-end
+    (λ c κs. search needs)  -- stage-after-requires
+    (λ c. search needs)  -- enum-known-after
+    (λ c. search needs)  -- enum-told-2
+    (λ c κs. c .before .before .before .before .before .before .before .before .before .before .before .loop .inv .0)  -- check-from-requires-2
+    (λ c. c .check-from2 .ensures)  -- returns-2
     (λ c. search needs)  -- slice-aggregate-close-line
-    (λ c κs. let t = c .before in let o = t .before .before .before .before .before .before in let e = o .before .before .before .before .before .before in let l = e .before .before in let h = l .lines .inv .3 in (t .before .loop .inv .parted, pass-done _ _ _ _ _ _ (t .before .loop .inv) (t .loop-test .left), (let w = l .lines .inv .0 .within .bodies in omega arith)))  -- close-line-requires
-    (λ c κs. let t = c .before .before .before .before in let o = t .before .before .before .before .before .before in let e = o .before .before .before .before .before .before in let l = e .before .before in let h = l .lines .inv .3 in within-more _ _ _ (l .lines .inv .0 .within) (omega (arith, e .before .lines-test .taken)))  -- after-line-requires
-    (λ c. let t = c .before .before .before .before .before in let o = t .before .before .before .before .before .before in let e = o .before .before .before .before .before .before in let l = e .before .before in let h = l .lines .inv .3 in omega (arith, e .plain-end .ensures .2, e .before .lines-test .taken))  -- add-at
-    (λ c. let t = c .before .before .before .before .before in let o = t .before .before .before .before .before .before in let e = o .before .before .before .before .before .before in let l = e .before .before in let h = l .lines .inv .3 in omega (arith, e .plain-end .ensures .1, e .plain-end .ensures .2, e .before .lines-test .taken))  -- lines-less
-    (λ c. let t = c .before .before .before .before .before in let o = t .before .before .before .before .before .before in let e = o .before .before .before .before .before .before in let l = e .before .before in (read-turn _ _ _ _ (e .before .lines-test .taken) (e .plain-end .ensures .0) (l .lines .inv .0) _ (o .before .ends-at .ensures) (o .open-line .result) (o .open-line .ensures) _ _ (t .before .before .before .before .kind .given .1) (pass-done _ _ _ _ _ _ (t .before .loop .inv) (t .loop-test .left)) (c .before .before .before .close-line .result) (c .before .before .before .close-line .ensures) (c .before .if2 .left) _ (c .after-line .ensures) (e .plain-end .ensures .1) (e .plain-end .ensures .2), closed-none _ _ _ _ (c .before .before .before .close-line .ensures) (c .before .if2 .left), o .before .before .before .split .ensures .2 ∙ l .lines .inv .2, l .lines .inv .3))  -- lines-again
-    (λ c κs. search needs)  -- stopped-requires
-    (λ c. let k = c .before in let l = k .before in ⊎-elim (λ w. read-done _ _ _ _ _ (l .lines .inv .0) (w .0 .left) (ap (λ f. f .code) (w .1 ∙ l .lines .inv .1)) (c .stopped .ensures)) (λ v. read-refused _ _ _ _ (⊎-elim (λ w. read-kept _ _ _ _ (w .11) (read-opened _ _ _ _ (w .0 .taken) (w .1 .ensures .0) (l .lines .inv .0) _ (w .6 .ensures) (w .7 .result) (w .7 .ensures) _ (w .9 .given .1))) (⊎-elim (λ w. read-kept _ _ _ _ (w .18 ∙ w .17 .ensures) (read-malformed _ _ _ _ (w .0 .taken) (w .1 .ensures .0) (l .lines .inv .0) _ (w .6 .ensures) (w .7 .result) (w .7 .ensures) _ _ (w .9 .given .1) _ _ _ (pass-stop _ _ _ _ _ _ (w .12 .inv) (w .13 .taken) _ (w .15 .ensures) (not-true _ (w .16 .taken))))) (λ w. read-kept _ _ _ _ (w .18) (read-closed _ _ _ _ (w .0 .taken) (w .1 .ensures .0) (l .lines .inv .0) _ (w .6 .ensures) (w .7 .result) (w .7 .ensures) _ _ (w .9 .given .1) (pass-done _ _ _ _ _ _ (w .12 .inv) (w .13 .left)) (w .15 .result) (w .15 .ensures) (w .17 .taken)))) v) (c .stopped .ensures)) (k .lines-test .came)))  -- returns
+    (λ c κs. let k = c .before .before .before .before .before .before .before in let p = k .before .before .before in let l = p .before .before .before in (passed-parted _ _ _ _ (p .pass-kind .ensures .1) _ _ (k .kind .given .1), passed-low _ _ _ _ (p .pass-kind .ensures .1) _ _ (k .kind .given .1), let w = l .loop .inv .0 .within .bodies in let h = l .loop .inv .2 in omega (arith, p .before .before .loop-test .taken)))  -- close-line-requires
+    (λ c κs. c .before .before .before .before .before .before .before .before .before .before .before .before .before .before .before .before .loop .inv .0)  -- check-from-requires-3
+    (λ c. c .check-from3 .ensures)  -- returns-3
+    (λ c. search needs)  -- slice-aggregate-after-line
+    (λ c κs. let k = c .before .before .before .before .before .before .before .before .before .before .before in let p = k .before .before .before in let l = p .before .before .before in let h = l .loop .inv .2 in (within-more _ _ _ (l .loop .inv .0 .within) (omega (arith, p .before .before .loop-test .taken)), passed-parted _ _ _ _ (p .pass-kind .ensures .1) _ _ (k .kind .given .1)))  -- after-line-requires
+    (λ c. let k = c .before .before .before .before .before .before .before .before .before .before .before .before in let p = k .before .before .before in let l = p .before .before .before in let h = l .loop .inv .2 in omega (arith, passed-inside _ _ _ _ (p .pass-kind .ensures .1) _ _ (k .kind .given .1)))  -- add-at
+    (λ c. let k = c .before .before .before .before .before .before .before .before .before .before .before .before in let p = k .before .before .before in let l = p .before .before .before in omega (arith, passed-forward _ _ _ _ (p .pass-kind .ensures .1) _ _ (k .kind .given .1), passed-inside _ _ _ _ (p .pass-kind .ensures .1) _ _ (k .kind .given .1), p .before .before .loop-test .taken))  -- loop-less
+    (λ c. let k = c .before .before .before .before .before .before .before .before .before .before .before .before in let p = k .before .before .before in let l = p .before .before .before in (passed-turn _ _ _ _ (p .pass-kind .ensures .1) _ _ (k .kind .given .1) _ (c .before .before .before .before .before .before .before .before .before .stage-after .result) (c .before .before .before .before .before .before .before .before .before .stage-after .ensures) _ (c .before .before .before .before .before .before .before .after .given .1) (p .before .before .loop-test .taken) (l .loop .inv .0) (c .before .before .before .before .close-line .result) (c .before .before .before .before .close-line .ensures) (c .before .before .if1 .left) _ (c .after-line .ensures), p .pass-kind .ensures .0 ∙ l .loop .inv .1, l .loop .inv .2))  -- loop-again
+    (λ c κs. search needs)  -- ended-requires
+    (λ c. read-done _ _ _ _ (c .before .before .loop .inv .0) (c .before .loop-test .left) (c .ended .ensures)))  -- returns-4
