@@ -1,10 +1,12 @@
 -- The laws of tags: where they differ they stand in the order of keys, and an even one is of one key only.
-use mathlib.Core.Path.{_≡_, refl, sym, ap, _∙_}
+use mathlib.Core.Path.{_≡_, refl, sym, ap, _∙_, subst}
 use mathlib.Core.Bool.{Bool, true, false, _&&_}
+use mathlib.Core.Option.{Option, none, some}
 use mathlib.Core.List.{List, [], _∷_}
-use Prim.Native.Nat.{ℕ, _+_, _-_, _*_, _%_, _≤_, _<_}
+use Prim.Native.Nat.{ℕ, _+_, _-_, _*_, _/_, _%_, _≤_, _<_}
 use native.Mathlib.Decide.{decLe}
 use native.Mathlib.Nat.{lt-of-not-le}
+use native.Mathlib.Numerals.{lt-of-le-of-ne}
 use native.Mathlib.Omega.{arith}
 use borrow.Author.Needs.{needs}
 use borrow.Author.Tests.{le-leb, lt-leb, eq-eqb, ne-eqb}
@@ -13,16 +15,19 @@ use mir.Val.{Fits}
 use lib.Dec.{eqb, eqb→eq}
 use lib.ListN.{getD}
 use Rattle.base.specs.Lists.{pick}
-use Rattle.theory.specs.Tri.{Tri, lt, eq, gt, flip}
+use Rattle.theory.specs.Tri.{Tri, lt, eq, gt, flip, isEq, isGt}
 use Rattle.theory.specs.Lex.{cmpN, Is, andThen, lex}
 use Rattle.theory.specs.LexLaws.{cmpN-is, lex-order}
+use Rattle.meaning.specs.Kinds.{Kind}
 use Rattle.meaning.specs.Records.{Rec}
 use Rattle.layout.specs.Rows.{laidOut}
 use Rattle.keys.specs.declared.Key.{Key}
-use Rattle.keys.specs.Numbers.{keyList, keyNumbers}
-use Rattle.keys.specs.Places.{numberAt}
+use Rattle.keys.specs.declared.Referred.the-variants.{To, Nothing}
+use Rattle.keys.specs.Numbers.{keyList, keyNumbers, referredAs, refAt}
+use Rattle.keys.specs.Places.{numberAt, emptyAt}
+use Rattle.keys.proofs.RowLaws.{ref-none, ref-some}
 use Rattle.entries.specs.Fields.{restNumbers}
-use Rattle.entries.specs.Tags.{span, looseness, tagBy, tagOf}
+use Rattle.entries.specs.Tags.{span, looseness, tagBy, tagOf, noTag, refTag, keyTagged, refTagged, Tells}
 use Rattle.entries.proofs.EntryLaws.{key-numbers}
 
 -- ---- a key that is more than its first two numbers
@@ -232,6 +237,14 @@ numbers r = record {
   are = key-numbers (r .kind) (r .content);
 }
 
+-- so it is one as code has it
+pub key-of : Rec → Key
+key-of r = record { kind = numbers r .kind; first = numbers r .first; second = numbers r .second; third = numbers r .third }
+
+pub key-of-is : (r : Rec) → keyList (key-of r) ≡ keyNumbers r
+unfolding key-of
+key-of-is r = sym (numbers r .are)
+
 module _ (its ours : ℕ) (k : Key) (r : Rec) (e : its ≡ tagOf (keyNumbers r)) (q : ours ≡ tagOf (keyList k)) where
   four : Four (keyNumbers r)
   four = numbers r
@@ -257,4 +270,57 @@ module _ (its ours : ℕ) (k : Key) (r : Rec) (e : its ≡ tagOf (keyNumbers r))
   pub tags-same : its ≤ ours → ours ≤ its → ours % 2 ≡ 0 → eq ≡ lex (keyList k) (keyNumbers r)
   tags-same h g z = sym (rw (four .are) (tag-one (k .kind) (four .kind) (k .first) (four .first) (k .second) (k .third) (four .second) (four .third) (omega (arith, its-is, ours-is)) (omega (arith, ours-is))))
 
+  -- so one that is not the higher tells that its key does not stand after
+  pub tags-not-after : ours ≤ its → ours % 2 ≡ 0 → isGt (lex (keyList k) (keyNumbers r)) ≡ false
+  tags-not-after h z = elim (decLe its ours) [ yes g ↦ ap isGt (sym (tags-same g h z)) | no g ↦ ap isGt (sym (tags-before (lt-of-not-le g))) ]
+
+  -- and two tags that they are not the same
+  pub tags-other : (its ≡ ours → ⊥) → false ≡ isEq (lex (keyList k) (keyNumbers r))
+  tags-other n = elim (decLe its ours) [ yes g ↦ ap isEq (tags-after (lt-of-le-of-ne g n)) | no g ↦ ap isEq (tags-before (lt-of-not-le g)) ]
+
 pub ruleset tagorder = (needs, tags-before, tags-after, tags-same)
+
+-- ---- of what is referred to
+
+-- the tag of no key says that nothing is
+pub untag-none : (v : ℕ) → v ≡ noTag → refTagged v ≡ Nothing
+unfolding refTagged
+untag-none v e = rw (eq-eqb v noTag e)
+
+-- another its key
+pub untag-some : (v : ℕ) → (v ≡ noTag → ⊥) → refTagged v ≡ To (keyTagged v)
+unfolding refTagged
+untag-some v n = rw (ne-eqb v noTag n)
+
+-- a tag says what is referred to
+pub record Untags (v : ℕ) (o : Option (List ℕ)) : Type 0 where
+  pub refers : referredAs (refTagged v) ≡ o
+  pub tells : Tells v
+
+-- that of nothing does
+untag-nothing : (v : ℕ) → v ≡ refTag none → Untags v none
+unfolding refTag
+untag-nothing v e = record { refers = ap referredAs (untag-none v e); tells = record { even = omega arith; tag = λ z. absurd (z e) } }
+
+-- and so does an even one of a key
+untag-key : (v k n c d : ℕ) → v ≡ refTag (some (k ∷ n ∷ c ∷ d ∷ [])) → v % 2 ≡ 0 → Untags v (some (k ∷ n ∷ c ∷ d ∷ []))
+unfolding refTag tagOf
+untag-key v k n c d g e =
+    let w = whole k n c d (rw g at e) in
+    let p : v / span ≡ k = omega (arith, w .told, w .first) in
+    let q : v % span / 2 ≡ n = omega (arith, w .told, w .first) in
+    let key : keyList (keyTagged v) ≡ k ∷ n ∷ c ∷ d ∷ [] = rw (p, q, w .rest .0, w .rest .1) in
+    record {
+      refers = ap referredAs (untag-some v (λ z. omega (arith, z, w .told, w .first, w .kind))) ∙ ap some key;
+      tells = record { even = e; tag = λ z. g ∙ ap tagOf (sym key) };
+    }
+
+-- so does one of what a row refers to
+pub untag-reference : (k : Kind) (c : List ℕ) (j v : ℕ) → j ≤ 1 → v ≡ refTag (refAt k c j) → v % 2 ≡ 0 → Untags v (refAt k c j)
+untag-reference k c j v h g e = go (emptyAt k c (getD (laidOut k .by) j 0)) refl
+  where
+    go : (b : Bool) → b ≡ emptyAt k c (getD (laidOut k .by) j 0) → Untags v (refAt k c j)
+    go true q = let o = ref-none k c j (laidOut k) refl h true q refl in subst (Untags v) o (untag-nothing v (g ∙ ap refTag (sym o)))
+    go false q =
+        let o = ref-some k c j (laidOut k) refl h false q (numberAt k c (getD (laidOut k .by) j 0)) refl refl in
+        subst (Untags v) o (untag-key v _ _ _ _ (g ∙ ap refTag (sym o)) e)

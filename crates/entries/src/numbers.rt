@@ -42,7 +42,7 @@ fn room(bytes: &[u8], at: usize) -> usize
 }
 
 // The value of the field at `at`, or of its first 16 bytes: digit by digit up to a comma, or by the field where another byte comes first.
-fn value_at(bytes: &[u8], at: usize) -> u64
+pub fn value_at(bytes: &[u8], at: usize) -> u64
     requires { ⌜ at ≤ length (now bytes) ⌝ }
     ensures { λ r. ⌜ r ≡ value (take 16 (firstField (lineAt (now (bytes .entry)) at))) ⌝ }
 {

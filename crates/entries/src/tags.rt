@@ -16,6 +16,9 @@ const FIRSTS: u64 = 36028797018963967;
 // The kinds that are told apart; those of the table have two digits.
 const KINDS: u64 = 255;
 
+// The tag of no key: even, and above those of all keys that have an even one.
+pub const NO_TAG: u64 = 18446744073709551614;
+
 // 0 where a key's second and third number are both 0, so that its first two are all of it.
 fn looseness(second: u64, third: u64) -> u64
     ensures { λ r. ⌜ (r ≡ looseness second third) × (r ≤ 1) ⌝ }

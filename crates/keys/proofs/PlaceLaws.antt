@@ -4,15 +4,15 @@ use mathlib.Core.Bool.{Bool, true, false}
 use mathlib.Core.List.{List, [], _∷_, _++_, map}
 use Prim.Native.Nat.{ℕ, zero, suc, _+_, _-_, _*_, _^_, _≤_, _<_}
 use native.Mathlib.Decide.{decLt}
-use native.Mathlib.Nat.{pow-suc}
+use native.Mathlib.Nat.{pow-suc, add-mul, mul-assoc, mul-comm}
 use native.Mathlib.Numerals.{add-one}
 use native.Mathlib.Omega.{arith}
 use borrow.Author.Needs.{needs}
 use borrow.Author.Tests.{lt-ltb, le-ltb}
 use lib.Dec.{ltb}
-use lib.ListN.{length, getD, take, length-map}
-use lib.Seq.{take-all, take-nil}
-use mir.Syntax.{w64}
+use lib.ListN.{length, getD, take, drop, length-map, length-take, length-drop}
+use lib.Seq.{take-all, take-nil, getD-take, getD-drop}
+use mir.Syntax.{w8, w64}
 use mir.Val.{Fits}
 use Rattle.base.specs.Lists.{pick, part}
 use Rattle.base.proofs.Walk.{at-cons, at-end}
@@ -104,6 +104,67 @@ pub text-ten-fits : (v i : ℕ) → v + 23 ≤ 23 * 10 ^ i → i < 15 → Fits w
 text-ten-fits v i h k = ten-fits v i 15 h k (omega arith)
 
 pub ruleset digits = (needs, text-start, text-over, text-letter, text-turn, text-done, worth-letter, worth-turn, text-fits, text-ten-fits)
+
+-- ---- a text's digits in two runs
+
+-- what stands before digits is worth ten times as much for each of them
+value-more : (a : ℕ) (t : List ℕ) → valueF a t ≡ a * 10 ^ length t + valueF 0 t
+unfolding valueF
+value-more a [] = omega arith
+value-more a (x ∷ t) =
+    let n = 10 ^ length t in
+    let d = x - 48 in
+    let p : (a * 10 + d) * n ≡ a * (n * 10) + d * n = add-mul (a * 10) d n ∙ ap (λ z. z + d * n) (mul-assoc a 10 n ∙ ap (λ z. a * z) (mul-comm 10 n)) in
+    let q : (0 * 10 + d) * n ≡ d * n = ap (λ z. z * n) (omega arith) in
+    let r : a * 10 ^ suc (length t) ≡ a * (n * 10) = ap (λ z. a * z) (pow-suc 10 (length t)) in
+    let u = value-more (a * 10 + d) t in
+    let v = value-more (0 * 10 + d) t in
+    omega (arith, p, q, r, u, v)
+
+-- two runs are worth the first, moved on, and the second
+value-two : (a : ℕ) (s t : List ℕ) → valueF a (s ++ t) ≡ valueF a s * 10 ^ length t + valueF 0 t
+unfolding valueF
+value-two a [] t = value-more a t
+value-two a (x ∷ s) t = value-two (a * 10 + (x - 48)) s t
+
+-- a run of bytes is worth less than 23 * 10 ^ its length
+value-least : (v i : ℕ) (t : List ℕ) → ((j : ℕ) → j < length t → getD t j 0 - 48 ≤ 207) → v + 23 ≤ 23 * 10 ^ i → valueF v t + 23 ≤ 23 * 10 ^ (i + length t)
+unfolding valueF
+value-least v i [] b h = let z : i + 0 ≡ i = omega arith in rw z h
+value-least v i (x ∷ t) b h =
+    let z : i + suc (length t) ≡ i + 1 + length t = omega arith in
+    rw z (value-least (v * 10 + (x - 48)) (i + 1) t (λ j l. b (suc j) (omega arith)) (worth-turn v i (x - 48) h (b 0 (omega arith))))
+
+module _ (f : List ℕ) (b : (i : ℕ) → Fits w8 (getD f i 0)) where
+  -- so is a part
+  part-least : (a e : ℕ) → a ≤ e → e ≤ length f → value (part f a e) + 23 ≤ 23 * 10 ^ (e - a)
+  unfolding value part
+  part-least a e h k =
+      let z : 0 + length (part f a e) ≡ e - a = omega (arith, length-take (e - a) (drop a f), length-drop a f) in
+      rw z at (value-least 0 0 (part f a e) (λ j l. worth j (omega (arith, length-take (e - a) (drop a f)))) (omega arith))
+    where
+      worth : (j : ℕ) → j < e - a → getD (part f a e) j 0 - 48 ≤ 207
+      worth j l = rw (getD-take (e - a) (drop a f) j 0 l, getD-drop a f j 0) (omega (arith, b (a + j)))
+
+  module _ (h : length f ≡ 16) (v : ℕ) (p : v ≡ value (take (5 - 1) (drop 1 f))) where
+    -- four of them, moved on by nine, fit
+    pub four-fits : Fits w64 (v * 1000000000)
+    unfolding part
+    four-fits = omega (arith, part-least 1 5 (omega arith) (omega arith))
+
+    -- and nine more
+    pub nine-fits : (w : ℕ) → w ≡ value (take (15 - 6) (drop 6 f)) → Fits w64 (v * 1000000000 + w)
+    unfolding part
+    nine-fits w q = omega (arith, part-least 1 5 (omega arith) (omega arith), part-least 6 15 (omega arith) (omega arith))
+
+-- a text's number is that of both runs
+pub text-two : (f : List ℕ) (v w : ℕ) → length f ≡ 16 → v ≡ value (take (5 - 1) (drop 1 f)) → w ≡ value (take (15 - 6) (drop 6 f)) → v * 1000000000 + w ≡ value (digitsIn f)
+unfolding value digitsIn part
+text-two f v w h p q =
+    let z : length (part f 6 15) ≡ 9 = omega (arith, length-take 9 (drop 6 f), length-drop 6 f) in
+    rw (p, q) (sym (value-two 0 (part f 1 5) (part f 6 15) ∙ rw z))
+
+pub ruleset runs = (needs, four-fits, nine-fits, text-two)
 
 -- ---- a field's number
 

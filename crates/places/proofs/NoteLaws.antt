@@ -3,7 +3,7 @@ use mathlib.Core.Path.{_≡_, refl, sym, ap, _∙_, subst}
 use mathlib.Core.Bool.{Bool, true, false}
 use mathlib.Core.Option.{Option, none, some}
 use mathlib.Core.List.{List, [], _∷_, _++_}
-use Prim.Native.Nat.{ℕ, zero, suc, _+_, _-_, _≤_, _<_}
+use Prim.Native.Nat.{ℕ, zero, suc, _+_, _-_, _%_, _≤_, _<_}
 use native.Mathlib.Omega.{arith}
 use native.Mathlib.Numerals.{add-one}
 use borrow.Author.Needs.{needs}
@@ -24,9 +24,12 @@ use Rattle.meaning.specs.Records.{Rec}
 use Rattle.keys.specs.declared.Key.{Key}
 use Rattle.keys.specs.declared.Referred.{Referred}
 use Rattle.keys.specs.declared.Referred.the-variants.{To, Nothing}
-use Rattle.keys.specs.Numbers.{keyList, referredAs, refNumbers, numbered}
+use Rattle.keys.specs.Numbers.{keyList, keyNumbers, referredAs, refAt, refNumbers, numbered}
+use Rattle.keys.specs.KeyLaws.{refs-are}
 use Rattle.entries.specs.declared.references.Named.{Named}
 use Rattle.entries.specs.References.{RefersAs}
+use Rattle.entries.specs.Tags.{tagOf, keyTagged, refTagged, noTag, Tells, TagsOf}
+use Rattle.entries.proofs.TagLaws.{tags-same, tags-other, untag-none, untag-some, Untags, untag-reference, key-of, key-of-is}
 use Rattle.places.specs.Places.{says, metBy}
 use Rattle.places.specs.Counts.{moved, Movable, noted, notedAll, Open, NotesOne, Notes}
 use Rattle.places.proofs.SearchLaws.{stands-in}
@@ -154,3 +157,88 @@ module _ (up : Bool) (st : List Rec) (x : Rec) (r : Named) (e : RefersAs x r) (t
           go (some k) = unfold notedAll in refl
 
 pub ruleset noting = (needs, not-true, not-false, first-open, note-first, second-open, note-second)
+
+-- ---- by tags
+
+module _ (h f a t : List ℕ) (n : ℕ) (x : Rec) (own v : ℕ) (e : own ≡ tagOf (keyNumbers x)) (w : Tells v) where
+  -- nothing is met, and nothing counted
+  pub note-no-tag : v ≡ noTag → NotesOne true (says h f a n) (keyNumbers x) (referredAs (refTagged v)) t t true
+  note-no-tag z = note-nothing true h f a n (keyNumbers x) t (refTagged v) (untag-none v z)
+
+  module _ (z : v ≡ noTag → ⊥) where
+    -- its own key is not met
+    pub note-own-tag : v ≡ own → NotesOne true (says h f a n) (keyNumbers x) (referredAs (refTagged v)) t t false
+    note-own-tag o = note-own true h f a n (keyNumbers x) t (refTagged v) (keyTagged v) (untag-some v z) true (ap isEq (tags-same own v (keyTagged v) x e (w .tag z) (omega arith) (omega arith) (w .even))) refl
+
+    module _ (o : v ≡ own → ⊥) where
+      -- another tag is of another key
+      other : false ≡ isEq (lex (keyList (keyTagged v)) (keyNumbers x))
+      other = tags-other own v (keyTagged v) x e (w .tag z) (λ q. o (sym q))
+
+      module _ (c : Bool) (s : c ≡ some? (get numbered (keyList (keyTagged v)) (says h f a n))) where
+        -- one whose key stands nowhere isn't
+        pub note-tag-unmet : c ≡ false → NotesOne true (says h f a n) (keyNumbers x) (referredAs (refTagged v)) t t false
+        note-tag-unmet y = note-unmet true h f a n (keyNumbers x) t (refTagged v) (keyTagged v) (untag-some v z) false other refl c s y
+
+        module _ (y : c ≡ true) (i : ℕ) (r : i ≡ rank numbered (keyList (keyTagged v)) (says h f a n)) where
+          -- the place of one whose key stands is among the entries
+          pub note-tag-in : n ≤ length a → n ≤ length t → i < length t
+          note-tag-in l m = note-in true h f a n (keyNumbers x) t (refTagged v) (keyTagged v) (untag-some v z) false other refl c s y i r l m
+
+          -- its count can be moved
+          pub note-tag-movable : Open true (says h f a n) t (cons? (referredAs (refTagged v)) []) → Movable true (getD t i 0)
+          note-tag-movable u = note-movable true h f a n (keyNumbers x) t (refTagged v) (keyTagged v) (untag-some v z) false other refl c s y i r u
+
+          -- and is
+          pub note-tag-met : (m : ℕ) → m ≡ moved true 1 (getD t i 0) → NotesOne true (says h f a n) (keyNumbers x) (referredAs (refTagged v)) t (set t i m) true
+          note-tag-met m u = note-met true h f a n (keyNumbers x) t (refTagged v) (keyTagged v) (untag-some v z) false other refl c s y i r m u
+
+pub ruleset notetag = (needs, not-true, not-false, note-no-tag, note-own-tag, note-tag-unmet, note-tag-in, note-tag-movable, note-tag-met)
+
+-- ---- a record's, by tags
+
+module _ (x : Rec) (own first second : ℕ) (e : TagsOf x own first second) (y₁ : first % 2 ≡ 0) (y₂ : second % 2 ≡ 0) where
+  firsts : Untags first (refAt (x .kind) (x .content) 0)
+  firsts = untag-reference (x .kind) (x .content) 0 first (omega arith) (e .first) y₁
+
+  seconds : Untags second (refAt (x .kind) (x .content) 1)
+  seconds = untag-reference (x .kind) (x .content) 1 second (omega arith) (e .second) y₂
+
+  -- as if they had been read
+  abbrev read : Named
+  read = record { own = key-of x; first = refTagged first; second = refTagged second }
+
+  reads : RefersAs x read
+  reads = record { own = key-of-is x; refs = rw (firsts .refers, seconds .refers) (sym (refs-are x)) }
+
+  -- what is kept tells
+  pub first-tells : Tells first
+  first-tells = firsts .tells
+
+  -- of both
+  pub second-tells : Tells second
+  second-tells = seconds .tells
+
+  module _ (st : List Rec) (t : List ℕ) where
+    -- the first can be counted where both can
+    pub first-tag-open : Open true st t (refNumbers x) → Open true st t (cons? (referredAs (refTagged first)) [])
+    first-tag-open o = first-open true st x read reads t o
+
+    module _ (u : List ℕ) (b : Bool) (w : NotesOne true st (keyNumbers x) (referredAs (refTagged first)) t u b) where
+      noted-read : NotesOne true st (keyList (key-of x)) (referredAs (refTagged first)) t u b
+      noted-read = rw (key-of-is x) w
+
+      -- a first that is not met says it
+      pub note-first-tag : b ≡ false → Notes true st x t u false
+      note-first-tag f = note-first true st x read reads t u b noted-read f
+
+      module _ (y : b ≡ true) where
+        -- after the first the second can be counted
+        pub second-tag-open : Open true st t (refNumbers x) → Open true st u (cons? (referredAs (refTagged second)) [])
+        second-tag-open o = second-open true st x read reads t u b noted-read y o
+
+        -- and it says the rest
+        pub note-second-tag : (v : List ℕ) (c : Bool) → NotesOne true st (keyNumbers x) (referredAs (refTagged second)) u v c → Notes true st x t v c
+        note-second-tag v c g = note-second true st x read reads t u b noted-read y v c (rw (key-of-is x) g)
+
+pub ruleset notetags = (needs, not-true, not-false, first-tells, second-tells, first-tag-open, note-first-tag, second-tag-open, note-second-tag)

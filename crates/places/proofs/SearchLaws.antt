@@ -20,9 +20,10 @@ use Rattle.theory.specs.Rank.{ahead, rank, ranks}
 use Rattle.theory.specs.RankLaws.{rank-scan, rank-stop, ahead-before}
 use Rattle.text.specs.declared.order.Order.{Order}
 use Rattle.text.specs.Order.{triOf}
-use Rattle.keys.specs.Numbers.{keyNumbers, numbered}
+use Rattle.keys.specs.Numbers.{keyList, keyNumbers, numbered}
 use Rattle.entries.specs.Entries.{recordOf}
-use Rattle.entries.specs.Tags.{tagOf}
+use Rattle.entries.specs.Tags.{tagOf, keyTagged, noTag, Tells}
+use Rattle.entries.proofs.TagLaws.{tags-after, tags-same, tags-not-after, tags-other}
 use Rattle.places.specs.Places.{says}
 use Rattle.places.specs.Ordered.{Ordered}
 use Rattle.places.proofs.SaysLaws.{length-says, says-at, says-split}
@@ -43,12 +44,11 @@ module _ (h f a t : List ℕ) (n : ℕ) (k : List ℕ) (w : Ordered h f a t n) w
   unfolding rank
   placing-start = record { below = tt; beyond = rw (drop-of-length-le (says h f a n) {i = n} (omega (arith, length-says h f a n (w .within)))); order = omega arith; within = omega arith }
 
-  module _ (low high mid : ℕ) (o p : Order) (g : Placing h f a n k low high) (y : low < high) (m : mid ≡ low + (high - low) / 2)
-      (u : triOf o ≡ lex k (keyNumbers (recordOf h f (getD a mid 0)))) (q : o ≡ p) where
+  module _ (low high mid : ℕ) (g : Placing h f a n k low high) (y : low < high) (m : mid ≡ low + (high - low) / 2) where
     -- a record in the middle that stands before the key leaves the upper half
-    pub placing-up : triOf p ≡ gt → Placing h f a n k (mid + 1) high
-    placing-up z =
-        let b : T (ahead numbered k (recordOf h f (getD a mid 0))) = unfold ahead in rw (← u, q, z) tt in
+    upper : lex k (keyNumbers (recordOf h f (getD a mid 0))) ≡ gt → Placing h f a n k (mid + 1) high
+    upper z =
+        let b : T (ahead numbered k (recordOf h f (getD a mid 0))) = unfold ahead in rw z tt in
         let before = ahead-before numbered k (take mid (says h f a n)) (recordOf h f (getD a mid 0)) (drop (suc mid) (says h f a n)) (subst (Asc numbered) (says-split h f a n (w .within) mid (omega (arith, g .within))) (ordered-asc h f a t n w)) b in
         record { below = rw more (all-snoc (ahead numbered k) (take mid (says h f a n)) (recordOf h f (getD a mid 0)) before b); beyond = g .beyond; order = omega arith; within = g .within }
       where
@@ -58,15 +58,23 @@ module _ (h f a t : List ℕ) (n : ℕ) (k : List ℕ) (w : Ordered h f a t n) w
             take-add mid 1 (says h f a n) ∙ rw e
 
     -- any other the lower half
-    pub placing-down : isGt (triOf p) ≡ false → Placing h f a n k low mid
-    placing-down z =
-        let b : T (not (ahead numbered k (recordOf h f (getD a mid 0)))) = unfold ahead in rw (← u, q, z) tt in
+    lower : isGt (lex k (keyNumbers (recordOf h f (getD a mid 0)))) ≡ false → Placing h f a n k low mid
+    lower z =
+        let b : T (not (ahead numbered k (recordOf h f (getD a mid 0)))) = unfold ahead in rw z tt in
         record {
           below = g .below;
           beyond = rw (says-at h f a n (w .within) mid (omega (arith, g .within))) (rank-stop numbered k (recordOf h f (getD a mid 0)) (drop (suc mid) (says h f a n)) b);
           order = omega arith;
           within = omega (arith, g .within);
         }
+
+    module _ (o p : Order) (u : triOf o ≡ lex k (keyNumbers (recordOf h f (getD a mid 0)))) (q : o ≡ p) where
+      -- so it goes by what is told of it
+      pub placing-up : triOf p ≡ gt → Placing h f a n k (mid + 1) high
+      placing-up z = upper (sym u ∙ ap triOf q ∙ z)
+
+      pub placing-down : isGt (triOf p) ≡ false → Placing h f a n k low mid
+      placing-down z = lower (ap isGt (sym u ∙ ap triOf q) ∙ z)
 
   -- where the two meet is the key's place
   pub placing-done : (low high : ℕ) → Placing h f a n k low high → high ≤ low → low ≡ rank numbered k (says h f a n)
@@ -129,17 +137,50 @@ module _ (h f a : List ℕ) (n i : ℕ) (k : List ℕ) (l : n ≤ length a) (r :
   pub stands-in : (b : Bool) → b ≡ some? (get numbered k (says h f a n)) → b ≡ true → i < n
   stands-in b e t = elim (decLe n i) [ yes m ↦ absurd (subst T (sym t ∙ e ∙ sym (stands-past m)) tt) | no m ↦ lt-of-not-le m ]
 
-  -- else it stands where the entry at its place has it
-  pub stands-at : (b : Bool) (o p : Order) → i < n → triOf o ≡ lex k (keyNumbers (recordOf h f (getD a i 0))) → o ≡ p → b ≡ isEq (triOf p) → b ≡ some? (get numbered k (says h f a n))
-  unfolding get gets
-  stands-at b o p m u q v =
-      let d : drop (rank numbered k (says h f a n)) (says h f a n) ≡ recordOf h f (getD a i 0) ∷ drop (suc i) (says h f a n) = rw (← r) (says-at h f a n l i m) in
-      let w : T (not (isGt (lex k (keyNumbers (recordOf h f (getD a i 0)))))) = subst (Stops numbered k) d (get-rank numbered k (says h f a n) .1) in
-      v ∙ rw (← q, u) (sym (ap some? (get-rank numbered k (says h f a n) .0) ∙ rw d (go (lex k (keyNumbers (recordOf h f (getD a i 0)))) w)))
-    where
-      go : (c : Tri) → T (not (isGt c)) → some? (gets numbered c (recordOf h f (getD a i 0)) (get numbered k (drop (suc i) (says h f a n)))) ≡ isEq c
-      go lt t = refl
-      go eq t = refl
-      go gt t = absurd t
+  module _ (b : Bool) (m : i < n) where
+    -- else it stands where the entry at its place has it
+    stands-by : b ≡ isEq (lex k (keyNumbers (recordOf h f (getD a i 0)))) → b ≡ some? (get numbered k (says h f a n))
+    unfolding get gets
+    stands-by v =
+        let d : drop (rank numbered k (says h f a n)) (says h f a n) ≡ recordOf h f (getD a i 0) ∷ drop (suc i) (says h f a n) = rw (← r) (says-at h f a n l i m) in
+        let w : T (not (isGt (lex k (keyNumbers (recordOf h f (getD a i 0)))))) = subst (Stops numbered k) d (get-rank numbered k (says h f a n) .1) in
+        v ∙ sym (ap some? (get-rank numbered k (says h f a n) .0) ∙ rw d (go (lex k (keyNumbers (recordOf h f (getD a i 0)))) w))
+      where
+        go : (c : Tri) → T (not (isGt c)) → some? (gets numbered c (recordOf h f (getD a i 0)) (get numbered k (drop (suc i) (says h f a n)))) ≡ isEq c
+        go lt t = refl
+        go eq t = refl
+        go gt t = absurd t
+
+    -- as is told of it
+    pub stands-at : (o p : Order) → triOf o ≡ lex k (keyNumbers (recordOf h f (getD a i 0))) → o ≡ p → b ≡ isEq (triOf p) → b ≡ some? (get numbered k (says h f a n))
+    stands-at o p u q v = stands-by (v ∙ ap isEq (ap triOf (sym q) ∙ u))
 
 pub ruleset standing = (needs, stands-past, stands-at, tagged-in, tagged-at)
+
+-- ---- by an even tag
+
+module _ (h f a t : List ℕ) (n v : ℕ) (w : Ordered h f a t n) (e : Tells v) (z : v ≡ noTag → ⊥) where
+  module _ (low high mid : ℕ) (g : Placing h f a n (keyList (keyTagged v)) low high) (y : low < high) (m : mid ≡ low + (high - low) / 2) where
+    mid-told : getD t mid 0 ≡ tagOf (keyNumbers (recordOf h f (getD a mid 0)))
+    mid-told = tagged-at h f a t n w mid (omega (arith, g .within))
+
+    -- a lower tag in the middle leaves the upper half
+    pub tagged-up : getD t mid 0 < v → Placing h f a n (keyList (keyTagged v)) (mid + 1) high
+    tagged-up o = upper h f a t n (keyList (keyTagged v)) w low high mid g y m (sym (tags-after (getD t mid 0) v (keyTagged v) _ mid-told (e .tag z) o))
+
+    -- any other the lower half
+    pub tagged-down : v ≤ getD t mid 0 → Placing h f a n (keyList (keyTagged v)) low mid
+    tagged-down o = lower h f a t n (keyList (keyTagged v)) w low high mid g y m (tags-not-after (getD t mid 0) v (keyTagged v) _ mid-told (e .tag z) o (e .even))
+
+  module _ (i : ℕ) (r : i ≡ rank numbered (keyList (keyTagged v)) (says h f a n)) (m : i < n) where
+    -- the tag at the key's place is the key's
+    pub tagged-stands : getD t i 0 ≡ v → true ≡ some? (get numbered (keyList (keyTagged v)) (says h f a n))
+    tagged-stands o = stands-by h f a n i (keyList (keyTagged v)) (w .within) r true m (ap isEq (tags-same (getD t i 0) v (keyTagged v) _ (tagged-at h f a t n w i m) (e .tag z) (omega arith) (omega arith) (e .even)))
+
+    -- or another's
+    pub tagged-other : (getD t i 0 ≡ v → ⊥) → false ≡ some? (get numbered (keyList (keyTagged v)) (says h f a n))
+    tagged-other o = stands-by h f a n i (keyList (keyTagged v)) (w .within) r false m (tags-other (getD t i 0) v (keyTagged v) _ (tagged-at h f a t n w i m) (e .tag z) o)
+
+pub ruleset tagplacing = (needs, placing-start, tagged-up, tagged-down, placing-done, placing-in, mid-tag-in)
+
+pub ruleset tagstanding = (needs, stands-past, tagged-stands, tagged-other, tagged-in)

@@ -1,19 +1,24 @@
 // How often the records in force refer to each of them: counts beside the entries, so that a delete need look at one number only.
 ghost use mathlib.Core.Path.{_≡_};
+ghost use mathlib.Core.Bool.{true};
 ghost use mathlib.Core.List.{[]};
-ghost use Prim.Native.Nat.{_≤_, _<_};
+ghost use Prim.Native.Nat.{_≤_, _<_, _%_};
 ghost use lib.ListN.{length, take};
 ghost use Rattle.base.specs.Lists.{zeros};
 ghost use Rattle.theory.specs.Store.{cons?};
-ghost use Rattle.keys.specs.Numbers.{keyList, referredAs, refNumbers};
+ghost use Rattle.keys.specs.Numbers.{keyList, keyNumbers, referredAs, refNumbers};
 ghost use Rattle.entries.specs.Entries.{recordOf};
+ghost use Rattle.entries.specs.Tags.{tagOf, refTagged, Tells, TagsOf};
 ghost use Rattle.places.specs.Places.{says, opened, closed};
 ghost use Rattle.places.specs.Counts.{moved, Movable, Open, NotesOne, Notes};
 ghost use Rattle.places.specs.Ordered.{Ordered};
 use crate::search::place;
+use crate::search::place_tagged;
 use crate::search::stands;
+use crate::search::stands_tagged;
 use entries::references::is_same_key;
 use entries::references::references;
+use entries::tags::NO_TAG;
 use keys::Key;
 use keys::Referred;
 
@@ -137,5 +142,77 @@ pub fn note(
         own,
         second,
         up,
+    )
+}
+
+// Whether what an even tag says is referred to is met, by the record of an entry whose own tag is given, and if so counts it in.
+fn note_tagged(
+    holding: &[u8],
+    file: &[u8],
+    places: &[u64],
+    tags: &[u64],
+    counts: &mut [u16],
+    count: usize,
+    entry: u64,
+    own: u64,
+    to: u64,
+) -> bool
+    requires { ⌜ Ordered (now holding) (now file) (now places) (now tags) count × (count ≤ length (now counts)) × Open true (says (now holding) (now file) (now places) count) (now counts) (cons? (referredAs (refTagged to)) []) × (own ≡ tagOf (keyNumbers (recordOf (now holding) (now file) entry))) × Tells to ⌝ }
+    ensures { λ r. ⌜ NotesOne true (says (now (holding .entry)) (now (file .entry)) (now (places .entry)) count) (keyNumbers (recordOf (now (holding .entry)) (now (file .entry)) entry)) (referredAs (refTagged to)) (now (counts .entry)) (now (counts .exit)) r ⌝ }
+{
+    if to == NO_TAG {
+        return true;
+    }
+    if to == own {
+        return false;
+    }
+    let i = place_tagged(holding, file, places, tags, count, to);
+    if !stands_tagged(holding, file, places, tags, count, i, to) {
+        return false;
+    }
+    let old = counts[i];
+    counts[i] = moved(old, true);
+    true
+}
+
+// Whether the references of an entry's record are met, by its own tag and by theirs, which are even; and if so counts them in.
+pub fn note_tags(
+    holding: &[u8],
+    file: &[u8],
+    places: &[u64],
+    tags: &[u64],
+    counts: &mut [u16],
+    count: usize,
+    entry: u64,
+    own: u64,
+    first: u64,
+    second: u64,
+) -> bool
+    requires { ⌜ Ordered (now holding) (now file) (now places) (now tags) count × (count ≤ length (now counts)) × Open true (says (now holding) (now file) (now places) count) (now counts) (refNumbers (recordOf (now holding) (now file) entry)) × TagsOf (recordOf (now holding) (now file) entry) own first second × (first % 2 ≡ 0) × (second % 2 ≡ 0) ⌝ }
+    ensures { λ r. ⌜ Notes true (says (now (holding .entry)) (now (file .entry)) (now (places .entry)) count) (recordOf (now (holding .entry)) (now (file .entry)) entry) (now (counts .entry)) (now (counts .exit)) r ⌝ }
+{
+    if !note_tagged(
+        holding,
+        file,
+        places,
+        tags,
+        &mut *counts,
+        count,
+        entry,
+        own,
+        first,
+    ) {
+        return false;
+    }
+    note_tagged(
+        holding,
+        file,
+        places,
+        tags,
+        &mut *counts,
+        count,
+        entry,
+        own,
+        second,
     )
 }

@@ -8,7 +8,7 @@ ghost use Rattle.theory.specs.Lex.{lex};
 ghost use Rattle.text.specs.Order.{triOf};
 ghost use Rattle.keys.specs.Numbers.{keyList, keyNumbers, numbered};
 ghost use Rattle.entries.specs.Entries.{recordOf};
-ghost use Rattle.entries.specs.Tags.{tagOf};
+ghost use Rattle.entries.specs.Tags.{tagOf, keyTagged, noTag, Tells};
 ghost use Rattle.places.specs.Places.{says};
 ghost use Rattle.places.specs.Ordered.{Ordered};
 use entries::key::against;
@@ -81,4 +81,51 @@ pub fn stands(
         Order::Same => true,
         Order::After => false,
     }
+}
+
+// Where the key of an even tag stands among the first `count` entries, or would stand: tags alone tell.
+pub fn place_tagged(
+    holding: &[u8],
+    file: &[u8],
+    places: &[u64],
+    tags: &[u64],
+    count: usize,
+    ours: u64,
+) -> usize
+    requires { ⌜ Ordered (now holding) (now file) (now places) (now tags) count × Tells ours × (ours ≡ noTag → ⊥) ⌝ }
+    ensures { λ r. ⌜ (r ≡ rank numbered (keyList (keyTagged ours)) (says (now (holding .entry)) (now (file .entry)) (now (places .entry)) count)) × (r ≤ count) ⌝ }
+{
+    let mut low = 0;
+    let mut high = count;
+    while low < high {
+        let mid = low + (high - low) / 2;
+        if tags[mid] < ours {
+            low = mid + 1;
+            continue;
+        }
+        high = mid;
+    }
+    low
+}
+
+// Whether that key stands at its place i.
+pub fn stands_tagged(
+    holding: &[u8],
+    file: &[u8],
+    places: &[u64],
+    tags: &[u64],
+    count: usize,
+    i: usize,
+    ours: u64,
+) -> bool
+    requires { ⌜ Ordered (now holding) (now file) (now places) (now tags) count × Tells ours × (ours ≡ noTag → ⊥) × (i ≡ rank numbered (keyList (keyTagged ours)) (says (now holding) (now file) (now places) count)) ⌝ }
+    ensures { λ r. ⌜ r ≡ some? (get numbered (keyList (keyTagged ours)) (says (now (holding .entry)) (now (file .entry)) (now (places .entry)) count)) ⌝ }
+{
+    if count <= i {
+        return false;
+    }
+    if tags[i] == ours {
+        return true;
+    }
+    false
 }

@@ -1,9 +1,5 @@
 -- `keys::numbers::text_number` meets its contract.
-use Rattle.keys.proofs.PlaceLaws.{digits, digitsLeft}
-use Prim.Native.Nat.{_+_, _-_, _*_, _^_, _≤_}
-use mathlib.Core.Path.{_≡_}
-use Rattle.theory.specs.Decimal.{value, valueF}
-use Rattle.keys.specs.Numbers.{digitsIn}
+use Rattle.keys.proofs.PlaceLaws.{runs}
 use Rattle.keys.proofs.numbers.text_number.Statement.{statement}
 use Rattle.keys.proofs.numbers.text_number.Tie as tie
 
@@ -11,18 +7,16 @@ pub text-number-spec : {M : Type 1} → statement M
 text-number-spec =
     tie.close
     (tie.spec
-    (λ f v₀ i₀ v i. (valueF v (digitsLeft f i) ≡ value (digitsIn f)) × (v + 23 ≤ 23 * 10 ^ i) × (i ≤ 15))
-    (λ f v₀ i₀ v i. 15 - i)
-    (λ c. search digits)  -- loop-holds
-    (λ c. search digits)  -- returns
-    (λ c. search digits)  -- add-i
-    (λ c. search digits)  -- loop-less
-    (λ c. search digits)  -- loop-again
-    (λ c. search digits)  -- mul-v
-    (λ c. search digits)  -- shared-slice-read-digit
-    (λ c κs. search digits)  -- digit-requires
-    (λ c. search digits)  -- add-v
-    (λ c. search digits)  -- add-i-2
-    (λ c. search digits)  -- loop-less-2
-    (λ c. search digits)  -- loop-again-2
-    (λ c. search digits))  -- returns-2
+    (λ c. search runs)  -- sub-value
+    (λ c. search runs)  -- part-value-start
+    (λ c. search runs)  -- part-value-end
+    (λ c κs. search runs)  -- value-requires
+    (λ c. search runs)  -- mul-result
+    (λ c. search runs)  -- sub-value-2
+    (λ c. search runs)  -- part-value-start-2
+    (λ c. search runs)  -- part-value-end-2
+    (λ c κs. search runs)  -- value-requires-2
+    (λ c. search runs)  -- add-result
+    (λ c. search runs)  -- returns
+    (λ c κs. search runs)  -- digits-number-requires
+    (λ c. search runs))  -- returns-2

@@ -1,0 +1,4 @@
+pub mod PassedLaws
+pub mod KeyLaws
+pub mod StartLaws
+pub mod TagLaws
