@@ -3,18 +3,19 @@ use mathlib.Core.Path.{_≡_, refl, sym, ap, _∙_}
 use mathlib.Core.Bool.{Bool, true, false}
 use mathlib.Core.Option.{Option, none, some}
 use mathlib.Core.List.{List, [], _∷_, _++_, map}
-use Prim.Native.Nat.{ℕ, _+_, _-_}
+use Prim.Native.Nat.{ℕ, _+_, _-_, _≤_, _<_}
 use native.Mathlib.Nat.{sub-zero}
 use native.Mathlib.Omega.{arith}
 use borrow.Author.Needs.{needs}
 use borrow.Author.Tests.{not-true, not-false}
+use lib.Dec.{leb, leb→le}
 use lib.ListN.{length, getD, take, drop}
 use Rattle.base.specs.Lists.{pick, ask, same, keepIf, bytes}
 use Rattle.theory.specs.Decimal.{dec, width}
 use Rattle.theory.specs.DecimalLaws.{length-dec}
 use Rattle.theory.specs.Step.{ins}
 use Rattle.meaning.specs.Lines.{Line, endsWell, fieldsOf, identifier, hasFields}
-use Rattle.meaning.specs.Kinds.{Kind, role}
+use Rattle.meaning.specs.Kinds.{Kind, kinds, role}
 use Rattle.meaning.specs.Format.{kindOf, named, fieldNumber, startDate, endDate}
 use Rattle.meaning.specs.Table.{fields, scottish}
 use Rattle.meaning.specs.Codes.{fieldCountWrong, endBeforeStart}
@@ -23,7 +24,9 @@ use Rattle.meaning.specs.Answers.{ofLine, ofField}
 use Rattle.meaning.specs.Sound.{datesAgree, fieldFault, formFault}
 use Rattle.meaning.specs.Records.{contentOf, letter}
 use Rattle.meaning.specs.Holding.{isHeld, isSound, heldTest, heldKind, heldLine}
+use Rattle.laws.specs.Kinds.{every}
 use Rattle.text.specs.Front.{inFront}
+use Rattle.text.proofs.FieldLaws.{fields-many}
 use Rattle.text.proofs.NumberLaws.{width-most}
 use Rattle.answers.specs.declared.refusal.Fault.{Fault}
 use Rattle.layout.specs.declared.kinds.Kind as code
@@ -31,9 +34,10 @@ use Rattle.layout.specs.declared.kinds.KindFound.{KindFound}
 use Rattle.layout.specs.declared.kinds.KindFound.the-variants.{Known, Unknown}
 use Rattle.layout.specs.Meant.{kindMeant, kindFound}
 use Rattle.layout.specs.Rows.{bare}
-use Rattle.layout.specs.Check.{lowestBad, firstOf, told}
-use Rattle.layout.proofs.CheckLaws.{forms-is, bad-coded}
+use Rattle.layout.specs.Check.{lowestBad, firstOf, kindDates, Parted, told}
+use Rattle.layout.proofs.CheckLaws.{forms-is, bad-coded, fault-is, early-there, early-room}
 use Rattle.holding.specs.Held.{heldKindAs, heldAs, recordAs}
+use Rattle.holding.proofs.RunningLaws.{order-digits}
 
 -- ---- the line's own number
 
@@ -102,6 +106,25 @@ module _ (n : ℕ) (k : Kind) (t : List ℕ) (a : Bool) (p : a ≡ isHeld (role 
       pass-number v e w c x = rw (sym p ∙ u, no-code k t f q z, sym lettered ∙ v, ← w) x
 
 pub ruleset passing = (needs, not-true, not-false, pass-kind, pass-form, pass-letter, pass-number)
+
+-- ---- the tests of a line that was passed
+
+module _ (k : Kind) (t a : List ℕ) (u : Parted k t a) where
+  -- where its dates agree it is sound
+  sound-noted : none ≡ lowestBad 1 (map bare (fields k)) (fieldsOf t) → kindDates k (fieldsOf t) ≡ true → isSound (formFault scottish k t none) ≡ true
+  unfolding ask isSound
+  sound-noted w z = rw (fault-is k t none, ← u .many, ← w, z)
+
+  -- one that passes each test is held
+  pub noted-held : none ≡ lowestBad 1 (map bare (fields k)) (fieldsOf t) → (n : ℕ) (c : Bool) → c ≡ isHeld (role k) → c ≡ true → (b : Bool) → b ≡ kindDates k (fieldsOf t) → b ≡ true
+      → (g : List ℕ) → g ≡ getD (fieldsOf t) 1 [] → (d : Bool) → d ≡ same g (34 ∷ 73 ∷ 34 ∷ []) → d ≡ true
+      → (f : List ℕ) → f ≡ getD (fieldsOf t) 2 [] → (m : Bool) → (m ≡ true → same f (dec n) ≡ true) → m ≡ true → heldTest scottish n k t ≡ true
+  unfolding heldTest letter bytes
+  noted-held w n c p y b q z g r d s v f x m l i =
+      let j : same (getD (fieldsOf t) 1 []) (34 ∷ 73 ∷ 34 ∷ []) ≡ true = rw (← r) (sym s ∙ v) in
+      rw (sym p ∙ y, sound-noted w (sym q ∙ z), j, ← x) (l i)
+
+pub ruleset notes = (needs, not-true, not-false, early-there, early-room, order-digits, noted-held)
 
 -- ---- a line
 

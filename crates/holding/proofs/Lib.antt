@@ -1,3 +1,4 @@
+pub mod RunningLaws
 pub mod HeldLaws
 pub mod ScanLaws
 pub mod ReadLaws

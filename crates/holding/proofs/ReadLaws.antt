@@ -3,12 +3,12 @@ use mathlib.Core.Path.{_≡_, refl, sym, ap, subst, _∙_}
 use mathlib.Core.Bool.{Bool, true, false, _&&_}
 use mathlib.Core.Option.{Option, none, some}
 use mathlib.Core.List.{List, [], _∷_, _++_}
-use Prim.Native.Nat.{ℕ, suc, _+_, _-_, _≤_, _<_}
+use Prim.Native.Nat.{ℕ, suc, _+_, _-_, _/_, _%_, _≤_, _<_}
 use native.Mathlib.Numerals.{add-one}
 use native.Mathlib.Omega.{arith}
 use borrow.Author.Needs.{needs}
 use borrow.Author.Tests.{not-true, not-false}
-use lib.Dec.{T, leb}
+use lib.Dec.{T, eqb, leb}
 use lib.ListN.{length, getD, take, drop, drop-of-length-le, take-append-drop}
 use lib.Seq.{length-take-le, take-add, take-all}
 use Rattle.base.specs.Lists.{all, pick, zeros}
@@ -26,18 +26,19 @@ use Rattle.meaning.specs.Steps.{heldTests}
 use Rattle.laws.specs.Body.{fine}
 use Rattle.laws.specs.HoldingReadBack.{Scanned, Reads, scanned, holding, heldRecords}
 use Rattle.laws.specs.Scottish.{scottish-regular}
-use Rattle.keys.specs.Numbers.{refNumbers}
+use Rattle.keys.specs.Numbers.{keyNumbers, refAt, refNumbers}
 use Rattle.keys.specs.KeyLaws.{meets-agree}
-use Rattle.entries.specs.Entries.{recordOf}
-use Rattle.entries.specs.Tags.{tagOf}
+use Rattle.entries.specs.Entries.{recOf, lineAt, recordOf}
+use Rattle.entries.specs.Tags.{tagOf, refTag, TagsOf}
 use Rattle.places.specs.Places.{says}
 use Rattle.places.specs.Counts.{times, refers, tally, byKey, moved, Open, Notes}
 use Rattle.places.specs.Ordered.{Ordered}
 use Rattle.places.proofs.SaysLaws.{length-says, says-at}
-use Rattle.places.proofs.OrderedLaws.{ordered-asc}
+use Rattle.places.proofs.OrderedLaws.{ordered-asc, tagged-in, tagged-at}
 use Rattle.places.proofs.CountLaws.{refs-few, tally-few, tally-more, by-cong, by-nothing, count-all, open-up, has-all}
+use Rattle.noted.specs.Noted.{RefsNoted}
 use Rattle.holding.specs.declared.read.Held.{Held}
-use Rattle.holding.specs.Read.{faultOf, recordsOf, Listed, ReadAs, CountsAs, HeldIs}
+use Rattle.holding.specs.Read.{faultOf, recordsOf, Listed, NotedAs, ReadAs, CountsAs, HeldIs}
 use Rattle.answers.specs.Meant.{verdictOf}
 use Rattle.meaning.specs.Codes.{holdingUnsound}
 use Rattle.meaning.specs.Answers.{ofLine, atLine, noFault, threeOf}
@@ -56,6 +57,31 @@ module _ (h a o : List ℕ) (n i : ℕ) (v : Ordered h h a o n) (g : i < n) wher
   fine-at =
       let d : T (all (fine scottish) (drop i (says h h a n))) = append-all (fine scottish) (take i (says h h a n)) (drop i (says h h a n)) (rw (take-append-drop i (says h h a n)) (v .fines)) .1 in
       and-l (fine scottish (recordOf h h (getD a i 0))) _ (subst (λ s. T (all (fine scottish) s)) left-at d)
+
+-- ---- references by tags
+
+-- an entry's record is that of its line
+own-record : (h : List ℕ) (v : ℕ) → recordOf h h v ≡ recOf (lineAt h (v / 2))
+unfolding recordOf
+own-record h v = go (eqb (v % 2) 0)
+  where
+    go : (b : Bool) → recOf (lineAt (pick b h h) (v / 2)) ≡ recOf (lineAt h (v / 2))
+    go true = refl
+    go false = refl
+
+-- so the tags that are noted of the line are those of its references
+pub tags-told : (h : List ℕ) (v o f s : ℕ) → o ≡ tagOf (keyNumbers (recordOf h h v))
+    → f ≡ refTag (refAt (recOf (lineAt h (v / 2)) .kind) (recOf (lineAt h (v / 2)) .content) 0) → s ≡ refTag (refAt (recOf (lineAt h (v / 2)) .kind) (recOf (lineAt h (v / 2)) .content) 1)
+    → TagsOf (recordOf h h v) o f s
+tags-told h v o f s p q r = record { own = p; first = rw (own-record h v) q; second = rw (own-record h v) r }
+
+-- where something is noted, it is where they stand
+pub noted-there : (h : List ℕ) (v n : ℕ) → (0 < n → RefsNoted h (v / 2) n (recOf (lineAt h (v / 2)))) → (n ≡ 0 → ⊥) → RefsNoted h (v / 2) n (recOf (lineAt h (v / 2)))
+noted-there h v n f z = f (omega arith)
+
+pub ruleset tells = (needs, tags-told, noted-there)
+
+-- ---- all records
 
 -- the records from i on are left, and the references of those before it are counted
 pub record Counting (h a : List ℕ) (n : ℕ) (t : List ℕ) (i : ℕ) : Type 0 where
@@ -119,7 +145,7 @@ module _ (h a o : List ℕ) (n : ℕ) (t : List ℕ) (i : ℕ) (w : Counting h a
       let f : take i (says h h a n) ≡ says h h a n = take-all i (says h h a n) (omega (arith, length-says h h a n (v .within))) in
       record { line = rw e at (w .left); told = λ z. w .told ∙ ap (λ s. byKey (tally s) (says h h a n)) f }
 
-pub ruleset unmets = (needs, not-true, not-false, fine-at, unmet-start, unmet-open, unmet-stop, unmet-turn, unmet-done)
+pub ruleset unmets = (needs, not-true, not-false, fine-at, tagged-in, tagged-at, unmet-start, unmet-open, unmet-stop, unmet-turn, unmet-done)
 
 -- ---- a faulty line is never 0
 
@@ -184,7 +210,7 @@ held-sound h z = sound-told (readHolding scottish h) (read-counted h) z
 
 -- ---- both passes
 
-module _ (h a g : List ℕ) (r : Held) (s : ReadAs h (scan scottish 1 none (linesOf h)) r a g) where
+module _ (h a g v : List ℕ) (r : Held) (s : ReadAs h (scan scottish 1 none (linesOf h)) r a g v) where
   -- a fault of the first pass is the holding's
   pub read-faulty : (t : List ℕ) → (r .line ≡ 0 → ⊥) → HeldIs h r a g t
   unfolding readHolding
@@ -211,6 +237,14 @@ module _ (h a g : List ℕ) (r : Held) (s : ReadAs h (scan scottish 1 none (line
     -- the records are sound and in order, and their keys are tagged
     pub read-ordered : mostRecords ≤ length a → Ordered h h a g (r .count)
     read-ordered l = record { within = omega (arith, read-few); asc = reads .asc; fines = reads .fines; tagged = s .tagged z ∙ ap (byKey tagOf) (sym says-is) }
+
+    -- and what they refer to is noted
+    pub read-noted : NotedAs h a v (r .count)
+    read-noted = s .noted z
+
+    -- with room for each
+    pub read-room : mostRecords ≤ length v → r .count ≤ length v
+    read-room l = omega (arith, read-few)
 
     -- the second pass says the rest
     pub read-told : (t : List ℕ) (x : ℕ) → CountsAs h a (r .count) t x → HeldIs h (record { line = x; count = r .count }) a g t
@@ -240,7 +274,7 @@ module _ (h a g : List ℕ) (r : Held) (s : ReadAs h (scan scottish 1 none (line
         counts (sound t) i y q = unfold recordsOf in (rw i q)
         counts (unsound n) i y q = absurd (i (unfold faultOf in y))
 
-pub ruleset readings = (needs, read-faulty, read-few, read-ordered, read-told)
+pub ruleset readings = (needs, read-faulty, read-few, read-ordered, read-noted, read-room, read-told)
 
 -- ---- a sound holding that was read
 

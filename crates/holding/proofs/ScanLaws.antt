@@ -2,29 +2,30 @@
 use mathlib.Core.Path.{_≡_, refl, sym, ap, subst, _∙_}
 use mathlib.Core.Bool.{Bool, true, false, _&&_}
 use mathlib.Core.Option.{Option, none, some}
-use mathlib.Core.List.{List, [], _∷_, _++_, append-assoc, append-nil, map-append}
-use Prim.Native.Nat.{ℕ, suc, _+_, _-_, _*_, _%_, _≤_, _<_}
+use mathlib.Core.List.{List, [], _∷_, _++_, map, append-assoc, append-nil, map-append}
+use Prim.Native.Nat.{ℕ, suc, _+_, _-_, _*_, _/_, _%_, _≤_, _<_}
+use native.Mathlib.Decide.{decLt}
 use native.Mathlib.Numerals.{add-one}
 use native.Mathlib.Omega.{arith}
 use borrow.Author.Needs.{needs}
-use borrow.Author.Tests.{le-leb, lt-leb}
+use borrow.Author.Tests.{le-leb, lt-leb, not-true, not-false}
 use lib.Dec.{T, eqb, leb, leb→le}
-use lib.ListN.{length, take, drop, set, length-set}
-use lib.Seq.{take-suc-set}
+use lib.ListN.{length, getD, take, drop, set, length-set, length-drop}
+use lib.Seq.{take-suc-set, getD-set-same, getD-set-other}
 use mir.Facts.{yes-eqb}
-use Rattle.base.specs.Lists.{all, keepIf, bytes}
+use Rattle.base.specs.Lists.{all, pick, keepIf, bytes}
 use Rattle.base.specs.Tests.{and-r, some≢none}
 use Rattle.base.specs.ListLaws.{all-snoc}
 use Rattle.theory.specs.Tri.{lt, isLt}
 use Rattle.theory.specs.Lex.{andThen, lex}
 use Rattle.theory.specs.LexLaws.{is-cmpN}
 use Rattle.theory.specs.Decimal.{value, valueF}
-use Rattle.meaning.specs.Lines.{Line, linesOf}
+use Rattle.meaning.specs.Lines.{Line, linesOf, fieldsOf, plain}
 use Rattle.meaning.specs.Kinds.{Kind, kinds, ident}
-use Rattle.meaning.specs.Table.{scottish}
+use Rattle.meaning.specs.Table.{fields, scottish}
 use Rattle.meaning.specs.Records.{Rec, contentOf, keyOf}
 use Rattle.meaning.specs.Holding as meaning
-use Rattle.meaning.specs.Holding.{sound, unsound, heldLine, addRec, above, onHeld, scan, mostRecords}
+use Rattle.meaning.specs.Holding.{sound, unsound, heldTest, heldLine, addRec, above, onHeld, scan, mostRecords}
 use Rattle.laws.specs.Kinds.{every}
 use Rattle.laws.specs.Body.{fine}
 use Rattle.laws.specs.HoldingReadBack.{HeldIs, held-out}
@@ -32,57 +33,92 @@ use Rattle.laws.specs.Scottish.{scottish-regular}
 use Rattle.text.specs.declared.order.Order.{Order}
 use Rattle.text.specs.declared.order.Order.the-variants.{Before, Same, After}
 use Rattle.text.specs.Order.{triOf}
-use Rattle.text.specs.Places.{endsHere, lineLen, plainEnd}
+use Rattle.text.specs.Places.{endsHere, lineLen, plainLen, plainEnd}
 use Rattle.text.proofs.LineLaws.{firstLine, lines-at, lines-end, ends-well-at, ends-there}
 use Rattle.layout.specs.declared.kinds.Kind as code
 use Rattle.layout.specs.declared.kinds.KindFound.{KindFound}
 use Rattle.layout.specs.declared.kinds.KindFound.the-variants.{Known, Unknown}
 use Rattle.layout.specs.Meant.{kindMeant, kindFound}
+use Rattle.layout.specs.Rows.{bare}
+use Rattle.layout.specs.Check.{lowestBad, Parted}
+use Rattle.pass.specs.declared.kind.Found.{Found}
+use Rattle.pass.specs.declared.kind.Found.the-variants.{Line as Passed}
+use Rattle.pass.specs.Kinds.{PassedAs, FoundAs}
 use Rattle.keys.specs.declared.Key.{Key}
 use Rattle.keys.specs.Numbers.{keyList, keyNumbers}
 use Rattle.keys.specs.KeyLaws.{key-agrees}
-use Rattle.entries.specs.Entries.{lineAt, recordOf}
+use Rattle.entries.specs.Entries.{recOf, lineAt, recordOf}
 use Rattle.entries.specs.Fields.{afterFields}
 use Rattle.entries.specs.Tags.{tagOf}
 use Rattle.entries.proofs.FieldLaws.{content-three}
 use Rattle.entries.proofs.EntryLaws.{entry-even}
-use Rattle.entries.proofs.LineLaws.{held-there}
+use Rattle.entries.proofs.LineLaws.{rec-known, held-there}
 use Rattle.places.specs.Places.{says}
 use Rattle.places.specs.Counts.{byKey}
 use Rattle.places.proofs.SaysLaws.{says-more, says-held, length-says}
+use Rattle.noted.specs.Noted.{RefsNoted}
+use Rattle.holding.specs.declared.scan.Kept.{Kept}
 use Rattle.holding.specs.declared.scan.Next.{Next}
 use Rattle.holding.specs.declared.scan.Next.the-variants.{Taken, Faulty}
 use Rattle.holding.specs.declared.read.Held.{Held}
-use Rattle.holding.specs.Held.{heldAs, recordAs, recordUpTo, nextAs, keyTaken}
-use Rattle.holding.specs.Read.{faultOf, recordsOf, ReadAs}
-use Rattle.holding.proofs.HeldLaws.{held-is}
+use Rattle.holding.specs.Held.{heldAs, recordAs, recordUpTo, nextAs, keyTaken, afterKey, KeptOf, KeptIn, NextIs}
+use Rattle.holding.specs.Read.{faultOf, recordsOf, NotedAs, ReadAs}
+use Rattle.holding.proofs.HeldLaws.{held-is, held-passes}
 
--- ---- the next key
+-- ---- the next line
 
-module _ (h : List ℕ) (at e n : ℕ) (q : List ℕ) where
+-- a line's key in order or not
+module _ (q : List ℕ) (l : Kept) (o : Order) (w : triOf o ≡ lex q (keyList (l .key))) where
+  -- a key after the one before is taken
+  pub order-taken : o ≡ Before → Taken l ≡ afterKey q l
+  unfolding afterKey
+  order-taken e = rw (← w, e)
+
+  -- the same key is out of order
+  pub order-same : o ≡ Same → Faulty ≡ afterKey q l
+  unfolding afterKey
+  order-same e = rw (← w, e)
+
+  -- and so is one before it
+  pub order-after : o ≡ After → Faulty ≡ afterKey q l
+  unfolding afterKey
+  order-after e = rw (← w, e)
+
+pub ruleset orders = (needs, order-taken, order-same, order-after)
+
+module _ (h : List ℕ) (at e n : ℕ) (i : e ≡ plainEnd h at) where
   -- the text that is judged
   abbrev judged : List ℕ
   judged = take (e - at) (drop at h)
 
-  -- line 8,193 is the fault
-  pub next-many : (m : ℕ) → m ≡ mostRecords → m < n → none ≡ nextAs n q (recordUpTo h at e n)
-  next-many m l o = go (recordUpTo h at e n)
-    where
-      no : (c : Bool) (k : List ℕ) → none ≡ keepIf (c && leb n mostRecords) k
-      no true k = unfold keepIf in (rw (lt-leb n mostRecords (omega arith)))
-      no false k = unfold keepIf in refl
+  -- a line that is not held
+  none-there : (q : List ℕ) → recordUpTo h at e n ≡ none → NextIs h at n q Faulty
+  unfolding nextAs
+  none-there q z = record { key = rw (← i, z); kept = tt }
 
-      go : (o : Option Rec) → none ≡ nextAs n q o
-      go none = unfold nextAs in refl
-      go (some r) = unfold nextAs in (no (isLt (lex q (keyNumbers r))) (keyNumbers r))
+  -- one that is, where its key stands after the one before
+  some-there : (q : List ℕ) (x : Rec) (l : Kept) → recordUpTo h at e n ≡ some x → n ≤ mostRecords → keyList (l .key) ≡ keyNumbers x → KeptOf h at e l → NextIs h at n q (afterKey q l)
+  unfolding nextAs afterKey keepIf
+  some-there q x l z m v k = record {
+    key = rw (← i, z, le-leb n mostRecords m, ← v) (keys (isLt (lex q (keyList (l .key)))));
+    kept = rw (← i) (keeps (isLt (lex q (keyList (l .key)))));
+  }
+    where
+      keys : (b : Bool) → keyTaken (pick b (Taken l) Faulty) ≡ keepIf (b && true) (keyList (l .key))
+      keys true = refl
+      keys false = refl
+
+      keeps : (b : Bool) → KeptIn h at e (pick b (Taken l) Faulty)
+      keeps true = k
+      keeps false = tt
 
   module _ (b : Bool) (u : b ≡ endsHere (drop e h)) (o : KindFound) (p : kindFound o ≡ heldAs n b judged) where
-    -- a line that is not held
-    pub next-unheld : o ≡ Unknown → none ≡ nextAs n q (recordUpTo h at e n)
-    unfolding recordAs nextAs
-    next-unheld l = rw (← u, ← p, l)
+    -- a line that is judged and not held
+    pub judged-unheld : (q : List ℕ) → o ≡ Unknown → NextIs h at n q Faulty
+    unfolding recordAs
+    judged-unheld q l = none-there q (rw (← u, ← p, l))
 
-    module _ (i : e ≡ plainEnd h at) (k : code.Kind) (l : o ≡ Known k) (c : ℕ) (f : lineAt h c ≡ afterFields 3 (lineAt h at)) (j : List ℕ) (v : j ≡ keyNumbers (record { kind = kindMeant k; content = lineAt h c })) (x : Order) (w : triOf x ≡ lex q j) where
+    module _ (k : code.Kind) (l : o ≡ Known k) where
       -- one that is held ends well
       well : b ≡ true
       unfolding heldAs
@@ -93,32 +129,72 @@ module _ (h : List ℕ) (at e n : ℕ) (q : List ℕ) where
           go false s = absurd (some≢none (sym s))
 
       -- so its content stands where it is read
-      content-here : lineAt h c ≡ contentOf judged
+      content-here : (c : ℕ) → lineAt h c ≡ afterFields 3 (lineAt h at) → lineAt h c ≡ contentOf judged
       unfolding lineAt
-      content-here = f ∙ content-three (lineAt h at) ∙ rw (ends-there h at e i (sym u ∙ well))
+      content-here c f = f ∙ content-three (lineAt h at) ∙ rw (ends-there h at e i (sym u ∙ well))
 
-      next-by : nextAs n q (recordUpTo h at e n) ≡ keepIf (isLt (triOf x) && leb n mostRecords) j
-      unfolding recordAs nextAs
-      next-by =
-          let y : keyNumbers (record { kind = kindMeant k; content = contentOf judged }) ≡ j = sym (v ∙ rw content-here) in
-          rw (← u, ← p, l, y, ← w)
+      -- and it is taken in order, with no note
+      pub judged-taken : (q : List ℕ) (c : ℕ) → lineAt h c ≡ afterFields 3 (lineAt h at) → (j : Key) → keyList j ≡ keyNumbers (record { kind = kindMeant k; content = lineAt h c }) → n ≤ mostRecords
+          → (r : Next) → r ≡ afterKey q (record { key = j; end = e; noted = 0 }) → NextIs h at n q r
+      unfolding recordAs
+      judged-taken q c f j v m r d =
+          rw d
+          (some-there q (record { kind = kindMeant k; content = contentOf judged }) (record { key = j; end = e; noted = 0 }) (rw (← u, ← p, l)) m (v ∙ rw (content-here c f))
+          (record { ends = refl; refs = λ z. absurd (omega (arith, z)) }))
 
-      -- a key after the one before is taken
-      pub next-taken : (m : ℕ) → m ≡ mostRecords → n ≤ m → x ≡ Before → some j ≡ nextAs n q (recordUpTo h at e n)
-      unfolding keepIf
-      next-taken m g r s = sym (next-by ∙ rw (s, le-leb n mostRecords (omega arith)))
+pub ruleset judges = (needs, judged-unheld, judged-taken)
 
-      -- the same key is out of order
-      pub next-same : x ≡ Same → none ≡ nextAs n q (recordUpTo h at e n)
-      unfolding keepIf
-      next-same s = sym (next-by ∙ rw s)
+-- line 8,193 is the fault
+pub next-many : (h : List ℕ) (at n : ℕ) (q : List ℕ) (m : ℕ) → m ≡ mostRecords → m < n → NextIs h at n q Faulty
+next-many h at n q m l o = record { key = go (recordUpTo h at (plainEnd h at) n); kept = tt }
+  where
+    no : (c : Bool) (k : List ℕ) → none ≡ keepIf (c && leb n mostRecords) k
+    no true k = unfold keepIf in (rw (lt-leb n mostRecords (omega arith)))
+    no false k = unfold keepIf in refl
 
-      -- and so is one before it
-      pub next-after : x ≡ After → none ≡ nextAs n q (recordUpTo h at e n)
-      unfolding keepIf
-      next-after s = sym (next-by ∙ rw s)
+    go : (o : Option Rec) → none ≡ nextAs n q o
+    go none = unfold nextAs in refl
+    go (some r) = unfold nextAs in (no (isLt (lex q (keyNumbers r))) (keyNumbers r))
 
-pub ruleset nexts = (needs, next-many, next-unheld, next-taken, next-same, next-after)
+module _ (h : List ℕ) (at : ℕ) (a : List ℕ) (f : Found) (w : FoundAs h at a f) (k : code.Kind) (e : ℕ) (d : f ≡ Passed k e) where
+  -- a line that was passed
+  pub passed-as : PassedAs (kindMeant k) h a at e
+  passed-as = subst (FoundAs h at a) d w
+
+  -- is one of the bytes
+  pub passed-forward : at ≤ e
+  passed-forward = passed-as .line .forward
+
+  pub passed-within : e ≤ length h
+  passed-within = passed-as .line .within
+
+  -- its fields are as many as its kind's, noted
+  pub passed-parted : Parted (kindMeant k) (take (e - at) (drop at h)) a
+  passed-parted = passed-as .parted
+
+  -- and none is malformed
+  pub passed-low : none ≡ lowestBad 1 (map bare (fields (kindMeant k))) (fieldsOf (take (e - at) (drop at h)))
+  passed-low = passed-as .line .low
+
+  -- its record is that of the line there
+  record-here : recOf (lineAt h at) ≡ record { kind = kindMeant k; content = contentOf (take (e - at) (drop at h)) }
+  unfolding lineAt
+  record-here =
+      let z : lineLen (drop at h) ≡ e - at = ends-there h at e (passed-as .line .plain) (sym (passed-as .line .ended)) in
+      rw z (rec-known (take (e - at) (drop at h)) (kindMeant k) (passed-as .kind))
+
+  -- one that is held is taken in order, with what was noted of it
+  pub passed-taken : (n : ℕ) (c : Bool) → (c ≡ true → heldTest scottish n (kindMeant k) (take (e - at) (drop at h)) ≡ true) → c ≡ true → (m : ℕ) → m ≡ mostRecords → n ≤ m
+      → (j : Key) → keyList j ≡ keyNumbers (recOf (lineAt h at)) → (v : ℕ) → (0 < v → RefsNoted h at v (recOf (lineAt h at)))
+      → (q : List ℕ) (x : Next) → x ≡ afterKey q (record { key = j; end = e; noted = v }) → NextIs h at n q x
+  unfolding recordAs
+  passed-taken n c r s m l o j p v g q x y =
+      rw y
+      (some-there h at e n (passed-as .line .plain) q (record { kind = kindMeant k; content = contentOf (take (e - at) (drop at h)) }) (record { key = j; end = e; noted = v })
+      (rw (← passed-as .line .ended, ← held-passes n (take (e - at) (drop at h)) true refl (Known k) (sym (passed-as .kind)) k refl true (sym (r s)) refl)) (omega arith) (p ∙ ap keyNumbers record-here)
+      (record { ends = refl; refs = g }))
+
+pub ruleset nexts = (needs, not-true, not-false, next-many, passed-as, passed-forward, passed-within, passed-parted, passed-low, passed-taken)
 
 -- ---- what was read so far, and what is left
 
@@ -140,13 +216,14 @@ join-add st r (unsound n) = refl
 abbrev pub Beside : List ℕ → Option (List ℕ) → Type 0
 Beside k lo = (r : Rec) → T (fine scottish r) → isLt (lex k (keyNumbers r)) ≡ above scottish lo r
 
--- n lines were read up to `at`, the last of key k, and their starts are in a, with their tags in g
-pub record Scanning (h a g : List ℕ) (n at : ℕ) (k : List ℕ) : Type 0 where
+-- n lines were read up to `at`, the last of key k, and their starts are in a, with their tags in g and their notes in v
+pub record Scanning (h a g v : List ℕ) (n at : ℕ) (k : List ℕ) : Type 0 where
   pub lo : Option (List ℕ)
   pub left : scan scottish 1 none (linesOf h) ≡ joinHeld (says h h a n) (scan scottish (suc n) lo (linesOf (drop at h)))
   pub beside : Beside k lo
   pub even : T (all (λ v. eqb (v % 2) 0) (take n a))
   pub tagged : take n g ≡ byKey tagOf (says h h a n)
+  pub noted : NotedAs h a v n
   pub few : n ≤ mostRecords
 
 -- every kind's number is above 0
@@ -160,13 +237,27 @@ unfolding above lex andThen keyNumbers
 zeros-beside r f = rw (is-cmpN 0 (value (ident (r .kind))) lt (kind-low (r .kind)))
 
 -- at the start nothing was read
-pub scan-start : (h a g : List ℕ) → Scanning h a g 0 0 (0 ∷ 0 ∷ 0 ∷ 0 ∷ [])
+pub scan-start : (h a g v : List ℕ) → Scanning h a g v 0 0 (0 ∷ 0 ∷ 0 ∷ 0 ∷ [])
 unfolding says
-scan-start h a g = record { lo = none; left = join-nil (scan scottish 1 none (linesOf h)); beside = zeros-beside; even = tt; tagged = refl; few = omega arith }
+scan-start h a g v =
+    record { lo = none; left = join-nil (scan scottish 1 none (linesOf h)); beside = zeros-beside; even = tt; tagged = refl; noted = record { each = λ i l. absurd (omega (arith, l)) }; few = omega arith }
 
 -- the tag of a record more
 tags-more : (c : List ℕ) (n i : ℕ) (st : List Rec) (r : Rec) → n < length c → take n c ≡ byKey tagOf st → i ≡ tagOf (keyNumbers r) → take (n + 1) (set c n i) ≡ byKey tagOf (st ++ (r ∷ []))
 tags-more c n i st r l e q = rw (add-one n, take-suc-set c n i l, e, q) (sym (map-append (λ x. tagOf (keyNumbers x)) st (r ∷ [])))
+
+-- the note of a line more
+notes-more : (h a v : List ℕ) (n at i : ℕ) → n < length a → n < length v → NotedAs h a v n → (0 < i → RefsNoted h at i (recOf (lineAt h at))) → NotedAs h (set a n (2 * at)) (set v n i) (n + 1)
+notes-more h a v n at i l m w g = record { each = λ j k. here j k (decLt j n) }
+  where
+    here : (j : ℕ) → j < n + 1 → Dec (j < n) → 0 < getD (set v n i) j 0 → RefsNoted h (getD (set a n (2 * at)) j 0 / 2) (getD (set v n i) j 0) (recOf (lineAt h (getD (set a n (2 * at)) j 0 / 2)))
+    here j k (yes y) =
+        let o : j ≡ n → ⊥ = λ z. omega arith in
+        rw (getD-set-other v n j i 0 o, getD-set-other a n j (2 * at) 0 o) (w .each j y)
+    here j k (no y) =
+        let z : j ≡ n = omega arith in
+        let e : 2 * at / 2 ≡ at = omega arith in
+        rw (z, getD-set-same v n i 0 m, getD-set-same a n (2 * at) 0 l, e) g
 
 -- ---- a line in order
 
@@ -243,40 +334,72 @@ module _ (h : List ℕ) (at e : ℕ) (g : at < length h) (q : e ≡ plainEnd h a
       → joinHeld st (scan scottish (suc n) lo (linesOf (drop at h))) ≡ joinHeld st′ (scan scottish (suc (n + 1)) (some (keyOf scottish r)) (linesOf (drop (e + 2) h)))
   line-on n lo r st st′ f w c = rw (line-next n lo, f, join-add st r _, c, w, add-one n)
 
-  module _ (a c : List ℕ) (n : ℕ) (k : List ℕ) (s : Scanning h a c n at k) (x : Next) (v : keyTaken x ≡ nextAs (n + 1) k (recordUpTo h at e (n + 1))) where
-    found : Nexts (suc n) (s .lo) (recordUpTo h at e (suc n)) (λ r. scan scottish (suc (suc n)) (some (keyOf scottish r)) rest) (keyTaken x)
-    found =
-        rw (v, add-one n)
-        (next-in (suc n) k (s .lo) (s .beside) (recordUpTo h at e (suc n)) (held-fine (suc n) (firstLine (drop at h)) (recordUpTo h at e (suc n)) (subst (HeldIs scottish (suc n) (firstLine (drop at h))) (line-held (suc n)) (held-out scottish scottish-regular (suc n) (firstLine (drop at h))))) (λ r. scan scottish (suc (suc n)) (some (keyOf scottish r)) rest))
+-- before the first CR or LF no more bytes stand than there are
+plain-few : (s : List ℕ) → plainLen s ≤ length s
+unfolding plainLen
+plain-few [] = omega arith
+plain-few (x ∷ r) = go (plain x) (plain-few r)
+  where
+    go : (b : Bool) → plainLen r ≤ length r → pick b (suc (plainLen r)) 0 ≤ suc (length r)
+    go true i = omega arith
+    go false i = omega arith
 
-    -- a line that is faulty or out of order is the lowest
-    pub scan-stop : x ≡ Faulty → ReadAs h (scan scottish 1 none (linesOf h)) (record { line = n + 1; count = 0 }) a c
-    unfolding faultOf
-    scan-stop y =
-        let f : onHeld scottish (suc n) (s .lo) (recordUpTo h at e (suc n)) (λ r. scan scottish (suc (suc n)) (some (keyOf scottish r)) rest) ≡ unsound (suc n) = rw y at found in
-        let w : scan scottish 1 none (linesOf h) ≡ unsound (suc n) = s .left ∙ rw (line-next n (s .lo), f) in
-        record { line = rw w (add-one n); listed = λ z. absurd (omega (arith, z)); tagged = λ z. absurd (omega (arith, z)) }
+module _ (h a c d : List ℕ) (at n : ℕ) (g : at < length h) (k : List ℕ) (s : Scanning h a c d n at k) (x : Next) (v : NextIs h at (n + 1) k x) where
+  abbrev end : ℕ
+  end = plainEnd h at
 
-    -- there is room for the start of one that is taken, and for its tag
-    pub scan-room : (j : Key) (o : List ℕ) → x ≡ Taken j → mostRecords ≤ length o → n < length o
-    scan-room j o y l =
-        let t : Took (suc n) (s .lo) (recordUpTo h at e (suc n)) (λ r. scan scottish (suc (suc n)) (some (keyOf scottish r)) rest) (keyList j) = rw y at found in
-        omega (arith, t .few)
+  abbrev after : Rec → meaning.Held
+  after r = scan scottish (suc (suc n)) (some (keyOf scottish r)) (rest h at end g refl)
+
+  found : Nexts (suc n) (s .lo) (recordUpTo h at end (suc n)) after (keyTaken x)
+  found =
+      rw (v .key, add-one n)
+      (next-in (suc n) k (s .lo) (s .beside) (recordUpTo h at end (suc n)) (held-fine (suc n) (firstLine (drop at h)) (recordUpTo h at end (suc n)) (subst (HeldIs scottish (suc n) (firstLine (drop at h))) (line-held h at end g refl (suc n)) (held-out scottish scottish-regular (suc n) (firstLine (drop at h))))) after)
+
+  -- a line that is faulty or out of order is the lowest
+  pub scan-stop : x ≡ Faulty → ReadAs h (scan scottish 1 none (linesOf h)) (record { line = n + 1; count = 0 }) a c d
+  unfolding faultOf
+  scan-stop y =
+      let f : onHeld scottish (suc n) (s .lo) (recordUpTo h at end (suc n)) after ≡ unsound (suc n) = rw y at found in
+      let w : scan scottish 1 none (linesOf h) ≡ unsound (suc n) = s .left ∙ rw (line-next h at end g refl n (s .lo), f) in
+      record { line = rw w (add-one n); listed = λ z. absurd (omega (arith, z)); tagged = λ z. absurd (omega (arith, z)); noted = λ z. absurd (omega (arith, z)) }
+
+  module _ (j : Kept) (y : x ≡ Taken j) where
+    took : Took (suc n) (s .lo) (recordUpTo h at end (suc n)) after (keyList (j .key))
+    took = rw y at found
+
+    kept : KeptOf h at end j
+    kept = subst (KeptIn h at end) y (v .kept)
+
+    -- there is room for the start of one that is taken, for its tag and for its note
+    pub scan-room : (o : List ℕ) → mostRecords ≤ length o → n < length o
+    scan-room o l = omega (arith, took .few)
+
+    -- it ends among the bytes
+    pub scan-forward : at ≤ j .end
+    scan-forward = omega (arith, kept .ends)
+
+    pub scan-within : j .end ≤ length h
+    scan-within = omega (arith, kept .ends, plain-few (drop at h), length-drop at h)
 
     -- and it leaves those after it
-    pub scan-turn : (j : Key) (i : ℕ) → x ≡ Taken j → mostRecords ≤ length a → mostRecords ≤ length c → i ≡ tagOf (keyList j) → Scanning h (set a n (2 * at)) (set c n i) (n + 1) (e + 2) (keyList j)
-    scan-turn j i y l o p =
-        let t : Took (suc n) (s .lo) (recordUpTo h at e (suc n)) (λ r. scan scottish (suc (suc n)) (some (keyOf scottish r)) rest) (keyList j) = rw y at found in
+    pub scan-turn : (i : ℕ) → mostRecords ≤ length a → mostRecords ≤ length c → mostRecords ≤ length d → i ≡ tagOf (keyList (j .key))
+        → Scanning h (set a n (2 * at)) (set c n i) (set d n (j .noted)) (n + 1) (j .end + 2) (keyList (j .key))
+    scan-turn i l o m p =
+        let t = took in
         let r : Rec = t .taken in
-        let m : n < length a = omega (arith, t .few) in
-        let f : recordOf h h (2 * at) ≡ r = entry-even h h at (2 * at) (omega arith) ∙ held-there h at (suc n) (firstLine (drop at h)) rest r (lines-at h at g) (line-held (suc n) ∙ t .held) in
-        let d : says h h (set a n (2 * at)) (n + 1) ≡ says h h a n ++ (r ∷ []) = says-more h h a n (2 * at) m ∙ rw f in
+        let w : n < length a = omega (arith, t .few) in
+        let f : recordOf h h (2 * at) ≡ r = entry-even h h at (2 * at) (omega arith) ∙ held-there h at (suc n) (firstLine (drop at h)) (rest h at end g refl) r (lines-at h at g) (line-held h at end g refl (suc n) ∙ t .held) in
+        let b : says h h (set a n (2 * at)) (n + 1) ≡ says h h a n ++ (r ∷ []) = says-more h h a n (2 * at) w ∙ rw f in
+        let on : joinHeld (says h h a n) (scan scottish (suc n) (s .lo) (linesOf (drop at h))) ≡ joinHeld (says h h (set a n (2 * at)) (n + 1)) (scan scottish (suc (n + 1)) (some (keyOf scottish r)) (linesOf (drop (end + 2) h)))
+        = line-on h at end g refl n (s .lo) r (says h h a n) (says h h (set a n (2 * at)) (n + 1)) (t .goes) (next-there h at end g refl (suc n) r (t .held)) b in
         record {
           lo = some (keyOf scottish r);
-          left = s .left ∙ line-on n (s .lo) r (says h h a n) (says h h (set a n (2 * at)) (n + 1)) (t .goes) (next-there (suc n) r (t .held)) d;
+          left = s .left ∙ on ∙ ap (λ z. joinHeld (says h h (set a n (2 * at)) (n + 1)) (scan scottish (suc (n + 1)) (some (keyOf scottish r)) (linesOf (drop (z + 2) h)))) (sym (kept .ends));
           beside = λ z f. rw (t .key) (beside-key r (t .sounds) z f);
-          even = rw (add-one n, take-suc-set a n (2 * at) m) (all-snoc (λ v. eqb (v % 2) 0) (take n a) (2 * at) (s .even) (yes-eqb {a = 2 * at % 2} {b = 0} (omega arith)));
-          tagged = rw d (tags-more c n i (says h h a n) r (omega (arith, t .few)) (s .tagged) (p ∙ ap tagOf (t .key)));
+          even = rw (add-one n, take-suc-set a n (2 * at) w) (all-snoc (λ v. eqb (v % 2) 0) (take n a) (2 * at) (s .even) (yes-eqb {a = 2 * at % 2} {b = 0} (omega arith)));
+          tagged = rw b (tags-more c n i (says h h a n) r (omega (arith, t .few)) (s .tagged) (p ∙ ap tagOf (t .key)));
+          noted = notes-more h a d n at (j .noted) w (omega (arith, t .few)) (s .noted) (kept .refs);
           few = omega (arith, t .few);
         }
       where
@@ -284,9 +407,9 @@ module _ (h : List ℕ) (at e : ℕ) (g : at < length h) (q : e ≡ plainEnd h a
         beside-key r f z g = unfold above in (ap isLt (key-agrees r z f g))
 
 -- at the end all lines are sound and in order
-pub scan-done : (h a c k : List ℕ) (n at : ℕ) → Scanning h a c n at k → length h ≤ at → mostRecords ≤ length a → ReadAs h (scan scottish 1 none (linesOf h)) (record { line = 0; count = n }) a c
+pub scan-done : (h a c d k : List ℕ) (n at : ℕ) → Scanning h a c d n at k → length h ≤ at → mostRecords ≤ length a → ReadAs h (scan scottish 1 none (linesOf h)) (record { line = 0; count = n }) a c d
 unfolding scan faultOf recordsOf
-scan-done h a c k n at s g l =
+scan-done h a c d k n at s g l =
     let w : meaning.scan scottish 1 none (linesOf h) ≡ sound (says h h a n) = s .left ∙ rw (lines-end h at g, append-nil) in
     record {
       line = rw w;
@@ -297,6 +420,7 @@ scan-done h a c k n at s g l =
         few = s .few;
       });
       tagged = λ z. rw w (s .tagged);
+      noted = λ z. s .noted;
     }
 
 -- another start in the array leaves its length
@@ -307,4 +431,4 @@ starts-same o a i v e = rw length-set e
 pub starts-room : (a : List ℕ) (i v : ℕ) → mostRecords ≤ length a → mostRecords ≤ length (set a i v)
 starts-room a i v l = rw length-set l
 
-pub ruleset scanning = (needs, scan-start, scan-stop, scan-room, scan-turn, scan-done, starts-same, starts-room)
+pub ruleset scanning = (needs, scan-start, scan-stop, scan-room, scan-forward, scan-within, scan-turn, scan-done, starts-same, starts-room)

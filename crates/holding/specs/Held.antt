@@ -1,8 +1,9 @@
 -- One line of a holding, and the next one in order, as code answers them.
+use mathlib.Core.Path.{_≡_}
 use mathlib.Core.Bool.{Bool, _&&_}
 use mathlib.Core.Option.{Option, none, some}
 use mathlib.Core.List.{List}
-use Prim.Native.Nat.{ℕ, _-_}
+use Prim.Native.Nat.{ℕ, _-_, _<_}
 use lib.Dec.{leb}
 use lib.ListN.{take, drop}
 use Rattle.base.specs.Lists.{pick, keepIf}
@@ -14,8 +15,11 @@ use Rattle.meaning.specs.Format.{kindOf}
 use Rattle.meaning.specs.Table.{scottish}
 use Rattle.meaning.specs.Records.{Rec, contentOf}
 use Rattle.meaning.specs.Holding.{heldTest, mostRecords}
-use Rattle.text.specs.Places.{endsHere}
+use Rattle.text.specs.Places.{endsHere, plainEnd}
 use Rattle.keys.specs.Numbers.{keyList, keyNumbers}
+use Rattle.entries.specs.Entries.{recOf, lineAt}
+use Rattle.noted.specs.Noted.{RefsNoted}
+use Rattle.holding.specs.declared.scan.Kept.{Kept}
 use Rattle.holding.specs.declared.scan.Next.{Next}
 use Rattle.holding.specs.declared.scan.Next.the-variants.{Taken, Faulty}
 
@@ -44,5 +48,24 @@ nextAs n q (some r) = keepIf (isLt (lex q (keyNumbers r)) && leb n mostRecords) 
 
 -- the key that was taken, if any
 abbrev pub keyTaken : Next → Option (List ℕ)
-keyTaken (Taken k) = some (keyList k)
+keyTaken (Taken l) = some (keyList (l .key))
 keyTaken Faulty = none
+
+-- what is kept of a line is taken where its key stands after q
+unfoldable pub afterKey : List ℕ → Kept → Next
+afterKey q l = pick (isLt (lex q (keyList (l .key)))) (Taken l) Faulty
+
+-- what is kept of the line that starts at `at` and ends at e
+pub record KeptOf (h : List ℕ) (at e : ℕ) (l : Kept) : Type 0 where
+  pub ends : l .end ≡ e
+  pub refs : 0 < l .noted → RefsNoted h at (l .noted) (recOf (lineAt h at))
+
+-- of a line that was taken
+abbrev pub KeptIn : List ℕ → ℕ → ℕ → Next → Type 0
+KeptIn h at e (Taken l) = KeptOf h at e l
+KeptIn h at e Faulty = Unit {0}
+
+-- line n, which starts at `at`, where it is sound and its key stands after q
+pub record NextIs (h : List ℕ) (at n : ℕ) (q : List ℕ) (r : Next) : Type 0 where
+  pub key : keyTaken r ≡ nextAs n q (recordUpTo h at (plainEnd h at) n)
+  pub kept : KeptIn h at (plainEnd h at) r

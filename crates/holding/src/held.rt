@@ -1,17 +1,27 @@
 // One line of a holding by itself: sound, of a held kind, CHANGE_TYPE "I", PRO_ORDER its own number without leading zeros.
 ghost use mathlib.Core.Path.{_≡_};
-ghost use Rattle.base.specs.Lists.{same};
+ghost use mathlib.Core.Bool.{true};
+ghost use mathlib.Core.Option.{none};
+ghost use mathlib.Core.List.{map};
+ghost use lib.Dec.{T};
+ghost use Rattle.base.specs.Lists.{all, same};
 ghost use Rattle.theory.specs.Decimal.{dec};
-ghost use Rattle.meaning.specs.Table.{scottish};
+ghost use Rattle.meaning.specs.Forms.{isDigit};
+ghost use Rattle.meaning.specs.Lines.{fieldsOf};
+ghost use Rattle.meaning.specs.Table.{fields, scottish};
 ghost use Rattle.meaning.specs.Holding.{heldTest};
 ghost use Rattle.layout.specs.Meant.{kindMeant, kindFound};
+ghost use Rattle.layout.specs.Rows.{bare};
+ghost use Rattle.layout.specs.Check.{lowestBad, Parted};
 ghost use Rattle.holding.specs.Held.{heldAs};
 use layout::check::check_line;
+use layout::check::dates_agree;
 use layout::check::kind_at;
 use layout::kinds::Kind;
 use layout::kinds::KindFound;
 use layout::rules::is_held;
 use text::fields::field;
+use text::fields::noted_field;
 use text::order::is_same;
 
 // Whether a field's text is that number without leading zeros.
@@ -39,6 +49,40 @@ fn passes(kind: Kind, text: &[u8], line: usize) -> bool
         return false;
     }
     numbered
+}
+
+// Whether digits are seen to be that number without leading zeros.
+fn is_running(f: &[u8], number: usize) -> bool
+    requires { ⌜ T (all isDigit (now f)) ⌝ }
+    ensures { λ r. ⌜ (r ≡ true → same (now (f .entry)) (dec number) ≡ true) ⌝ }
+{
+    if f.len() == 0 {
+        return false;
+    }
+    if f[0] == 48 {
+        return false;
+    }
+    if 16 < f.len() {
+        return false;
+    }
+    text::numbers::value(f) == number as u64
+}
+
+// Whether a line that was passed, with the ends of its fields noted, is seen to be sound as the line of that number in a holding.
+pub fn passes_noted(kind: Kind, text: &[u8], ends: &[usize], line: usize) -> bool
+    requires { ⌜ Parted (kindMeant kind) (now text) (now ends) × (none ≡ lowestBad 1 (map bare (fields (kindMeant kind))) (fieldsOf (now text))) ⌝ }
+    ensures { λ r. ⌜ (r ≡ true → heldTest scottish line (kindMeant kind) (now (text .entry)) ≡ true) ⌝ }
+{
+    if !is_held(kind) {
+        return false;
+    }
+    if !dates_agree(kind, text, ends) {
+        return false;
+    }
+    if !is_same(noted_field(text, ends, 1), b"\"I\"") {
+        return false;
+    }
+    is_running(noted_field(text, ends, 2), line)
 }
 
 // The kind of the line of that number, where it ends well and is sound as such.

@@ -5,6 +5,7 @@ ghost use Rattle.holding.specs.Read.{HeldIs};
 ghost use Rattle.meaning.specs.Holding.{mostRecords};
 use crate::scan::scan;
 use crate::unmet::unmet;
+use layout::limits::Holding;
 
 // A holding that was read: its lowest faulty line, or 0 and how many records it has.
 pub struct Held {
@@ -23,11 +24,12 @@ pub fn read_holding(
     requires { ⌜ (mostRecords ≤ length (now starts)) × (mostRecords ≤ length (now tags)) × (mostRecords ≤ length (now counts)) ⌝ }
     ensures { λ r. ⌜ HeldIs (now (holding .entry)) r (now (starts .exit)) (now (tags .exit)) (now (counts .exit)) ⌝ }
 {
-    let held = scan(holding, &mut *starts, &mut *tags);
+    let mut noted = [0u32; Holding::MOST_LINES];
+    let held = scan(holding, &mut *starts, &mut *tags, &mut noted);
     if held.line != 0 {
         return held;
     }
     let count = held.count;
-    let line = unmet(holding, &*starts, &*tags, &mut *counts, count);
+    let line = unmet(holding, &*starts, &*tags, &noted, &mut *counts, count);
     Held { line, count }
 }
