@@ -5,9 +5,9 @@ use crate::reference::load::{step, Held};
 use crate::reference::records::{record, Record};
 use crate::reference::table::{columns, position, Column, HELD_KINDS};
 
-pub const DATES: [&str; 10] = [
-    "1583-01-01", "1600-02-29", "1999-12-31", "2000-02-29", "2001-01-01", "2001-01-02", "2004-02-29", "2024-06-30", "2100-02-28",
-    "9999-12-31",
+pub const DATES: [&str; 14] = [
+    "1583-01-01", "1600-02-29", "1899-12-31", "1900-01-01", "1999-12-31", "2000-02-29", "2001-01-01", "2001-01-02", "2004-02-29",
+    "2024-06-30", "2099-12-31", "2100-01-01", "2100-02-28", "9999-12-31",
 ];
 /// Characters of one to four bytes, with the first and the last of each length; so many of them are ASCII.
 pub const CHARACTERS: [&str; 26] = [
@@ -35,9 +35,11 @@ fn number_text(random: &mut Random, value: u64, width: usize) -> String {
     "0".repeat(zeros) + &bare
 }
 
+/// Now and then a text ends by the end of a word of eight bytes.
 fn text(random: &mut Random, width: usize, least: usize) -> Vec<u8> {
     let most = if random.one_in(12) { width } else { width.min(4) };
     let length = if random.one_in(12) { most } else { least + random.below(most + 1 - least) };
+    let length = if random.one_in(6) { random.pick(&[6, 7, 8, 9, 15, 16, 17]).min(width) } else { length };
     let most = if random.one_in(4) { CHARACTERS.len() } else { ASCII };
     (0..length).flat_map(|_| random.pick(&CHARACTERS[..most]).bytes()).collect()
 }
@@ -50,7 +52,10 @@ fn date(random: &mut Random) -> String {
     if random.one_in(2) {
         return random.pick(&DATES).to_string();
     }
-    format!("{:04}-{:02}-{:02}", 1583 + random.below(8417), 1 + random.below(12), 1 + random.below(28))
+    let year = if random.one_in(2) { 1899 + random.below(202) } else { 1583 + random.below(8417) };
+    let month = 1 + random.below(12);
+    let last = if month == 2 { 28 } else if matches!(month, 4 | 6 | 9 | 11) { 30 } else { 31 };
+    format!("{year:04}-{month:02}-{:02}", if random.one_in(4) { last } else { 1 + random.below(last) })
 }
 
 /// A filled field of a form.
