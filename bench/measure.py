@@ -14,7 +14,7 @@ RUNS = "25"
 # column: program, operation
 MEASURED = {"check_file": ("driver", "check_file"), "check_holding": ("driver", "check_holding"), "apply": ("driver", "apply"),
             "undo": ("driver", "undo"), "SQLite": ("sqlite", "apply"), "SQLite with undo": ("sqlite", "undo"), "floor": ("driver", "floor")}
-HEADS = ["", "`check_file`", "a byte", "`check_holding`", "`apply`", "SQLite", "`apply` to SQLite", "`undo`", "SQLite with undo",
+HEADS = ["", "`check_file`", "a byte", "`check_holding`", "a byte", "`apply`", "SQLite", "`apply` to SQLite", "`undo`", "SQLite with undo",
          "`apply` and `undo` to SQLite", "floor"]
 
 
@@ -53,9 +53,12 @@ def microseconds(n):
     return "{:,.0f} µs".format(n)
 
 
-def row(title, of, shown, a_byte=""):
+def row(title, of, shown, lengths=None):
+    """With what each check takes for a byte, where its input's length is given."""
     both = of["apply"] + of["undo"]
-    return [title, shown(of["check_file"]), a_byte, shown(of["check_holding"]), shown(of["apply"]), shown(of["SQLite"]),
+    a_byte = {column: "%.1f" % (of[column] / lengths[column]) if lengths else "" for column in ("check_file", "check_holding")}
+    return [title, shown(of["check_file"]), a_byte["check_file"], shown(of["check_holding"]), a_byte["check_holding"],
+            shown(of["apply"]), shown(of["SQLite"]),
             "%.2f" % (of["apply"] / of["SQLite"]), shown(of["undo"]), shown(of["SQLite with undo"]),
             "%.2f" % (both / of["SQLite with undo"]), shown(of["floor"])]
 
@@ -63,7 +66,7 @@ def row(title, of, shown, a_byte=""):
 def large_to_half(machine, large, half):
     """The floor has no ratio: memcpy goes another way about long copies."""
     ratio = {column: "%.2f" % (large[column] / half[column]) for column in MEASURED}
-    return ["large to half, " + machine, ratio["check_file"], "", ratio["check_holding"], ratio["apply"], ratio["SQLite"], "",
+    return ["large to half, " + machine, ratio["check_file"], "", ratio["check_holding"], "", ratio["apply"], ratio["SQLite"], "",
             ratio["undo"], ratio["SQLite with undo"], "", ""]
 
 
@@ -77,10 +80,11 @@ def main():
     rows, counted = [], {}
     for corpus, (records, changes, _) in CORPORA.items():
         rows.append(["{}: {:,} lines, {:,} changes".format(corpus, records, changes)] + [""] * (len(HEADS) - 1))
-        length = os.path.getsize(os.path.join(FOLDER, corpus, "change.csv"))
+        lengths = {column: os.path.getsize(os.path.join(FOLDER, corpus, name))
+                   for column, name in (("check_file", "change.csv"), ("check_holding", "holding.csv"))}
         for machine in MACHINES:
             of = counted[machine, corpus] = instructions(machine, corpus)
-            rows.append(row(machine + ", instructions", of, million, "%.1f" % (of["check_file"] / length)))
+            rows.append(row(machine + ", instructions", of, million, lengths))
         if OWN in MACHINES:
             native = times(corpus)
             rows.append(row(OWN + ", time", native, microseconds))
