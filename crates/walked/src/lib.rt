@@ -1,4 +1,6 @@
 // The walk and the exact check of one line, beside each other, for a test that asks both of the same lines (tests/walk).
+ghost use Prim.Native.Nat.{_<_};
+ghost use Rattle.walked.specs.Passed.{SoundUpTo};
 use layout::check::dates_agree;
 use pass::kind::Found;
 use pass::kind::judge_kind;
@@ -6,7 +8,9 @@ use pass::kind::walk_kind;
 
 // Where the line that starts at `at` ends, if the walk sees it to be sound and its dates are in order, or 0.
 #[no_mangle]
-pub extern "C" fn walked_end(s: &[u8], at: u64) -> u64 {
+pub extern "C" fn walked_end(s: &[u8], at: u64) -> u64
+    ensures { λ r. ⌜ (0 < r → SoundUpTo (now (s .entry)) at r) ⌝ }
+{
     let mut ends = [0usize; 32];
     let from = at as usize;
     if s.len() < from {
@@ -23,7 +27,9 @@ pub extern "C" fn walked_end(s: &[u8], at: u64) -> u64 {
 
 // Where the line that starts at `at` ends, if the exact check finds no fault in it, or 0.
 #[no_mangle]
-pub extern "C" fn judged_end(s: &[u8], at: u64) -> u64 {
+pub extern "C" fn judged_end(s: &[u8], at: u64) -> u64
+    ensures { λ r. ⌜ (0 < r → SoundUpTo (now (s .entry)) at r) ⌝ }
+{
     let mut ends = [0usize; 32];
     let from = at as usize;
     if s.len() < from {
