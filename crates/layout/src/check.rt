@@ -69,7 +69,7 @@ pub fn malformed_at(kind: Kind, k: usize, f: &[u8]) -> Fault
 }
 
 // The fault of the lowest field that is malformed.
-fn lowest_malformed(kind: Kind, line: &[u8], ends: &[usize]) -> Fault
+pub fn lowest_malformed(kind: Kind, line: &[u8], ends: &[usize]) -> Fault
     requires { ⌜ Parted (kindMeant kind) (now line) (now ends) ⌝ }
     ensures { λ r. ⌜ r ≡ told (lowestBad 1 (map bare (fields (kindMeant kind))) (fieldsOf (now (line .entry)))) ⌝ }
 {

@@ -8,28 +8,25 @@ use native.Mathlib.Omega.{arith}
 use lib.Dec.{T, eqb, eqb→eq}
 use lib.ListN.{length, getD, take, drop, length-map, length-drop, take-append-drop, List·getD-map}
 use lib.Seq.{drop-drop}
-use Rattle.base.specs.Lists.{all, ask, bytes, same}
+use Rattle.base.specs.Lists.{all, bytes, same}
 use Rattle.base.specs.Tests.{and-l, and-r}
 use Rattle.base.proofs.Walk.{at-cons}
 use Rattle.meaning.specs.Forms.{isDigit, isNumber, hasForm, isTextual, isEmpty, soundAs}
 use Rattle.meaning.specs.Lines.{plain, identifier, fieldsOf, hasFields}
 use Rattle.meaning.specs.Kinds.{Kind, kinds, ident}
-use Rattle.meaning.specs.Format.{kindOf, fieldNumber, endDate}
+use Rattle.meaning.specs.Format.{kindOf}
 use Rattle.meaning.specs.Table.{fields, scottish}
-use Rattle.meaning.specs.Answers as meant
-use Rattle.meaning.specs.Answers.{ofLine, ofField}
-use Rattle.meaning.specs.Codes.{fieldCountWrong, endBeforeStart}
-use Rattle.meaning.specs.Sound.{formFault}
 use Rattle.answers.specs.declared.refusal.Fault.{Fault}
 use Rattle.laws.specs.Kinds.{every, alike}
 use Rattle.laws.specs.Scottish.{scottish-knows}
 use Rattle.laws.specs.Body.{kind-out, ident-in}
-use Rattle.text.specs.Places.{plainLen, plainEnd, endsHere, Notes}
+use Rattle.text.specs.Places.{plainLen, plainEnd, endsHere, fieldCount, Notes}
 use Rattle.words.specs.Words.{upto}
-use Rattle.layout.specs.Rows.{bare, rowOf, decoded, soundBy}
+use Rattle.layout.specs.Rows.{bare, rowOf, decoded, laidOut}
+use Rattle.layout.specs.declared.records.Layout.{Layout}
 use Rattle.layout.proofs.TableLaws.{codes, rows-right, no-row}
-use Rattle.layout.specs.Check.{lowestBad, firstOf, kindDates, told}
-use Rattle.layout.proofs.CheckLaws.{fields-low, fields-high, fault-is, bad-coded}
+use Rattle.layout.specs.Check.{lowestBad, told}
+use Rattle.layout.proofs.CheckLaws.{fields-low, fields-high, right-count, bad-coded}
 use Rattle.pass.specs.Passed.{Passed, Started}
 use Rattle.pass.specs.Kinds.{Begins, PassedAs}
 use Rattle.pass.proofs.TidyLaws.{plain-past}
@@ -116,39 +113,32 @@ module _ (k : Kind) (rows : List ℕ) (e : rows ≡ codes k) where
 
 -- ---- a line that the exact check finds no fault in
 
-module _ (k : Kind) (t : List ℕ) (f : Fault) (e : f ≡ told (formFault scottish k t none)) (z : f .code ≡ 0) where
+module _ (k : Kind) (t : List ℕ) (l : Layout) (e : l ≡ laidOut k) (c : ℕ) (n : c ≡ fieldCount t) (h : c ≡ l .count) (f : Fault) (q : f ≡ told (lowestBad 1 (map bare (fields k)) (fieldsOf t)))
+    (z : f .code ≡ 0) where
   -- it has as many fields as its kind, each sound
   judged-sound : (true ≡ hasFields (length (fields k)) t) × (none ≡ lowestBad 1 (map bare (fields k)) (fieldsOf t))
-  unfolding ask
-  judged-sound = go (hasFields (length (fields k)) t) (lowestBad 1 (map bare (fields k)) (fieldsOf t)) (bad-coded 1 (map bare (fields k)) (fieldsOf t))
-      (ask (kindDates k (fieldsOf t)) (ofField endBeforeStart (fieldNumber 1 endDate (fields k))) none) (ap (λ x. told x .code) (sym (fault-is k t none)) ∙ ap (λ x. x .code) (sym e) ∙ z)
-    where
-      go : (b : Bool) (o : Option meant.Fault) → (told o .code ≡ 0 → o ≡ none) → (rest : Option meant.Fault)
-          → told (ask b (ofLine fieldCountWrong) (firstOf o rest)) .code ≡ 0 → (true ≡ b) × (none ≡ o)
-      go true none q rest u = (refl, refl)
-      go true (some x) q rest u = (refl, sym (q u))
-      go false o q rest u = absurd (omega (arith, u))
+  judged-sound = (right-count k t l e c n h, sym (bad-coded 1 (map bare (fields k)) (fieldsOf t) (ap (λ x. x .code) (sym q) ∙ z)))
 
   -- so it is passed, where it ends well and its ends are noted
   pub judged-passed :
       (s a : List ℕ) (at x : ℕ) → t ≡ upto s at x → Begins s at (some k) → x ≡ plainEnd s at → at ≤ x → x ≤ length s → (b : Bool) → b ≡ endsHere (drop x s) → not b ≡ false
       → Notes t a → 32 ≤ length a → PassedAs k s a at x
-  judged-passed s a at x u b p l m v q o n w =
+  judged-passed s a at x u b p g m v d o i w =
       let j = rw u at judged-sound in
       let r : v ≡ true = yes v o in
       record {
         line = record {
-          forward = l;
+          forward = g;
           within = m;
           plain = p;
-          ended = sym r ∙ q;
+          ended = sym r ∙ d;
           many = rw length-map (j .0);
-          noted = rw u at n;
+          noted = rw u at i;
           low = j .1;
         };
         kind = kind-line k s at x (b .0) (b .1) (b .2) p;
-        parted = record { many = j .0; noted = rw u at n; room = w };
-        inside = inner (drop x s) refl (sym q ∙ r);
+        parted = record { many = j .0; noted = rw u at i; room = w };
+        inside = inner (drop x s) refl (sym d ∙ r);
       }
     where
       yes : (b : Bool) → not b ≡ false → b ≡ true

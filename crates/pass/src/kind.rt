@@ -6,8 +6,8 @@ ghost use lib.ListN.{length, getD};
 ghost use Rattle.layout.specs.Meant.{heldMeant, kindMeant, kindFound};
 ghost use Rattle.pass.specs.Kinds.{Begins, PassedAs, FoundAs};
 use crate::line::pass_line;
-use layout::check::check_line;
 use layout::check::kind_of;
+use layout::check::lowest_malformed;
 use layout::kinds::HeldKind;
 use layout::kinds::Kind;
 use layout::kinds::KindFound;
@@ -19,6 +19,7 @@ use layout::records::Metadata;
 use layout::records::Street;
 use layout::records::StreetXref;
 use layout::records::Trailer;
+use layout::rules::layout;
 use text::fields::split;
 use text::lines::ends_at;
 use text::lines::plain_end;
@@ -111,7 +112,7 @@ pub fn walk_kind(s: &[u8], at: usize, ends: &mut [usize]) -> Found
     Found::Line(kind, end)
 }
 
-// Passes the line that starts at `at`, if the exact check finds no fault in it.
+// Passes the line that starts at `at`, if the exact check finds no fault in its ending, its count of fields and each of them.
 pub fn judge_kind(s: &[u8], at: usize, ends: &mut [usize]) -> Found
     requires { ⌜ (at ≤ length (now s)) × (32 ≤ length (now ends)) ⌝ }
     ensures { λ r. ⌜ (length (now (ends .exit)) ≡ length (now (ends .entry))) × FoundAs (now (s .entry)) at (now (ends .exit)) r ⌝ }
@@ -124,11 +125,14 @@ pub fn judge_kind(s: &[u8], at: usize, ends: &mut [usize]) -> Found
         return Found::Nothing;
     }
     let text = &s[at..end];
-    let fault = check_line(kind, text);
+    let count = layout(kind).count;
+    if split(text, &mut *ends) != count {
+        return Found::Nothing;
+    }
+    let fault = lowest_malformed(kind, text, &*ends);
     if fault.code != 0 {
         return Found::Nothing;
     }
-    split(text, &mut *ends);
     Found::Line(kind, end)
 }
 

@@ -1,12 +1,11 @@
 // The walk and the exact check of one line, beside each other, for a test that asks both of the same lines (tests/walk).
 ghost use Prim.Native.Nat.{_<_};
 ghost use Rattle.walked.specs.Passed.{SoundUpTo};
-use layout::check::dates_agree;
 use pass::kind::Found;
 use pass::kind::judge_kind;
 use pass::kind::walk_kind;
 
-// Where the line that starts at `at` ends, if the walk sees it to be sound and its dates are in order, or 0.
+// Where the line that starts at `at` ends, if the walk sees it to be sound, or 0.
 #[no_mangle]
 pub extern "C" fn walked_end(s: &[u8], at: u64) -> u64
     ensures { λ r. ⌜ (0 < r → SoundUpTo (now (s .entry)) at r) ⌝ }
@@ -16,12 +15,9 @@ pub extern "C" fn walked_end(s: &[u8], at: u64) -> u64
     if s.len() < from {
         return 0;
     }
-    let Found::Line(kind, end) = walk_kind(s, from, &mut ends) else {
+    let Found::Line(_, end) = walk_kind(s, from, &mut ends) else {
         return 0;
     };
-    if !dates_agree(kind, &s[from..end], &ends) {
-        return 0;
-    }
     end as u64
 }
 

@@ -1,4 +1,4 @@
-// A date read as one number: a real day of a year 19.. or 20..
+// A date read as one number: a real day from the year 1600 on.
 ghost use mathlib.Core.Path.{_≡_};
 ghost use mathlib.Core.Bool.{true};
 ghost use Prim.Native.Nat.{_+_, _≤_, _<_};
@@ -10,22 +10,33 @@ use crate::word::wide;
 use crate::word::word_at;
 use number::calendar::is_day;
 
-// 19 or 20 where two bytes are its digits, else 0.
+// The number of two digits where it is 16 or more, else 0.
 fn century(a: u8, b: u8) -> u64
-    ensures { λ r. ⌜ (r ≤ 20) × (0 < r → Century a b r) ⌝ }
+    ensures { λ r. ⌜ (r ≤ 99) × (0 < r → Century a b r) ⌝ }
 {
-    let both = wide(a) + wide(b) * 256;
-    if both == 0x3032 {
-        return 20;
+    let x = wide(a);
+    let y = wide(b);
+    if x < 48 {
+        return 0;
     }
-    if both == 0x3931 {
-        return 19;
+    if 57 < x {
+        return 0;
     }
-    0
+    if y < 48 {
+        return 0;
+    }
+    if 57 < y {
+        return 0;
+    }
+    let hundreds = (x - 48) * 10 + (y - 48);
+    if hundreds < 16 {
+        return 0;
+    }
+    hundreds
 }
 
-// Whether the ten bytes from `at` on are seen to be a date; one of another century is not seen. No byte is read by itself but the first
-// two, so the other eight are one load.
+// Whether the ten bytes from `at` on are seen to be a date; one before 1600 is not seen. No byte is read by itself but the first two, so
+// the other eight are one load.
 pub fn is_usual_date(s: &[u8], at: usize) -> bool
     requires { ⌜ at + 10 ≤ length (now s) ⌝ }
     ensures { λ r. ⌜ (r ≡ true → isDate (take 10 (drop at (now (s .entry)))) ≡ true) ⌝ }
