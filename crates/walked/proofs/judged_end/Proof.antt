@@ -1,48 +1,18 @@
+-- `walked::judged_end` meets its contract.
 use borrow.Author.Needs.{needs}
 use native.Mathlib.Omega.{arith}
 use Rattle.walked.proofs.PassedLaws.{passed-sound}
 use Rattle.walked.proofs.judged_end.Statement.{statement}
 use Rattle.walked.proofs.judged_end.Tie as tie
-use Rattle.walked.proofs.judged_end.Reads as reads
-use Rattle.walked.proofs.judged_end.Lts as lts
-use Rattle.pass.proofs.kind.judge_kind.Reads as judge-kind-reads
-
--- src/lib.rt:36:9
-returns : tie.Need-returns
-returns c h = absurd (omega arith)
-
--- src/lib.rt:38:51
-slice-aggregate-judge-kind : tie.Need-slice-aggregate-judge-kind
-slice-aggregate-judge-kind c = search needs
-
--- src/lib.rt:38:31
-judge-kind-requires : tie.Need-judge-kind-requires
-judge-kind-requires c κs = search needs
-
--- src/lib.rt:38:24
-enum-known-end : tie.Need-enum-known-end
-enum-known-end c = search needs
-
--- src/lib.rt:39:9
-enum-told : tie.Need-enum-told
-enum-told c = search needs
-
--- src/lib.rt:39:9
-returns-2 : tie.Need-returns-2
-returns-2 c h = absurd (omega arith)
-
--- src/lib.rt:29:1
-returns-3 : tie.Need-returns-3
-returns-3 c h = passed-sound _ _ _ _ _ (rw (c .before .end .given .1) at (c .before .before .before .before .judge-kind .ensures .1))
 
 pub judged-end-spec : {M : Type 1} → statement M
 judged-end-spec =
     tie.close
     (tie.spec
-    returns
-    slice-aggregate-judge-kind
-    judge-kind-requires
-    enum-known-end
-    enum-told
-    returns-2
-    returns-3)
+    (λ c h. absurd (omega arith))  -- returns
+    (λ c. search needs)  -- slice-aggregate-judge-kind
+    (λ c κs. search needs)  -- judge-kind-requires
+    (λ c. search needs)  -- enum-known-end
+    (λ c. search needs)  -- enum-told
+    (λ c h. absurd (omega arith))  -- returns-2
+    (λ c h. passed-sound _ _ _ _ _ (rw (c .before .end .given .1) at (c .before .before .before .before .judge-kind .ensures .1))))  -- returns-3
