@@ -1,4 +1,5 @@
-// A row of the table, read. But for a step, which matches on kind and change, only this file goes by cases on the held kinds.
+// A row of the table, read. But for a step, which matches on kind and change, and the walk of a line, which takes its kind's rows, only
+// this file goes by cases on the held kinds.
 ghost use mathlib.Core.Path.{_≡_};
 ghost use Prim.Native.Nat.{_<_};
 ghost use lib.ListN.{length};

@@ -21,7 +21,7 @@ pub extern "C" fn walked_end(s: &[u8], at: u64) -> u64
     end as u64
 }
 
-// Where the line that starts at `at` ends, if the exact check finds no fault in it, or 0.
+// Where the line that starts at `at` ends, if the exact check finds no fault in its ending, its count of fields and each of them, or 0.
 #[no_mangle]
 pub extern "C" fn judged_end(s: &[u8], at: u64) -> u64
     ensures { λ r. ⌜ (0 < r → SoundUpTo (now (s .entry)) at r) ⌝ }

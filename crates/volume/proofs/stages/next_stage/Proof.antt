@@ -1,4 +1,4 @@
--- `volume::places::next_stage` meets its contract.
+-- `volume::stages::next_stage` meets its contract.
 use Rattle.meaning.specs.File.{next}
 use Rattle.volume.proofs.LineLaws.{nexts}
 use Rattle.volume.proofs.stages.next_stage.Statement.{statement}
