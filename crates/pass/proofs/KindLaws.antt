@@ -1,32 +1,29 @@
 -- The laws of a line by its kind: it begins with the kind's identifier, and the rows are the kind's.
 use mathlib.Core.Path.{_≡_, refl, sym, ap, _∙_}
-use mathlib.Core.Bool.{Bool, true, false, not, _&&_}
+use mathlib.Core.Bool.{true, _&&_}
 use mathlib.Core.Option.{Option, none, some}
 use mathlib.Core.List.{List, [], _∷_, _++_, map}
 use Prim.Native.Nat.{ℕ, suc, _+_, _-_, _≤_, _<_}
 use native.Mathlib.Omega.{arith}
 use lib.Dec.{T, eqb, eqb→eq}
-use lib.ListN.{length, getD, take, drop, length-map, length-drop, take-append-drop, List·getD-map}
+use lib.ListN.{length, getD, take, drop, length-map, take-append-drop, List·getD-map}
 use lib.Seq.{drop-drop}
 use Rattle.base.specs.Lists.{all, bytes, same}
 use Rattle.base.specs.Tests.{and-l, and-r}
 use Rattle.base.proofs.Walk.{at-cons}
 use Rattle.meaning.specs.Forms.{isDigit, isNumber, hasForm, isTextual, isEmpty, soundAs}
-use Rattle.meaning.specs.Lines.{plain, identifier, fieldsOf, hasFields}
+use Rattle.meaning.specs.Lines.{plain, identifier}
 use Rattle.meaning.specs.Kinds.{Kind, kinds, ident}
 use Rattle.meaning.specs.Format.{kindOf}
 use Rattle.meaning.specs.Table.{fields, scottish}
-use Rattle.answers.specs.declared.refusal.Fault.{Fault}
 use Rattle.laws.specs.Kinds.{every, alike}
 use Rattle.laws.specs.Scottish.{scottish-knows}
 use Rattle.laws.specs.Body.{kind-out, ident-in}
-use Rattle.text.specs.Places.{plainLen, plainEnd, endsHere, fieldCount, Notes}
+use Rattle.text.specs.Places.{plainLen, plainEnd}
 use Rattle.words.specs.Words.{upto}
-use Rattle.layout.specs.Rows.{bare, rowOf, decoded, laidOut}
-use Rattle.layout.specs.declared.records.Layout.{Layout}
+use Rattle.layout.specs.Rows.{bare, rowOf, decoded}
 use Rattle.layout.proofs.TableLaws.{codes, rows-right, no-row}
-use Rattle.layout.specs.Check.{lowestBad, told}
-use Rattle.layout.proofs.CheckLaws.{fields-low, fields-high, right-count, bad-coded}
+use Rattle.layout.proofs.CheckLaws.{fields-low, fields-high}
 use Rattle.pass.specs.Passed.{Passed, Started}
 use Rattle.pass.specs.Kinds.{Begins, PassedAs}
 use Rattle.pass.proofs.TidyLaws.{plain-past}
@@ -110,47 +107,6 @@ module _ (k : Kind) (rows : List ℕ) (e : rows ≡ codes k) where
         parted = record { many = rw length-map at (q .many); noted = q .noted; room = w };
         inside = l;
       }
-
--- ---- a line that the exact check finds no fault in
-
-module _ (k : Kind) (t : List ℕ) (l : Layout) (e : l ≡ laidOut k) (c : ℕ) (n : c ≡ fieldCount t) (h : c ≡ l .count) (f : Fault) (q : f ≡ told (lowestBad 1 (map bare (fields k)) (fieldsOf t)))
-    (z : f .code ≡ 0) where
-  -- it has as many fields as its kind, each sound
-  judged-sound : (true ≡ hasFields (length (fields k)) t) × (none ≡ lowestBad 1 (map bare (fields k)) (fieldsOf t))
-  judged-sound = (right-count k t l e c n h, sym (bad-coded 1 (map bare (fields k)) (fieldsOf t) (ap (λ x. x .code) (sym q) ∙ z)))
-
-  -- so it is passed, where it ends well and its ends are noted
-  pub judged-passed :
-      (s a : List ℕ) (at x : ℕ) → t ≡ upto s at x → Begins s at (some k) → x ≡ plainEnd s at → at ≤ x → x ≤ length s → (b : Bool) → b ≡ endsHere (drop x s) → not b ≡ false
-      → Notes t a → 32 ≤ length a → PassedAs k s a at x
-  judged-passed s a at x u b p g m v d o i w =
-      let j = rw u at judged-sound in
-      let r : v ≡ true = yes v o in
-      record {
-        line = record {
-          forward = g;
-          within = m;
-          plain = p;
-          ended = sym r ∙ d;
-          many = rw length-map (j .0);
-          noted = rw u at i;
-          low = j .1;
-        };
-        kind = kind-line k s at x (b .0) (b .1) (b .2) p;
-        parted = record { many = j .0; noted = rw u at i; room = w };
-        inside = inner (drop x s) refl (sym d ∙ r);
-      }
-    where
-      yes : (b : Bool) → not b ≡ false → b ≡ true
-      yes true e = refl
-      yes false e = sym e
-
-      inner : (d : List ℕ) → drop x s ≡ d → endsHere d ≡ true → x < length s
-      inner d g h = go d g h (simp length-drop at (ap length g))
-        where
-          go : (d : List ℕ) → drop x s ≡ d → endsHere d ≡ true → length s - x ≡ length d → x < length s
-          go [] g h n = absurd (let y : _≡_ {A = Bool} false true = h in let z : _≡_ {A = ℕ} 0 1 = cc in omega arith)
-          go (y ∷ d) g h n = omega arith
 
 -- ---- in the arm of a kind, by an enum of the code and the kind that is meant by each of its cases
 

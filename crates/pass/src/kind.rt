@@ -7,7 +7,6 @@ ghost use Rattle.layout.specs.Meant.{heldMeant, kindMeant, kindFound};
 ghost use Rattle.pass.specs.Kinds.{Begins, PassedAs, FoundAs};
 use crate::line::pass_line;
 use layout::check::kind_of;
-use layout::check::lowest_malformed;
 use layout::kinds::HeldKind;
 use layout::kinds::Kind;
 use layout::kinds::KindFound;
@@ -19,10 +18,6 @@ use layout::records::Metadata;
 use layout::records::Street;
 use layout::records::StreetXref;
 use layout::records::Trailer;
-use layout::rules::layout;
-use text::fields::split;
-use text::lines::ends_at;
-use text::lines::plain_end;
 
 // A line that was passed: its kind, and where it ends.
 pub enum Found {
@@ -96,8 +91,8 @@ fn pass_by(s: &[u8], at: usize, kind: Kind, ends: &mut [usize]) -> usize
     }
 }
 
-// Passes the line that starts at `at`, if the walk sees it to be sound as a line of its kind.
-pub fn walk_kind(s: &[u8], at: usize, ends: &mut [usize]) -> Found
+// Passes the line that starts at `at`, if it is seen to be sound as a line of its kind, with the ends of its fields noted from its start on.
+pub fn pass_kind(s: &[u8], at: usize, ends: &mut [usize]) -> Found
     requires { ⌜ (at ≤ length (now s)) × (32 ≤ length (now ends)) ⌝ }
     ensures { λ r. ⌜ (length (now (ends .exit)) ≡ length (now (ends .entry))) × FoundAs (now (s .entry)) at (now (ends .exit)) r ⌝ }
 {
@@ -109,41 +104,5 @@ pub fn walk_kind(s: &[u8], at: usize, ends: &mut [usize]) -> Found
     if end == 0 {
         return Found::Nothing;
     }
-    Found::Line(kind, end)
-}
-
-// Passes the line that starts at `at`, if the exact check finds no fault in its ending, its count of fields and each of them.
-pub fn judge_kind(s: &[u8], at: usize, ends: &mut [usize]) -> Found
-    requires { ⌜ (at ≤ length (now s)) × (32 ≤ length (now ends)) ⌝ }
-    ensures { λ r. ⌜ (length (now (ends .exit)) ≡ length (now (ends .entry))) × FoundAs (now (s .entry)) at (now (ends .exit)) r ⌝ }
-{
-    let KindFound::Known(kind) = kind_here(s, at) else {
-        return Found::Nothing;
-    };
-    let end = plain_end(s, at);
-    if !ends_at(s, end) {
-        return Found::Nothing;
-    }
-    let text = &s[at..end];
-    let count = layout(kind).count;
-    if split(text, &mut *ends) != count {
-        return Found::Nothing;
-    }
-    let fault = lowest_malformed(kind, text, &*ends);
-    if fault.code != 0 {
-        return Found::Nothing;
-    }
-    Found::Line(kind, end)
-}
-
-// Passes the line that starts at `at`, if it is sound as a line of its kind, with the ends of its fields noted from its start on. One that
-// the walk doesn't see to be sound is judged.
-pub fn pass_kind(s: &[u8], at: usize, ends: &mut [usize]) -> Found
-    requires { ⌜ (at ≤ length (now s)) × (32 ≤ length (now ends)) ⌝ }
-    ensures { λ r. ⌜ (length (now (ends .exit)) ≡ length (now (ends .entry))) × FoundAs (now (s .entry)) at (now (ends .exit)) r ⌝ }
-{
-    let Found::Line(kind, end) = walk_kind(s, at, &mut *ends) else {
-        return judge_kind(s, at, &mut *ends);
-    };
     Found::Line(kind, end)
 }

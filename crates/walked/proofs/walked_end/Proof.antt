@@ -10,9 +10,9 @@ walked-end-spec =
     tie.close
     (tie.spec
     (λ c h. absurd (omega arith))  -- returns
-    (λ c. search needs)  -- slice-aggregate-walk-kind
-    (λ c κs. search needs)  -- walk-kind-requires
+    (λ c. search needs)  -- slice-aggregate-pass-kind
+    (λ c κs. search needs)  -- pass-kind-requires
     (λ c. search needs)  -- enum-known-end
     (λ c. search needs)  -- enum-told
     (λ c h. absurd (omega arith))  -- returns-2
-    (λ c h. passed-sound _ _ _ _ _ (rw (c .before .end .given .1) at (c .before .before .before .before .walk-kind .ensures .1))))  -- returns-3
+    (λ c h. passed-sound _ _ _ _ _ (rw (c .before .end .given .1) at (c .before .before .before .before .pass-kind .ensures .1))))  -- returns-3
