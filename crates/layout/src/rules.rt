@@ -121,7 +121,7 @@ pub fn form_of(row: u32) -> Form
         7 => Form::XrefType,
         8 => Form::FileType,
         9 => Form::KeyText((row / 16 % 256) as u8),
-        _ => Form::KeyText((row / 16 % 256) as u8), // no row says more; with 9 by itself clang goes by one table of jumps
+        _ => Form::KeyText((row / 16 % 256) as u8), // no row says more; an arm for 9 spares a minimum before the jump
     }
 }
 
