@@ -1,15 +1,15 @@
 -- A field of any form is tidy.
-use mathlib.Core.Path.{_≡_, refl, sym, ap, _∙_, subst}
+use mathlib.Core.Path.{_≡_, refl, sym, ap, _∙_}
 use mathlib.Core.Bool.{Bool, true, false, not, _&&_, _||_}
 use mathlib.Core.List.{List, [], _∷_, _++_}
-use Prim.Native.Nat.{ℕ, suc, _+_, _-_, _≤_, _<_}
+use Prim.Native.Nat.{ℕ, _+_, _-_, _≤_, _<_}
 use native.Mathlib.Omega.{arith}
 use lib.Dec.{T, eqb, leb, eqb→eq, leb→le}
-use lib.ListN.{length, take, drop, length-drop, take-append-drop}
+use lib.ListN.{length, take, drop, take-append-drop}
 use lib.Seq.{drop-drop}
 use mir.Facts.{no-eqb}
 use Rattle.base.specs.Lists.{all, pick, same, part, upTo, past, bytes}
-use Rattle.base.specs.Tests.{and-in, and-l, and-r, T-true, T-false}
+use Rattle.base.specs.Tests.{and-in, and-l, and-r, T-false}
 use Rattle.base.specs.ListLaws.{all-map, all-append, same-eq}
 use Rattle.base.proofs.Walk.{at-end}
 use Rattle.meaning.specs.Lines.{isSep, turned, plain}
@@ -17,7 +17,6 @@ use Rattle.meaning.specs.Forms.{Form, number, atLeast1, decimal, date, time, te
 use Rattle.theory.specs.Decimal.{value}
 use Rattle.laws.specs.ContentLaws.{text-quoted, text-content}
 use Rattle.pass.specs.Tidy.{tidy}
-use Rattle.pass.proofs.TidyLaws.{tidy-append}
 
 -- neither a comma nor a quote, CR or LF
 unfoldable calm : ℕ → Bool

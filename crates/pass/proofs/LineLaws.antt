@@ -5,20 +5,18 @@ use mathlib.Core.Option.{none}
 use mathlib.Core.List.{List, [], _∷_, _++_, map, append-assoc, append-nil}
 use Prim.Native.Nat.{ℕ, suc, _+_, _-_, _≤_, _<_}
 use native.Mathlib.Numerals.{add-one}
-use native.Mathlib.Nat.{add-zero}
 use native.Mathlib.Omega.{arith}
 use borrow.Author.Tests.{eq-eqb}
 use lib.Dec.{T, eqb, eqb→eq}
-use lib.ListN.{length, getD, take, drop, set, length-append, length-drop, length-map, drop-of-length-le, take-append-drop, List·getD-map}
-use lib.Seq.{drop-cons, drop-drop, take-add, take-suc-set, getD-take, length-take-le}
-use Rattle.base.specs.Lists.{all, pick, ask}
+use lib.ListN.{length, getD, take, drop, set, length-append, length-map, drop-of-length-le, take-append-drop, List·getD-map}
+use lib.Seq.{drop-cons, drop-drop, take-suc-set, getD-take}
+use Rattle.base.specs.Lists.{all, ask}
 use Rattle.base.specs.ListLaws.{all-append}
-use Rattle.base.specs.Tests.{and-in, and-l, and-r, T-true}
-use Rattle.base.proofs.Walk.{at-cons, at-end}
-use Rattle.meaning.specs.Lines.{plain, isSep, turned, addByte, fieldsFrom, fieldsOf, quoteAfter, oddQuotes, hasFields}
+use Rattle.base.specs.Tests.{and-l}
+use Rattle.meaning.specs.Lines.{plain, isSep, turned, fieldsFrom, fieldsOf, quoteAfter, oddQuotes, hasFields}
 use Rattle.meaning.specs.Forms.{soundAs}
 use Rattle.meaning.specs.Table.{scottish}
-use Rattle.text.specs.Places.{endsHere, endsFrom, fieldEnds, plainEnd, plainLen, Notes}
+use Rattle.text.specs.Places.{endsHere, endsFrom, fieldEnds, plainEnd, plainLen}
 use Rattle.layout.specs.Rows.{Row, noRow, formDecoded, filledDecoded, decoded, soundBy}
 use Rattle.layout.specs.Check.{lowestBad}
 use Rattle.pass.specs.Tidy.{tidy}

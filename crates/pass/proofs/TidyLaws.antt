@@ -1,13 +1,13 @@
 -- The laws of a tidy field: what follows it is cut, counted and noted as if it stood alone.
-use mathlib.Core.Path.{_≡_, refl, sym, ap, _∙_, subst}
+use mathlib.Core.Path.{_≡_, refl, _∙_}
 use mathlib.Core.Bool.{Bool, true, false, not, _&&_}
 use mathlib.Core.List.{List, [], _∷_, _++_}
 use Prim.Native.Nat.{ℕ, suc, _+_}
 use native.Mathlib.Nat.{add-zero}
 use native.Mathlib.Omega.{arith}
-use lib.Dec.{T, eqb}
+use lib.Dec.{T}
 use lib.ListN.{length}
-use Rattle.base.specs.Lists.{all, pick}
+use Rattle.base.specs.Lists.{all}
 use Rattle.base.specs.Tests.{and-in, and-l, and-r, T-true, T-false}
 use Rattle.meaning.specs.Lines.{isSep, turned, plain, addByte, fieldsFrom, quoteAfter}
 use Rattle.text.specs.Places.{endsFrom, plainLen}
@@ -70,14 +70,6 @@ tidy-ends q i (x ∷ f) t h =
 pub tidy-plain : (q : Bool) (f : List ℕ) → T (tidy q f) → T (all plain f)
 tidy-plain q [] h = tt
 tidy-plain q (x ∷ f) h = and-in (plain x) (all plain f) (flat q x f h) (tidy-plain (turned q x) f (on q x f h))
-
--- and two tidy parts are one
-pub tidy-append : (q : Bool) (f g : List ℕ) → T (tidy q f) → T (tidy false g) → T (tidy q (f ++ g))
-unfolding tidy
-tidy-append true [] g h k = absurd h
-tidy-append false [] g h k = k
-tidy-append q (x ∷ f) g h k =
-    and-in (not (isSep q x) && plain x) (tidy (turned q x) (f ++ g)) (and-l (not (isSep q x) && plain x) (tidy (turned q x) f) h) (tidy-append (turned q x) f g (on q x f h) k)
 
 -- ---- a field that a comma follows, and one that nothing does
 

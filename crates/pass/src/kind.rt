@@ -91,7 +91,8 @@ fn pass_by(s: &[u8], at: usize, kind: Kind, ends: &mut [usize]) -> usize
     }
 }
 
-// Passes the line that starts at `at`, if it is seen to be sound as a line of its kind, with the ends of its fields noted from its start on.
+// Passes the line that starts at `at`, if it is seen to be sound as a line of its kind, with the ends of its fields noted from its start
+// on.
 pub fn pass_kind(s: &[u8], at: usize, ends: &mut [usize]) -> Found
     requires { ⌜ (at ≤ length (now s)) × (32 ≤ length (now ends)) ⌝ }
     ensures { λ r. ⌜ (length (now (ends .exit)) ≡ length (now (ends .entry))) × FoundAs (now (s .entry)) at (now (ends .exit)) r ⌝ }
