@@ -1,8 +1,9 @@
 /* The loader's side of the benchmark, and its floor: driver OPERATION FOLDER [RUNS], on FOLDER's holding.csv and change.csv.
  *   none      makes no call, so that what a run costs besides can be taken off
- *   check_file, check_holding, apply, undo
+ *   check_file, check_holding
+ *   load      the one call that leaves the new holding and the undo
  *   floor     copies both files once with memcpy, and looks at each byte once, for the CR LFs, with memchr
- *   new       leaves the new holding in FOLDER/new.csv, and fails unless its undo gives the old one back byte for byte
+ *   new       as load; leaves FOLDER/new-driver.csv and FOLDER/undo-driver.csv, and fails unless the undo gives the old holding back
  * With RUNS the call is made so many times, and the median time in microseconds printed. */
 #define _POSIX_C_SOURCE 200809L
 #include "../include/muiwash.h"
@@ -12,7 +13,7 @@
 #include <time.h>
 
 struct bytes { uint8_t *start; size_t length; };
-static struct bytes holding, change, out, undone, work;
+static struct bytes holding, change, out, undo;
 static uint64_t answer[7];
 static volatile size_t lines;
 
@@ -49,9 +50,8 @@ static size_t crlfs(struct bytes b) {
 static void none(void) {}
 static void check_file(void) { muiwash_check_file(change.start, change.length, answer); }
 static void check_holding(void) { muiwash_check_holding(holding.start, holding.length, answer); }
-static void apply(void) { muiwash_apply(holding.start, holding.length, change.start, change.length, out.start, out.length, answer); }
-static void undo(void) {
-    muiwash_undo(holding.start, holding.length, change.start, change.length, undone.start, undone.length, work.start, work.length, answer);
+static void load(void) {
+    muiwash_load(holding.start, holding.length, change.start, change.length, out.start, out.length, undo.start, undo.length, answer);
 }
 static void touch_all(void) {
     memcpy(out.start, holding.start, holding.length);
@@ -63,16 +63,20 @@ static struct bytes written(struct bytes b) {
     while (b.length > 0 && b.start[b.length - 1] == 0) b.length--;
     return b;
 }
-static void new_holding(const char *folder) {
+static void leave(const char *folder, const char *name, struct bytes b) {
     char path[4096];
-    undo();
-    apply();
-    struct bytes file = written(undone), taken = written(out), back = lent(MUIWASH_ROOM(taken.length, file.length));
-    if (answer[0]) fail("refused");
-    snprintf(path, sizeof path, "%s/new.csv", folder);
+    snprintf(path, sizeof path, "%s/%s", folder, name);
     FILE *f = fopen(path, "wb");
-    if (!f || fwrite(taken.start, 1, taken.length, f) != taken.length || fclose(f)) fail(path);
-    muiwash_apply(taken.start, taken.length, file.start, file.length, back.start, back.length, answer);
+    if (!f || fwrite(b.start, 1, b.length, f) != b.length || fclose(f)) fail(path);
+}
+static void new_holding(const char *folder) {
+    load();
+    if (answer[0]) fail("refused");
+    struct bytes taken = written(out), file = written(undo), back = lent(MUIWASH_ROOM(taken.length, file.length));
+    struct bytes again = lent(MUIWASH_BACK_ROOM(change.length, file.length));
+    leave(folder, "new-driver.csv", taken);
+    leave(folder, "undo-driver.csv", file);
+    muiwash_load(taken.start, taken.length, file.start, file.length, back.start, back.length, again.start, again.length, answer);
     back = written(back);
     if (answer[0] || back.length != holding.length || memcmp(back.start, holding.start, back.length)) fail("the undo isn't one");
 }
@@ -100,12 +104,10 @@ static void measure(void (*operation)(void), int runs, int shown) {
 
 int main(int argc, char **argv) {
     static const struct { const char *name; void (*run)(void); } operations[] = {
-        {"none", none}, {"check_file", check_file}, {"check_holding", check_holding},
-        {"apply", apply}, {"undo", undo}, {"floor", touch_all}};
+        {"none", none}, {"check_file", check_file}, {"check_holding", check_holding}, {"load", load}, {"floor", touch_all}};
     if (argc < 3) fail("driver OPERATION FOLDER [RUNS]");
     holding = read_file(argv[2], "holding.csv"), change = read_file(argv[2], "change.csv");
-    out = lent(MUIWASH_ROOM(holding.length, change.length)), work = lent(out.length);
-    undone = lent(MUIWASH_UNDO_ROOM(holding.length, change.length));
+    out = lent(MUIWASH_ROOM(holding.length, change.length)), undo = lent(MUIWASH_UNDO_ROOM(holding.length, change.length));
     if (!strcmp(argv[1], "new")) return new_holding(argv[2]), 0;
     for (size_t i = 0; i < sizeof operations / sizeof *operations; i++)
         if (!strcmp(argv[1], operations[i].name)) return measure(operations[i].run, argc > 3 ? atoi(argv[3]) : 1, argc > 3), 0;

@@ -1,6 +1,6 @@
 // muiwash.wasm's side of the benchmark: node driver.mjs WASM OPERATION FOLDER RUNS prints the median time in microseconds of check_file,
-// check_holding, apply or undo on FOLDER's holding.csv and change.csv, what muiwash.mjs copies in and out included. As many runs go before
-// those that are timed, in which node compiles the module.
+// check_holding or load on FOLDER's holding.csv and change.csv, what muiwash.mjs copies in and out included. As many runs go before those
+// that are timed, in which node compiles the module.
 import { readFileSync } from 'node:fs';
 import { open } from '../include/muiwash.mjs';
 
@@ -10,8 +10,7 @@ const [holding, change] = ['holding', 'change'].map((name) => readFileSync(`${fo
 const operations = {
   check_file: () => muiwash.checkFile(change),
   check_holding: () => muiwash.checkHolding(holding),
-  apply: () => muiwash.apply(holding, change).answer,
-  undo: () => muiwash.undo(holding, change).answer,
+  load: () => muiwash.load(holding, change).answer,
 };
 function time() {
   const began = performance.now();

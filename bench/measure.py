@@ -12,10 +12,9 @@ from corpus import CORPORA, TEXT_LINES, TEXTS
 FOLDER, OWN, WASM, MACHINES = sys.argv[1], sys.argv[2], sys.argv[3], sys.argv[4:]
 RUNS = "25"
 # column: program, operation
-MEASURED = {"check_file": ("driver", "check_file"), "check_holding": ("driver", "check_holding"), "apply": ("driver", "apply"),
-            "undo": ("driver", "undo"), "SQLite": ("sqlite", "apply"), "SQLite with undo": ("sqlite", "undo"), "floor": ("driver", "floor")}
-HEADS = ["", "`check_file`", "a byte", "`check_holding`", "a byte", "`apply`", "SQLite", "`apply` to SQLite", "`undo`", "SQLite with undo",
-         "`apply` and `undo` to SQLite", "floor"]
+MEASURED = {"check_file": ("driver", "check_file"), "check_holding": ("driver", "check_holding"), "load": ("driver", "load"),
+            "SQLite": ("sqlite", "load"), "floor": ("driver", "floor")}
+HEADS = ["", "`check_file`", "a byte", "`check_holding`", "a byte", "`load`", "SQLite", "`load` to SQLite", "floor"]
 
 
 def output(stream, *command):
@@ -55,19 +54,15 @@ def microseconds(n):
 
 def row(title, of, shown, lengths=None):
     """With what each check takes for a byte, where its input's length is given."""
-    both = of["apply"] + of["undo"]
     a_byte = {column: "%.1f" % (of[column] / lengths[column]) if lengths else "" for column in ("check_file", "check_holding")}
     return [title, shown(of["check_file"]), a_byte["check_file"], shown(of["check_holding"]), a_byte["check_holding"],
-            shown(of["apply"]), shown(of["SQLite"]),
-            "%.2f" % (of["apply"] / of["SQLite"]), shown(of["undo"]), shown(of["SQLite with undo"]),
-            "%.2f" % (both / of["SQLite with undo"]), shown(of["floor"])]
+            shown(of["load"]), shown(of["SQLite"]), "%.2f" % (of["load"] / of["SQLite"]), shown(of["floor"])]
 
 
 def large_to_half(machine, large, half):
     """The floor has no ratio: memcpy goes another way about long copies."""
     ratio = {column: "%.2f" % (large[column] / half[column]) for column in MEASURED}
-    return ["large to half, " + machine, ratio["check_file"], "", ratio["check_holding"], "", ratio["apply"], ratio["SQLite"], "",
-            ratio["undo"], ratio["SQLite with undo"], "", ""]
+    return ["large to half, " + machine, ratio["check_file"], "", ratio["check_holding"], "", ratio["load"], ratio["SQLite"], "", ""]
 
 
 def a_character(machine, texts):

@@ -1,21 +1,20 @@
 /* The peer: the same job as a competent engineer would do it with SQLite: sqlite OPERATION FOLDER [RUNS]
  *
- * Loads FOLDER/holding.csv into a database in memory, applies FOLDER/change.csv step by step in one transaction with immediate
- * foreign keys, and writes the new holding, in order and renumbered, into a buffer.
- *   none      stops before the load, so that what a run costs besides can be taken off
- *   apply     the load alone
- *   undo      the load under a session; takes its changeset and inverts it
- *   new       as undo; leaves FOLDER/new-sqlite.csv, and fails unless the inverse gives the old holding back byte for byte
+ * Puts FOLDER/holding.csv into a database in memory, takes FOLDER/change.csv step by step in one transaction with immediate foreign keys,
+ * keeping what each step replaces or removes, and writes the new holding, in order and renumbered, into one buffer and the file that takes
+ * the steps back into another.
+ *   none      stops before that, so that what a run costs besides can be taken off
+ *   load      that job, once
+ *   new       as load; leaves FOLDER/new-sqlite.csv and FOLDER/undo-sqlite.csv, and fails unless the undo gives the old holding back
  * With RUNS the load is made so many times, and the median time in microseconds printed.
  *
  * Content is stored as the bytes after the third field; keys and references become columns. In its favour: of a field's form only
- * keys and references are tested, no dates, texts or widths; the undo is the session's net inverse and no file of steps; a refusal just
- * drops the database. Against it: it builds the database from text and writes text, since the holding is text on both sides. What was
- * tuned: rows by eights while loading, indexes after it, foreign keys checked at once after it, no journal, pages of 8,192, updates first
- * tried without the columns that refer, static libsqlite3.a, buffers bound and not copied.
+ * keys and references are tested, no dates, texts or widths; a refusal just drops the database. Against it: it builds the database from
+ * text and writes text, since the holding is text on both sides. What was tuned: rows by eights while loading, indexes after it, foreign
+ * keys checked at once after it, no journal, pages of 8,192, updates first tried without the columns that refer, the old content caught by
+ * the preupdate hook, which costs less than a session and its changeset, static libsqlite3.a, buffers bound and not copied.
  */
 #define _GNU_SOURCE
-#define SQLITE_ENABLE_SESSION 1
 #define SQLITE_ENABLE_PREUPDATE_HOOK 1
 #include <fcntl.h>
 #include <malloc.h>
@@ -69,6 +68,23 @@ static Buf slurp(const char *dir, const char *name)
     }
     close(fd);
     return b;
+}
+
+/* a buffer with its pages touched, outside the timing */
+static Buf room(size_t length)
+{
+    Buf b = { malloc(length + 1), 0 };
+    if (!b.p) die("no memory");
+    memset(b.p, 0, length + 1);
+    return b;
+}
+
+static void leave(const char *dir, const char *name, Buf b)
+{
+    char path[4096];
+    snprintf(path, sizeof path, "%s/%s", dir, name);
+    FILE *f = fopen(path, "wb");
+    if (!f || fwrite(b.p, 1, b.n, f) != b.n || fclose(f)) die(path);
 }
 
 /* ---------------------------------------------------------------- parsing */
@@ -314,12 +330,36 @@ static int less(const Rec *a, const Rec *b)
     return a->k3 < b->k3;
 }
 
+/* the running number of a line, kept as digits */
+typedef struct { char dig[5]; int nd; } Running;
+static const Running zero = { "0000", 1 };
+
+/* the next line of a holding or of an undo, with its CR LF; answers where it ends */
+static u8 *line_to(u8 *w, int kind, u8 op, Running *at, const void *content, int n)
+{
+    int i = 3;                        /* count up */
+    while (at->dig[i] == '9') at->dig[i--] = '0';
+    at->dig[i]++;
+    if (4 - i > at->nd) at->nd = 4 - i;
+    w[0] = (u8)('0' + kind_no[kind] / 10);
+    w[1] = (u8)('0' + kind_no[kind] % 10);
+    memcpy(w + 2, ",\"I\",", 5);
+    w[4] = op;
+    memcpy(w + 7, at->dig + 4 - at->nd, (size_t)at->nd);
+    w += 7 + at->nd;
+    *w++ = ',';
+    memcpy(w, content, (size_t)n);
+    w += n;
+    *w++ = '\r';
+    *w++ = '\n';
+    return w;
+}
+
 /* the new holding into out; answers its length */
 static size_t export_to(sqlite3_stmt **sel, u8 *out, size_t cap, sqlite3 *db)
 {
     u8 *w = out;
-    char dig[5] = "0000";           /* running number, kept as digits */
-    int nd = 1;
+    Running at = zero;
     for (int k = 0; k < NK; k++) {
         sqlite3_stmt *s = sel[k];
         int rc;
@@ -327,20 +367,7 @@ static size_t export_to(sqlite3_stmt **sel, u8 *out, size_t cap, sqlite3 *db)
             const void *c = sqlite3_column_blob(s, 0);
             int n = sqlite3_column_bytes(s, 0);
             if ((size_t)(w - out) + (size_t)n + 16 > cap) die("output too short");
-            int i = 3;                        /* count up */
-            while (dig[i] == '9') dig[i--] = '0';
-            dig[i]++;
-            if (4 - i > nd) nd = 4 - i;
-            w[0] = (u8)('0' + kind_no[k] / 10);
-            w[1] = (u8)('0' + kind_no[k] % 10);
-            memcpy(w + 2, ",\"I\",", 5);
-            memcpy(w + 7, dig + 4 - nd, (size_t)nd);
-            w += 7 + nd;
-            *w++ = ',';
-            memcpy(w, c, (size_t)n);
-            w += n;
-            *w++ = '\r';
-            *w++ = '\n';
+            w = line_to(w, k, 'I', &at, c, n);
         }
         if (rc != SQLITE_DONE) sqldie(db, "export");
         sqlite3_reset(s);
@@ -348,26 +375,52 @@ static size_t export_to(sqlite3_stmt **sel, u8 *out, size_t cap, sqlite3 *db)
     return (size_t)(w - out);
 }
 
-static int on_conflict(void *ctx, int why, sqlite3_changeset_iter *it)
+/* ---------------------------------------------------------------- undo */
+
+/* the step that takes a step back: an insert's content stands in the file, any other was replaced or removed */
+typedef struct { int kind; u8 op; const u8 *content; int content_len; } Back;
+static Back back[MAX_CHANGES];
+static Buf replaced;            /* room for all that is replaced or removed, and how much of it there is */
+
+/* content is every table's last column */
+static void before_change(void *ctx, sqlite3 *db, int op, const char *schema, const char *table, sqlite3_int64 was, sqlite3_int64 is)
 {
-    (void)ctx; (void)it;
-    fprintf(stderr, "sqlite: inverse conflicts (%d)\n", why);
-    return SQLITE_CHANGESET_ABORT;
+    sqlite3_value *v;
+    (void)ctx; (void)schema; (void)table; (void)was; (void)is;
+    if (op == SQLITE_INSERT) return;
+    if (sqlite3_preupdate_old(db, sqlite3_preupdate_count(db) - 1, &v)) sqldie(db, "old content");
+    const void *c = sqlite3_value_blob(v);
+    int n = sqlite3_value_bytes(v);
+    memcpy(replaced.p + replaced.n, c, (size_t)n);
+    replaced.n += (size_t)n;
 }
 
-static int opt_session, opt_check;
+/* header, metadata and trailer as they stand, and between them the steps backwards; answers the length */
+static size_t undo_to(Buf chg, size_t body_at, size_t body_end, long body, u8 *undo)
+{
+    u8 *w = undo;
+    Running at = zero;
+    memcpy(w, chg.p, body_at);
+    w += body_at;
+    while (body--) {
+        const Back *b = &back[body];
+        w = line_to(w, b->kind, b->op, &at, b->content, b->content_len);
+    }
+    memcpy(w, chg.p + body_end, chg.n - body_end);
+    return (size_t)(w - undo) + chg.n - body_end;
+}
 
-/* the whole job; answers the new holding's length */
-static size_t load_once(Buf hold, Buf chg, u8 *out, size_t cap)
+/* ---------------------------------------------------------------- the job */
+
+/* the new holding into out, the undo into undo, both lengths with them */
+static void load_once(Buf hold, Buf chg, Buf *out, size_t cap, Buf *undo)
 {
     sqlite3 *db;
     sqlite3_stmt *ins[NK], *upd[NK], *fast[NK], *del[NK], *sel[NK], *s;
-    sqlite3_session *ses = 0;
     Rec r = { 0 }, prev = { 0 };
     const u8 *p, *e;
-    size_t at;
+    size_t at, body_at, body_end;
     long n, line;
-    int cs_len, inv_len;
 
     /* ---- setup: open, pragmas, schema */
     if (sqlite3_open_v2(":memory:", &db, SQLITE_OPEN_READWRITE | SQLITE_OPEN_CREATE | SQLITE_OPEN_NOMUTEX, 0))
@@ -420,7 +473,7 @@ static size_t load_once(Buf hold, Buf chg, u8 *out, size_t cap)
     sqlite3_finalize(s);
     run(db, "PRAGMA foreign_keys=ON");
 
-    /* ---- parse and apply the file, one transaction under a session */
+    /* ---- parse the file and make its steps, one transaction under the hook */
     for (int k = 0; k < NK; k++) {
         ins[k] = prep(db, SQL_I[k]);
         upd[k] = prep(db, SQL_U[k]);
@@ -428,21 +481,23 @@ static size_t load_once(Buf hold, Buf chg, u8 *out, size_t cap)
         del[k] = prep(db, SQL_D[k]);
         sel[k] = prep(db, SQL_S[k]);
     }
-    if (opt_session) {
-        if (sqlite3session_create(db, "main", &ses) || sqlite3session_attach(ses, 0)) sqldie(db, "session");
-    }
+    sqlite3_preupdate_hook(db, before_change, 0);
+    replaced.n = 0;
     run(db, "BEGIN");
     at = 0; line = 1;
     Fld f[16];
     if (!next_line(chg, &at, &p, &e, 1) || split(p, e, f, 9) != 9 || memcmp(p, "10,", 3)) refuse(3, 1);
+    body_at = at;
     long body = 0;
     for (;;) {
         line++;
+        body_end = at;
         if (!next_line(chg, &at, &p, &e, line)) refuse(3, line);
         if (e - p > 3 && p[0] == '2' && p[1] == '9') break;
         if (++body > MAX_CHANGES) refuse(9, line);
         parse_body(p, e, line, body, &r);
         int rc;
+        size_t kept = replaced.n;
         switch (r.op) {
         case 'I':
             s = ins[r.kind];
@@ -471,7 +526,7 @@ static size_t load_once(Buf hold, Buf chg, u8 *out, size_t cap)
             break;
         default:
             refuse(5, line);
-            return 0;
+            return;
         }
         if (rc != SQLITE_DONE) {
             rc = sqlite3_extended_errcode(db);
@@ -481,6 +536,8 @@ static size_t load_once(Buf hold, Buf chg, u8 *out, size_t cap)
         }
         sqlite3_reset(s);
         if (n > MAX_RECORDS) refuse(16, line);
+        back[body - 1] = r.op == 'I' ? (Back){ r.kind, 'D', r.content, r.content_len }
+                                     : (Back){ r.kind, r.op == 'U' ? 'U' : 'I', replaced.p + kept, (int)(replaced.n - kept) };
     }
     if (split(p, e, f, 15) != 15) refuse(4, line);
     line++;
@@ -490,32 +547,15 @@ static size_t load_once(Buf hold, Buf chg, u8 *out, size_t cap)
     if (at != chg.n) refuse(3, line + 1);
     run(db, "COMMIT");
 
-    /* ---- the undo */
-    void *cs = 0, *inv = 0;
-    if (opt_session) {
-        if (sqlite3session_changeset(ses, &cs_len, &cs)) sqldie(db, "changeset");
-        if (sqlite3changeset_invert(cs_len, cs, &inv_len, &inv)) sqldie(db, "invert");
-    }
+    /* ---- the undo and the new holding */
+    undo->n = undo_to(chg, body_at, body_end, body, undo->p);
+    out->n = export_to(sel, out->p, cap, db);
 
-    /* ---- the new holding */
-    size_t length = export_to(sel, out, cap, db);
-
-    if (opt_check) {
-        u8 *back = malloc(hold.n + 64);
-        if (sqlite3changeset_apply(db, inv_len, inv, 0, on_conflict, 0)) sqldie(db, "apply inverse");
-        size_t m = export_to(sel, back, hold.n + 64, db);
-        if (m != hold.n || memcmp(back, hold.p, m)) die("inverse does not give the old holding back");
-        free(back);
-    }
     for (int k = 0; k < NK; k++) {
         sqlite3_finalize(ins[k]); sqlite3_finalize(upd[k]); sqlite3_finalize(fast[k]);
         sqlite3_finalize(del[k]); sqlite3_finalize(sel[k]);
     }
-    if (ses) sqlite3session_delete(ses);
-    sqlite3_free(cs);
-    sqlite3_free(inv);
     if (sqlite3_close(db)) die("close");
-    return length;
 }
 
 static int cmp_d(const void *a, const void *b)
@@ -528,9 +568,7 @@ int main(int argc, char **argv)
 {
     if (argc < 3) die("sqlite OPERATION FOLDER [RUNS]");
     const char *operation = argv[1], *dir = argv[2];
-    int none = !strcmp(operation, "none"), runs = argc > 3 ? atoi(argv[3]) : 1;
-    opt_check = !strcmp(operation, "new");
-    opt_session = opt_check || !strcmp(operation, "undo");
+    int none = !strcmp(operation, "none"), new = !strcmp(operation, "new"), runs = argc > 3 ? atoi(argv[3]) : 1;
     mallopt(M_MMAP_THRESHOLD, 1 << 28);          /* no mmap and munmap for each large buffer */
     mallopt(M_TRIM_THRESHOLD, 1 << 29);
     mallopt(M_TOP_PAD, 1 << 24);
@@ -538,20 +576,21 @@ int main(int argc, char **argv)
     sqlite3_config(SQLITE_CONFIG_MEMSTATUS, 0);
     if (sqlite3_initialize()) die("initialize");
     Buf hold = slurp(dir, "holding.csv"), chg = slurp(dir, "change.csv");
-    size_t cap = hold.n + chg.n + 16 * MAX_RECORDS, length = 0;
-    u8 *out = malloc(cap);
+    size_t cap = hold.n + chg.n + 16 * MAX_RECORDS;
+    Buf out = room(cap), undo = room(hold.n + 2 * chg.n);
+    replaced = room(hold.n + chg.n);
     double *times = calloc((size_t)runs, sizeof *times);
-    memset(out, 0, cap);                       /* touch the pages outside the timing */
     for (int i = 0; i < runs && !none; i++) {
         double began = now_us();
-        length = load_once(hold, chg, out, cap);
+        load_once(hold, chg, &out, cap, &undo);
         times[i] = now_us() - began;
     }
-    if (opt_check) {
-        char path[4096];
-        snprintf(path, sizeof path, "%s/new-sqlite.csv", dir);
-        FILE *f = fopen(path, "wb");
-        if (!f || fwrite(out, 1, length, f) != length || fclose(f)) die("write");
+    if (new) {
+        Buf again = room(cap), undo_again = room(out.n + 2 * undo.n);
+        leave(dir, "new-sqlite.csv", out);
+        leave(dir, "undo-sqlite.csv", undo);
+        load_once(out, undo, &again, cap, &undo_again);
+        if (again.n != hold.n || memcmp(again.p, hold.p, again.n)) die("the undo isn't one");
     }
     qsort(times, (size_t)runs, sizeof *times, cmp_d);
     if (argc > 3) printf("%.1f\n", times[runs / 2]);

@@ -1,8 +1,8 @@
 #!/usr/bin/env python3
-"""An independent apply, by a dict and a sort, that shares no code with the loader, its peer or the corpora: verify.py FOLDER NAME ..
+"""An independent load, by a dict and a sort, that shares no code with the loader, its peer or the corpora: verify.py FOLDER NAME ..
 
-Applies FOLDER/change.csv to FOLDER/holding.csv step by step, refusing what 10, 11, 12 and 16 refuse, and compares each FOLDER/NAME with
-the new holding byte for byte.
+Takes FOLDER/change.csv into FOLDER/holding.csv step by step, refusing what 10, 11, 12 and 16 refuse, and compares each FOLDER/new-NAME.csv
+with the new holding byte for byte; then takes each FOLDER/undo-NAME.csv into that, and compares what comes of it with FOLDER/holding.csv.
 """
 import re
 import sys
@@ -38,20 +38,19 @@ def ident(f):
     raise SystemExit("verify: kind %r" % kind)
 
 
-def main():
-    d = sys.argv[1]
+def loaded(holding, change):
+    """The new holding."""
     hold = {}
-    for line in open(d + "/holding.csv", "rb").read().split(b"\r\n")[:-1]:
+    for line in holding.split(b"\r\n")[:-1]:
         f = fields(line)
         k, refs = ident(f)
         hold[k] = (line.split(b",", 3)[3], refs)
-    change = open(d + "/change.csv", "rb").read().split(b"\r\n")[:-1]
     named = {}                                    # target -> set of keys that name it
     for k, (_, refs) in hold.items():
         for r in refs:
             assert r in hold and r != k
             named.setdefault(r, set()).add(k)
-    for no, line in enumerate(change[1:-2], 2):
+    for no, line in enumerate(change.split(b"\r\n")[1:-3], 2):
         f = fields(line)
         k, refs = ident(f)
         op = f[1]
@@ -73,13 +72,27 @@ def main():
         bad = [r for r in (hold[k][1] if k in hold else []) if r not in hold or r == k]
         if bad or (k not in hold and named.get(k)):
             raise SystemExit("verify: code 12 at line %d" % no)
-    out = b"".join(b"%d,\"I\",%d,%s\r\n" % (k[0], n, hold[k][0])
-                   for n, k in enumerate(sorted(hold), 1))
+    return b"".join(b"%d,\"I\",%d,%s\r\n" % (k[0], n, hold[k][0])
+                    for n, k in enumerate(sorted(hold), 1))
+
+
+def compare(what, got, want):
+    if got != want:
+        at = next((i for i, (a, b) in enumerate(zip(got, want)) if a != b), min(len(got), len(want)))
+        raise SystemExit("verify: %s differs at byte %d (%d against %d bytes)" % (what, at, len(got), len(want)))
+
+
+def main():
+    d = sys.argv[1]
+
+    def read(name):
+        return open(d + "/" + name + ".csv", "rb").read()
+
+    old = read("holding")
+    new = loaded(old, read("change"))
     for name in sys.argv[2:]:
-        got = open(d + "/" + name, "rb").read()
-        if got != out:
-            at = next((i for i, (a, b) in enumerate(zip(got, out)) if a != b), min(len(got), len(out)))
-            raise SystemExit("verify: %s/%s differs at byte %d (%d against %d bytes)" % (d, name, at, len(got), len(out)))
+        compare(d + "/new-" + name, read("new-" + name), new)
+        compare("what " + d + "/undo-" + name + " gives back", loaded(new, read("undo-" + name)), old)
 
 
 main()

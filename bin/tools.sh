@@ -13,7 +13,7 @@ kit=${RATTLE_HOME:-$(cd "$(dirname "$(readlink -f "$(command -v rt)")")/.." && p
 machine=$(uname -m)
 toolchain=$kit/on/$machine/toolchain
 
-# MACHINE: from here on `archive` is the seven operations for it, `cc` makes programs for it and `emulator` runs them: empty for this
+# MACHINE: from here on `archive` is the six operations for it, `cc` makes programs for it and `emulator` runs them: empty for this
 # machine itself. For wasm32 nothing is made, and node runs what is written in JavaScript.
 aim_at() {
   archive=target/$1/libmuiwash.a cc=cc emulator=

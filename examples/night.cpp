@@ -23,12 +23,17 @@ template <std::size_t N> static void print(const char *what, const std::array<st
     std::cout << what << ": ";
     for (std::size_t i = 0; i < N; i++) std::cout << numbers[i] << (i + 1 < N ? "," : "\n");
 }
-// The new holding, empty on a refusal.
-static Bytes apply(const Bytes &holding, const Bytes &file, std::array<std::uint64_t, 7> &answer) {
-    Bytes out(MUIWASH_ROOM(holding.size(), file.size()));
-    muiwash_apply(holding.data(), holding.size(), file.data(), file.size(), out.data(), out.size(), answer.data());
-    trim(out);
-    return out;
+// The seven numbers, the new holding and the undo, both empty on a refusal.
+struct Loaded {
+    std::array<std::uint64_t, 7> answer;
+    Bytes holding, undo;
+};
+static Loaded load(const Bytes &holding, const Bytes &file, std::size_t undo_room) {
+    Loaded l{{}, Bytes(MUIWASH_ROOM(holding.size(), file.size())), Bytes(undo_room)};
+    muiwash_load(holding.data(), holding.size(), file.data(), file.size(), l.holding.data(), l.holding.size(), l.undo.data(), l.undo.size(),
+                 l.answer.data());
+    trim(l.holding), trim(l.undo);
+    return l;
 }
 
 int main(int argc, char **argv) {
@@ -37,26 +42,22 @@ int main(int argc, char **argv) {
     std::array<std::uint64_t, 3> three{};
     std::array<std::uint64_t, 5> five{};
     std::array<std::uint64_t, 6> six{};
-    std::array<std::uint64_t, 7> seven{};
     muiwash_check_holding(holding.data(), holding.size(), three.data());
     print("the holding", three);
-    const Bytes nothing = apply(holding, refused, seven);
-    print("refused", seven);
-    std::cout << "bytes left in the output: " << nothing.size() << "\n";
-    const Bytes taken = apply(holding, change, seven);
-    print("taken", seven);
+    const Loaded none = load(holding, refused, MUIWASH_UNDO_ROOM(holding.size(), refused.size()));
+    print("refused", none.answer);
+    std::cout << "bytes left in the outputs: " << none.holding.size() << " and " << none.undo.size() << "\n";
+    const Loaded taken = load(holding, change, MUIWASH_UNDO_ROOM(holding.size(), change.size()));
+    print("taken", taken.answer);
+    std::cout << "bytes of its undo, which is kept: " << taken.undo.size() << "\n";
     muiwash_find(holding.data(), holding.size(), 11, 40000102, five.data());
     std::cout << "street 40000102: " << part(holding, five[3], five[4]) << "\n";
     muiwash_in_force(holding.data(), holding.size(), change.data(), change.size(), 21, 130000001, six.data());
     std::cout << "BLPU 130000001, in force in the " << (six[3] ? "file" : "holding") << ": " << part(six[3] ? change : holding, six[4], six[5]) << "\n";
     muiwash_field(holding.data(), holding.size(), 2, 4, five.data());
     std::cout << "line 2, field 4: " << part(holding, five[3], five[4]) << "\n";
-    Bytes undo(MUIWASH_UNDO_ROOM(holding.size(), change.size())), work(MUIWASH_ROOM(holding.size(), change.size()));
-    muiwash_undo(holding.data(), holding.size(), change.data(), change.size(), undo.data(), undo.size(), work.data(), work.size(), seven.data());
-    trim(undo);
-    print("its undo", seven);
-    const Bytes back = apply(taken, undo, seven);
-    print("the undo, taken", seven);
-    std::cout << "handed back: " << (back == holding ? "the old holding, byte for byte" : "NOT the old holding") << "\n";
-    return back == holding ? 0 : 1;
+    const Loaded back = load(taken.holding, taken.undo, MUIWASH_BACK_ROOM(change.size(), taken.undo.size()));
+    print("the undo, taken", back.answer);
+    std::cout << "handed back: " << (back.holding == holding ? "the old holding, byte for byte" : "NOT the old holding") << "\n";
+    return back.holding == holding ? 0 : 1;
 }

@@ -96,18 +96,22 @@ static struct bytes joined(struct bytes first, struct bytes second) {
     return (struct bytes){both, first.length + second.length};
 }
 static struct bytes text(const char *text) { return (struct bytes){(const uint8_t *)text, strlen(text)}; }
+/* The new holding, which nobody frees, with buffers of these lengths for it and for the undo; no bytes on a refusal. */
+static struct bytes loaded(struct bytes holding, struct bytes file, size_t room, size_t undo_room, uint64_t answer[7]) {
+    uint8_t *out = malloc(room), *undo = malloc(undo_room);
+    if (!out || !undo) exit(2);
+    muiwash_load(holding.start, holding.length, file.start, file.length, out, room, undo, undo_room, answer);
+    free(undo);
+    while (room > 0 && out[room - 1] == 0) room--;
+    return (struct bytes){out, room};
+}
 /* The holding as it was before a body line of a sound file. */
 static struct bytes before(struct bytes holding, struct bytes file, uint64_t line) {
     char ends[sizeof sound_metadata + 64];
     uint64_t answer[7];
     snprintf(ends, sizeof ends, "%s99,0,%" PRIu64 ",2000-01-01,000000\r\n", sound_metadata, line - 2);
     struct bytes front = joined((struct bytes){file.start, (size_t)(line_of(file, line).start - file.start)}, text(ends));
-    size_t room = MUIWASH_ROOM(holding.length, front.length);
-    uint8_t *out = malloc(room);
-    if (!out) exit(2);
-    muiwash_apply(holding.start, holding.length, front.start, front.length, out, room, answer);
-    while (room > 0 && out[room - 1] == 0) room--;
-    return (struct bytes){out, room};
+    return loaded(holding, front, MUIWASH_ROOM(holding.length, front.length), MUIWASH_UNDO_ROOM(holding.length, front.length), answer);
 }
 
 /* ---- words */
@@ -294,14 +298,13 @@ static void note_length(const char *path, struct bytes all) {
     printf("(the program load answers %d: %s has %zu bytes, and it takes %d at most)\n", MUIWASH_UNREADABLE, path, all.length,
            PROGRAM_ROOM);
 }
-/* apply's answer, with a buffer as long as the program's, or as long as is always enough where an input is too long for the program. */
+/* The load's answer, with buffers as long as the program's, or as long as is always enough where an input is too long for the program. */
 static void take(struct bytes holding, struct bytes file, uint64_t answer[7]) {
-    size_t room = PROGRAM_ROOM;
-    if (holding.length > room || file.length > room) room = MUIWASH_ROOM(holding.length, file.length);
-    uint8_t *out = malloc(room);
-    if (!out) exit(2);
-    muiwash_apply(holding.start, holding.length, file.start, file.length, out, room, answer);
-    free(out);
+    size_t room = PROGRAM_ROOM, undo_room = PROGRAM_ROOM;
+    if (holding.length > PROGRAM_ROOM || file.length > PROGRAM_ROOM) {
+        room = MUIWASH_ROOM(holding.length, file.length), undo_room = MUIWASH_UNDO_ROOM(holding.length, file.length);
+    }
+    loaded(holding, file, room, undo_room, answer);
 }
 
 int main(int argc, char **argv) {
@@ -315,6 +318,8 @@ int main(int argc, char **argv) {
     if (answer[0] == MUIWASH_DONE) {
         printf("%s: %" PRIu64 " inserts, %" PRIu64 " updates, %" PRIu64 " deletes", argc == 3 ? "taken" : "sound", answer[3], answer[4],
                answer[5]);
+    } else if (answer[0] == MUIWASH_UNDO_TOO_LONG) {
+        printf("refused, code %d: the file's undo would be longer than %d bytes", MUIWASH_UNDO_TOO_LONG, PROGRAM_ROOM);
     } else {
         int held = answer[0] == MUIWASH_UNSOUND_HOLDING;
         printf("refused, code %" PRIu64 ": %sline %" PRIu64, answer[0], held ? "the holding, " : "", answer[1]);

@@ -1,8 +1,8 @@
 /* Muiwash for C and C++: an address holding brought up to date from change files of the Scottish Data Transfer Format 1.0.
  *
- * A file is taken whole or it isn't taken, and a file that was taken can be handed back. The seven functions below are proved: for all
+ * A file is taken whole or it isn't taken, and a file that was taken can be handed back. The six functions below are proved: for all
  * bytes and lengths they end, touch no byte beyond what they are lent, and leave exactly what is said here in every buffer and answer.
- * What is said of stack, and which lengths are 'always enough', is reckoned and tried, and not proved.
+ * Which lengths are 'always enough' is proved too. What is said of stack is measured, and not proved.
  *
  * What is lent. Every buffer is a pointer and a length in bytes; any length is met, 0 too, and then the pointer may be NULL. A buffer
  *   without const is written: each of its bytes, in every case. `answer` is an array of as many numbers as its parameter says; it has no
@@ -10,7 +10,7 @@
  *   the same call; `holding` and `file` are only read, and may overlap each other.
  * Numbers. Every answer begins with code, line, field. Code 0 (MUIWASH_DONE) is success, any other a refusal. Lines and fields count from
  *   1, and 0 means none. On a refusal every output is all zeros, and all numbers after the first three are 0 but for the place.
- * Place. The last number of check_file, apply and undo: for a malformed field (5) the place, from 1 and with its quotes counted, of the
+ * Place. The last number of check_file and load: for a malformed field (5) the place, from 1 and with its quotes counted, of the
  *   first byte of the field at which no sound field could go on, or one past the field's end where it stops too soon. With the start that
  *   muiwash_field gives for that line and field, that byte is file[start + place - 1]. The place is 0 for every code but 5.
  * Texts. A text is well-formed UTF-8 (RFC 3629), in a file and in a holding, and its width counts characters: any other is malformed.
@@ -55,15 +55,17 @@ enum muiwash_code {
     MUIWASH_UNSOUND_HOLDING = 14,   /* the holding itself is unsound: its line, 0 */
     MUIWASH_KIND_NOT_ASKED = 15,    /* enquiry for a kind other than 11 or 21: 0, 0 */
     MUIWASH_TOO_MANY_RECORDS = 16,  /* an 8,193rd record: line, 0 */
-    MUIWASH_UNDO_TOO_LONG = 17,     /* the undo is longer than its output: 0, 0 */
+    MUIWASH_UNDO_TOO_LONG = 17,     /* the undo is longer than its buffer: 0, 0 */
     MUIWASH_UNREADABLE = 18,        /* of the program `load` alone: no function here gives it */
     MUIWASH_NO_SUCH_PART = 19       /* no such line or field: 0, 0 */
 };
 
-/* How long a buffer is always enough, of the lengths in bytes of a holding and of a change file: for the new holding, and for undo's work;
- * and for the undo. */
-#define MUIWASH_ROOM(holding_len, file_len) ((holding_len) + (file_len) + 24576)
-#define MUIWASH_UNDO_ROOM(holding_len, file_len) ((holding_len) + 2 * (file_len) + 12288)
+/* How long a buffer is always enough, in bytes. Of the lengths of a holding and of a change file: for the new holding, before the first
+ * step and after each; and for the undo. Of the lengths of a file that was taken and of its undo, which is now handed back: for the undo
+ * that this load writes, the undo of the undo. */
+#define MUIWASH_ROOM(holding_len, file_len) ((holding_len) + (file_len) + 16384)
+#define MUIWASH_UNDO_ROOM(holding_len, file_len) ((holding_len) + 2 * (file_len))
+#define MUIWASH_BACK_ROOM(file_len, undo_len) ((file_len) + (undo_len))
 
 /* Checks a whole change file.
  * answer: code, line, field, the body lines with CHANGE_TYPE I, U and D, and the place. Codes 0 to 9. */
@@ -73,21 +75,16 @@ void muiwash_check_file(const uint8_t *file, uint64_t file_len, uint64_t answer[
  * answer: code, line, field. Codes 0 and 14. */
 void muiwash_check_holding(const uint8_t *holding, uint64_t holding_len, uint64_t answer[3]);
 
-/* Takes a change file into a holding.
+/* Takes a change file into a holding, and writes the file's undo: a change file in the same layout that, loaded into the new holding,
+ * gives this one back byte for byte.
  * out: the new holding, then zeros to out_len (no holding has a zero byte, so it ends where the zeros begin); on a refusal all zeros.
  * out_len: the holding must fit it before the first step and after each (else 13); MUIWASH_ROOM(holding_len, file_len) is always enough.
- * answer: code, line, field, the inserts, updates and deletes made, and the place. Codes 0 to 14 and 16. */
-void muiwash_apply(const uint8_t *holding, uint64_t holding_len, const uint8_t *file, uint64_t file_len, uint8_t *out, uint64_t out_len,
-                   uint64_t answer[7]);
-
-/* Writes the undo of a change file, made against the holding that the file meets: a change file in the same layout that, applied to the
- * holding that muiwash_apply leaves, gives this holding back byte for byte.
- * out: the undo, then zeros to out_len (no file has a zero byte in it); on a refusal all zeros.
- * out_len: MUIWASH_UNDO_ROOM(holding_len, file_len) is always enough (else 17).
- * work: all zeros afterwards. work_len stands for apply's out_len: give it the same length.
- * answer: code, line, field, the file's own inserts, updates and deletes, and the place. Codes 0 to 14, 16 and 17. */
-void muiwash_undo(const uint8_t *holding, uint64_t holding_len, const uint8_t *file, uint64_t file_len, uint8_t *out, uint64_t out_len,
-                  uint8_t *work, uint64_t work_len, uint64_t answer[7]);
+ * undo: the undo, then zeros to undo_len (no file has a zero byte in it); on a refusal all zeros.
+ * undo_len: the undo must fit it (else 17, which comes last); MUIWASH_UNDO_ROOM(holding_len, file_len) is always enough, and where `file`
+ *   is an undo that is handed back, so is MUIWASH_BACK_ROOM of the length of the file that it undoes and of its own.
+ * answer: code, line, field, the inserts, updates and deletes made, and the place. Codes 0 to 14, 16 and 17. */
+void muiwash_load(const uint8_t *holding, uint64_t holding_len, const uint8_t *file, uint64_t file_len, uint8_t *out, uint64_t out_len,
+                  uint8_t *undo, uint64_t undo_len, uint64_t answer[7]);
 
 /* Finds the line of a street (kind 11) or a BLPU (kind 21) by its USRN or UPRN.
  * answer: code, line, field, and where the line stands in `holding`, without CR LF: its start and its length. Codes 0, 11, 14 and 15. */

@@ -1,17 +1,19 @@
-// Muiwash for JavaScript, in a browser or in node: the seven functions of muiwash.h, which says what each does, out of muiwash.wasm, which
+// Muiwash for JavaScript, in a browser or in node: the six functions of muiwash.h, which says what each does, out of muiwash.wasm, which
 // `bin/archive wasm32` makes.
 //
 //   const muiwash = await open(wasm);                 // the bytes of muiwash.wasm
-//   const { answer, out } = muiwash.apply(holding, file);
+//   const { answer, out, undo } = muiwash.load(holding, file);
 //
-// What is lent is a Uint8Array and is only read. An answer is an array of numbers that begins with code, line, field; those of checkFile,
-// apply and undo end with the place, which counts bytes and not the units of a string. `out` is the new holding, or the undo, without the
-// zeros behind it: no bytes on a refusal. Buffers are as long as is always enough, so 13 isn't answered for want of room, and neither is
-// 17; give `room`, or `undoRoom`, for another length. A call runs to its end on the thread that makes it.
+// What is lent is a Uint8Array and is only read. An answer is an array of numbers that begins with code, line, field; those of checkFile
+// and load end with the place, which counts bytes and not the units of a string. `out` is the new holding and `undo` the file's undo, both
+// without the zeros behind them: no bytes on a refusal. Buffers are as long as is always enough, so 13 isn't answered for want of room, and
+// neither is 17; give { room, undoRoom }, or one of the two, for other lengths: backRoom(file, undo) is enough for the undo of an undo. A
+// call runs to its end on the thread that makes it.
 
-// How long a buffer is always enough for the new holding, and for the undo, as muiwash.h says it.
-const enough = (holding, file) => holding.length + file.length + 24576;
-const enoughForUndo = (holding, file) => holding.length + 2 * file.length + 12288;
+// How long a buffer is always enough, as muiwash.h says it: for the new holding, for the undo, and for the undo of a file's undo.
+const enough = (holding, file) => holding.length + file.length + 16384;
+const enoughForUndo = (holding, file) => holding.length + 2 * file.length;
+export const backRoom = (file, undo) => file.length + undo.length;
 
 // A number that the functions take: 64 bits and no sign.
 function word(number) {
@@ -52,14 +54,14 @@ export async function open(wasm) {
       buffers: lent.slice(inputs.length).map(([start, length]) => bytes.subarray(start, start + Number(length))),
     };
   }
-  const written = ({ answer, buffers }) => ({ answer, out: bare(buffers[0]) });
 
   return {
     checkFile: (file) => call('muiwash_check_file', 7, [file]).answer,
     checkHolding: (holding) => call('muiwash_check_holding', 3, [holding]).answer,
-    apply: (holding, file, room = enough(holding, file)) => written(call('muiwash_apply', 7, [holding, file], [room])),
-    undo: (holding, file, undoRoom = enoughForUndo(holding, file), room = enough(holding, file)) =>
-      written(call('muiwash_undo', 7, [holding, file], [undoRoom, room])),
+    load: (holding, file, { room = enough(holding, file), undoRoom = enoughForUndo(holding, file) } = {}) => {
+      const { answer, buffers } = call('muiwash_load', 7, [holding, file], [room, undoRoom]);
+      return { answer, out: bare(buffers[0]), undo: bare(buffers[1]) };
+    },
     find: (holding, kind, number) => call('muiwash_find', 5, [holding], [], [kind, number]).answer,
     inForce: (holding, file, kind, number) => call('muiwash_in_force', 6, [holding, file], [], [kind, number]).answer,
     field: (bytes, line, field) => call('muiwash_field', 5, [bytes], [], [line, field]).answer,

@@ -12,12 +12,11 @@ memory.grow(5);
 const bytes = Buffer.from(memory.buffer);
 const answer = new BigUint64Array(memory.buffer, start(4), 8);
 const [OUT_OF_PLACE, DONE, ABSENT, NO_SUCH_PART] = [3, 0, 11, 19];
-// Name, numbers, code where nothing is lent, and how it is called with a holding, a file, an output and a work buffer.
+// Name, numbers, code where nothing is lent, and how it is called with a holding, a file, and buffers for the new holding and the undo.
 const CALLS = [
   ['check_file', 7, OUT_OF_PLACE, (h, f) => f],
   ['check_holding', 3, DONE, (h) => h],
-  ['apply', 7, OUT_OF_PLACE, (h, f, o) => [...h, ...f, ...o]],
-  ['undo', 7, OUT_OF_PLACE, (h, f, o, w) => [...h, ...f, ...o, ...w]],
+  ['load', 7, OUT_OF_PLACE, (h, f, o, u) => [...h, ...f, ...o, ...u]],
   ['find', 5, ABSENT, (h) => [...h, 11n, 40000102n]],
   ['in_force', 6, OUT_OF_PLACE, (h, f) => [...h, ...f, 21n, 130000001n]],
   ['field', 5, NO_SUCH_PART, (h) => [...h, 1n, 1n]],
@@ -48,16 +47,17 @@ expect(most <= STATED, '256 KiB of stack are enough');
 // With too little stack left a load traps, and writes neither over the rest of the stack nor over anything else that it wasn't lent. The
 // module isn't used after that: a trap leaves its stack pointer where it was.
 const LEFT = 65536, top = stack.value, whole = Buffer.from(bytes);
-const lent = [start(0), BigInt(holding.length), start(1), BigInt(change.length), start(2), BigInt(ROOM), start(4)];
+const lent = [start(0), BigInt(holding.length), start(1), BigInt(change.length), start(2), BigInt(ROOM), start(3), BigInt(ROOM), start(4)];
+const behind = start(4) + 56;
 let trapped = false;
 stack.value = LEFT;
 try {
-  functions.muiwash_apply(...lent);
+  functions.muiwash_load(...lent);
 } catch (error) {
   trapped = error instanceof WebAssembly.RuntimeError;
 }
 expect(trapped, 'a call without its stack traps');
-expect(top > LEFT && bytes.compare(whole, LEFT, start(2), LEFT, start(2)) === 0, 'and writes over nothing below the output');
-expect(bytes.compare(whole, start(3), start(4), start(3), start(4)) === 0, 'nor behind it');
+expect(top > LEFT && bytes.compare(whole, LEFT, start(2), LEFT, start(2)) === 0, 'and writes over nothing below its buffers');
+expect(behind < bytes.length && bytes.compare(whole, behind, whole.length, behind, bytes.length) === 0, 'nor behind its answer');
 console.log(`calls: ${faults} faults; the most stack that a call used: ${most} bytes`);
 process.exitCode = faults ? 1 : 0;

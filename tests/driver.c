@@ -1,8 +1,8 @@
 /* The library behind a pipe: calls on standard input, answers on standard output, until the input ends.
- * A call: one byte (the operation, in the header's order), six 8-byte numbers, least byte first (lengths of holding, file, out and work,
+ * A call: one byte (the operation, in the header's order), six 8-byte numbers, least byte first (lengths of holding, file, out and undo,
  * then kind and number, or line and field), the holding's bytes, the file's bytes. A field is asked of the holding's bytes.
  * An answer: one byte (0, or 1 where something beyond what was lent, or only read, was changed), the answer's numbers, all of out, all of
- * work. Buffers are full of rubbish before a call and guarded after their end; a buffer of no bytes is NULL. */
+ * undo. Buffers are full of rubbish before a call and guarded after their end; a buffer of no bytes is NULL. */
 #include "../include/muiwash.h"
 #include <stdio.h>
 #include <stdlib.h>
@@ -10,7 +10,7 @@
 
 enum { GUARD = 64, MARK = 0xA5, NUMBERS = 7 };
 struct buffer { uint8_t *bytes; size_t length, room; };
-static struct buffer holding, file, out, work, holding_kept, file_kept;
+static struct buffer holding, file, out, undo, holding_kept, file_kept;
 
 static int number_in(uint64_t *number) {
     uint8_t b[8];
@@ -53,11 +53,10 @@ static int call(int operation, uint64_t first, uint64_t second, uint64_t *answer
     switch (operation) {
     case 0: muiwash_check_file(f, fn, answer); return 7;
     case 1: muiwash_check_holding(h, hn, answer); return 3;
-    case 2: muiwash_apply(h, hn, f, fn, start(&out), out.length, answer); return 7;
-    case 3: muiwash_undo(h, hn, f, fn, start(&out), out.length, start(&work), work.length, answer); return 7;
-    case 4: muiwash_find(h, hn, first, second, answer); return 5;
-    case 5: muiwash_in_force(h, hn, f, fn, first, second, answer); return 6;
-    case 6: muiwash_field(h, hn, first, second, answer); return 5;
+    case 2: muiwash_load(h, hn, f, fn, start(&out), out.length, start(&undo), undo.length, answer); return 7;
+    case 3: muiwash_find(h, hn, first, second, answer); return 5;
+    case 4: muiwash_in_force(h, hn, f, fn, first, second, answer); return 6;
+    case 5: muiwash_field(h, hn, first, second, answer); return 5;
     default: exit(2);
     }
 }
@@ -69,16 +68,16 @@ int main(void) {
             if (!number_in(&asked[i])) return 2;
         if (!read_whole(&holding, &holding_kept, asked[0]) || !read_whole(&file, &file_kept, asked[1])) return 2;
         lend(&out, asked[2]);
-        lend(&work, asked[3]);
+        lend(&undo, asked[3]);
         memset(answer, MARK, sizeof answer);
         int n = call(operation, asked[4], asked[5], answer);
-        int kept = guarded(&holding) && guarded(&file) && guarded(&out) && guarded(&work);
+        int kept = guarded(&holding) && guarded(&file) && guarded(&out) && guarded(&undo);
         kept = kept && !memcmp(holding.bytes, holding_kept.bytes, holding.length) && !memcmp(file.bytes, file_kept.bytes, file.length);
         for (int i = n; i < NUMBERS + 2; i++) kept = kept && answer[i] == mark;
         putchar(!kept);
         for (int i = 0; i < n; i++) number_out(answer[i]);
         fwrite(out.bytes, 1, out.length, stdout);
-        fwrite(work.bytes, 1, work.length, stdout);
+        fwrite(undo.bytes, 1, undo.length, stdout);
         if (fflush(stdout)) return 2;
     }
     return 0;

@@ -2,10 +2,9 @@
 import { readFileSync, readSync, writeSync } from 'node:fs';
 
 const GUARD = 64, MARK = 0xa5, NUMBERS = 7;
-// The operations in the header's order: their name, how many numbers they answer, and whether they take holding, file, out, work and words.
+// The operations in the header's order: their name, how many numbers they answer, and whether they take holding, file, out, undo and words.
 const OPERATIONS = [
-  ['check_file', 7, 'f'], ['check_holding', 3, 'h'], ['apply', 7, 'hfo'], ['undo', 7, 'hfow'], ['find', 5, 'h12'], ['in_force', 6, 'hf12'],
-  ['field', 5, 'h12'],
+  ['check_file', 7, 'f'], ['check_holding', 3, 'h'], ['load', 7, 'hfou'], ['find', 5, 'h12'], ['in_force', 6, 'hf12'], ['field', 5, 'h12'],
 ];
 const { instance } = await WebAssembly.instantiate(readFileSync(process.argv[2]));
 const { memory, __heap_base: heap, ...functions } = instance.exports;
@@ -47,16 +46,16 @@ function lend(lengths) {
 function answered(operation, asked, inputs) {
   const [name, count, takes] = OPERATIONS[operation];
   const { bytes, buffers } = lend(asked.slice(0, 4).map(Number));
-  const [holding, file, out, work, answer] = buffers;
+  const [holding, file, out, undo, answer] = buffers;
   inputs.forEach((input, i) => input.copy(bytes, buffers[i].start));
-  const lent = { h: holding, f: file, o: out, w: work };
+  const lent = { h: holding, f: file, o: out, u: undo };
   const words = [...takes].flatMap((what) => (lent[what] ? [lent[what].pointer, BigInt(lent[what].length)] : [asked[3 + Number(what)]]));
   functions[`muiwash_${name}`](...words, answer.start);
   const part = ({ start, length }) => bytes.subarray(start, start + length);
   const marked = (from, to) => bytes.subarray(from, to).every((byte) => byte === MARK);
   const kept = inputs.every((input, i) => input.equals(part(buffers[i]))) && marked(answer.start + 8 * count, answer.start + answer.length) &&
     buffers.every(({ start, length }) => marked(start + length, start + length + GUARD));
-  return Buffer.concat([Buffer.of(kept ? 0 : 1), part({ start: answer.start, length: 8 * count }), part(out), part(work)]);
+  return Buffer.concat([Buffer.of(kept ? 0 : 1), part({ start: answer.start, length: 8 * count }), part(out), part(undo)]);
 }
 
 for (let operation; (operation = take(1)) !== null;) {

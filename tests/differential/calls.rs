@@ -6,9 +6,9 @@ use crate::reference::load::{load, numbered, Held};
 use crate::sound::{any_line, file, joined, steps};
 
 const OPERATIONS: [Operation; 16] = [
-    Operation::Apply, Operation::Apply, Operation::Apply, Operation::Apply, Operation::Apply, Operation::Undo, Operation::Undo,
-    Operation::Undo, Operation::Undo, Operation::CheckFile, Operation::CheckFile, Operation::CheckHolding, Operation::Find,
-    Operation::InForce, Operation::InForce, Operation::Field,
+    Operation::Load, Operation::Load, Operation::Load, Operation::Load, Operation::Load, Operation::Load, Operation::Load, Operation::Load,
+    Operation::Load, Operation::CheckFile, Operation::CheckFile, Operation::CheckHolding, Operation::Find, Operation::InForce,
+    Operation::InForce, Operation::Field,
 ];
 /// One call in so many is large: at the limits of 4,096 body lines and 8,192 records, or where line numbers get longer.
 const LARGE: usize = 300;
@@ -24,9 +24,9 @@ pub fn call(random: &mut Random) -> Call {
             damage(random, hit);
         }
     }
-    let mut call = Call { operation, holding, file, out: 0, work: 0, first: 0, second: 0 };
+    let mut call = Call { operation, holding, file, out: 0, undo: 0, first: 0, second: 0 };
     match operation {
-        Operation::Apply | Operation::Undo => lend(random, &mut call),
+        Operation::Load => lend(random, &mut call),
         Operation::Find | Operation::InForce => enquire(random, &mut call),
         Operation::Field => ask_field(random, &mut call),
         _ => {}
@@ -121,18 +121,15 @@ fn about(random: &mut Random, need: usize) -> usize {
     }
 }
 
+/// Both buffers of a load, each about as long as it must be, so that 13, 17, both at once and both sides of either's edge are met.
 fn lend(random: &mut Random, call: &mut Call) {
     let (peak, new, undo) = match load(&call.holding, &call.file, usize::MAX) {
         Ok(loaded) => (loaded.peak, loaded.holding.len(), loaded.undo.len()),
         Err(_) => (call.holding.len() + call.file.len(), call.holding.len(), call.file.len()),
     };
     let room = if random.one_in(8) { new } else { peak };
-    if call.operation == Operation::Apply {
-        call.out = about(random, room);
-    } else {
-        call.out = about(random, undo);
-        call.work = about(random, room);
-    }
+    call.out = about(random, room);
+    call.undo = about(random, undo);
 }
 
 fn enquire(random: &mut Random, call: &mut Call) {

@@ -17,7 +17,8 @@ use std::time::{Duration, Instant};
 const UNDER_WAY: usize = 256;
 const FLUSHED: u64 = 64;
 const CODES: usize = 20;
-const NAMES: [&str; 7] = ["check file", "check holding", "apply", "undo", "find", "in force", "field"];
+const OPERATIONS: usize = 6;
+const NAMES: [&str; OPERATIONS] = ["check file", "check holding", "load", "find", "in force", "field"];
 
 struct Plan {
     cases: u64,
@@ -27,7 +28,7 @@ struct Plan {
 
 fn write_call(to: &mut impl Write, call: &Call) -> std::io::Result<()> {
     to.write_all(&[call.operation as u8])?;
-    let lengths = [call.holding.len(), call.file.len(), call.out, call.work].map(|length| length as u64);
+    let lengths = [call.holding.len(), call.file.len(), call.out, call.undo].map(|length| length as u64);
     for number in lengths.into_iter().chain([call.first, call.second]) {
         to.write_all(&number.to_le_bytes())?;
     }
@@ -45,10 +46,10 @@ fn read_answer(from: &mut impl Read, call: &Call) -> std::io::Result<(Answer, bo
         from.read_exact(&mut number)?;
         numbers.push(u64::from_le_bytes(number));
     }
-    let (mut out, mut work) = (vec![0; call.out], vec![0; call.work]);
+    let (mut out, mut undo) = (vec![0; call.out], vec![0; call.undo]);
     from.read_exact(&mut out)?;
-    from.read_exact(&mut work)?;
-    Ok((Answer { numbers, out, work }, kept[0] == 0))
+    from.read_exact(&mut undo)?;
+    Ok((Answer { numbers, out, undo }, kept[0] == 0))
 }
 
 fn feed(plan: &Plan, to: ChildStdin, sent: SyncSender<(u64, Call, Answer)>) {
@@ -73,20 +74,22 @@ fn show_difference(seed: u64, case: u64, call: &Call, expected: &Answer, found: 
     println!("DIFFERENCE: seed {seed}, case {case}, {}", NAMES[call.operation as usize]);
     show("holding", &call.holding);
     show("file", &call.file);
-    println!("out {} bytes, work {} bytes, asked {} {}", call.out, call.work, call.first, call.second);
+    println!("out {} bytes, undo {} bytes, asked {} {}", call.out, call.undo, call.first, call.second);
     println!("reference: {:?}", expected.numbers);
     show("reference's out", &expected.out);
+    show("reference's undo", &expected.undo);
     match found {
         Some((found, kept)) => {
             println!("library: {:?}", found.numbers);
             show("library's out", &found.out);
-            println!("work all zeros: {}, all else left alone: {kept}", found.work == expected.work);
+            show("library's undo", &found.undo);
+            println!("all else left alone: {kept}");
         }
         None => println!("library: no answer"),
     }
 }
 
-fn show_counts(plan: &Plan, times: &[[u64; CODES]; 7], took: Duration) {
+fn show_counts(plan: &Plan, times: &[[u64; CODES]; OPERATIONS], took: Duration) {
     for (name, times) in NAMES.iter().zip(times) {
         let reached: Vec<_> = (0..CODES).filter(|code| times[*code] > 0).map(|code| format!("{code}: {}", times[code])).collect();
         println!("{name:13} {}", reached.join(", "));
@@ -110,10 +113,10 @@ fn started(command: &[String]) -> (Child, ChildStdin, BufReader<ChildStdout>) {
 }
 
 /// One driver's share of the cases: how often each operation answered each code.
-fn compared(plan: &Plan, command: &[String]) -> [[u64; CODES]; 7] {
+fn compared(plan: &Plan, command: &[String]) -> [[u64; CODES]; OPERATIONS] {
     let (mut child, to, mut from) = started(command);
     let (sent, waiting) = sync_channel(UNDER_WAY);
-    let mut times = [[0; CODES]; 7];
+    let mut times = [[0; CODES]; OPERATIONS];
     std::thread::scope(|scope| {
         scope.spawn(|| feed(plan, to, sent));
         for (case, call, expected) in waiting {
@@ -148,7 +151,7 @@ fn main() {
         exit(2);
     };
     let (plan, command) = (Plan { cases, seed, first }, &arguments[3..]);
-    let (began, mut times) = (Instant::now(), [[0; CODES]; 7]);
+    let (began, mut times) = (Instant::now(), [[0; CODES]; OPERATIONS]);
     std::thread::scope(|scope| {
         let running: Vec<_> = shares(&plan).map(|share| scope.spawn(move || compared(&share, command))).collect();
         for share in running {

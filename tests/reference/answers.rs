@@ -11,21 +11,21 @@ pub const PLACE: usize = 6;
 pub enum Operation {
     CheckFile,
     CheckHolding,
-    Apply,
-    Undo,
+    Load,
     Find,
     InForce,
     Field,
 }
 
-/// One call. `first` and `second` are kind and number, or line and field; a field is asked of `holding`.
+/// One call. `out` and `undo` are the lengths of the two buffers of a load; `first` and `second` are kind and number, or line and field; a
+/// field is asked of `holding`.
 #[derive(Clone)]
 pub struct Call {
     pub operation: Operation,
     pub holding: Vec<u8>,
     pub file: Vec<u8>,
     pub out: usize,
-    pub work: usize,
+    pub undo: usize,
     pub first: u64,
     pub second: u64,
 }
@@ -34,7 +34,7 @@ pub struct Call {
 pub struct Answer {
     pub numbers: Vec<u64>,
     pub out: Vec<u8>,
-    pub work: Vec<u8>,
+    pub undo: Vec<u8>,
 }
 
 impl Operation {
@@ -50,19 +50,15 @@ impl Operation {
 
 pub fn answer(call: &Call) -> Answer {
     let (old, change) = (&call.holding, &call.file);
-    let mut out = Vec::new();
+    let (mut out, mut undo) = (Vec::new(), Vec::new());
     let rest = match call.operation {
         Operation::CheckFile => file::check(change).map(|file| file.counts().to_vec()),
         Operation::CheckHolding => holding::check(old).map(|_| vec![]),
-        Operation::Apply => load(old, change, call.out).map(|loaded| {
-            out = loaded.holding;
-            loaded.counts.to_vec()
-        }),
-        Operation::Undo => load(old, change, call.work).and_then(|loaded| {
-            if loaded.undo.len() > call.out {
+        Operation::Load => load(old, change, call.out).and_then(|loaded| {
+            if loaded.undo.len() > call.undo {
                 return super::fault(17, 0, 0);
             }
-            out = loaded.undo;
+            (out, undo) = (loaded.holding, loaded.undo);
             Ok(loaded.counts.to_vec())
         }),
         Operation::Find => find(old, call.first, call.second).map(span),
@@ -71,7 +67,8 @@ pub fn answer(call: &Call) -> Answer {
         Operation::Field => field(old, call.first, call.second).map(span),
     };
     out.resize(call.out, 0);
-    Answer { numbers: numbers(call.operation, rest), out, work: vec![0; call.work] }
+    undo.resize(call.undo, 0);
+    Answer { numbers: numbers(call.operation, rest), out, undo }
 }
 
 fn span(part: Part) -> Vec<u64> {

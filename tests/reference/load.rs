@@ -14,7 +14,7 @@ pub struct Loaded {
     pub peak: usize,
 }
 
-/// All tests of apply, with `room` for 13, then both results.
+/// All tests of a load but that of the undo's length, with `room` for 13, then both results.
 pub fn load(old: &[u8], change: &[u8], room: usize) -> Result<Loaded, Fault> {
     let mut held: Held = holding::check(old)?.into_iter().map(|line| (line.record.key.clone(), line.record)).collect();
     let file = file::check(change)?;

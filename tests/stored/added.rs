@@ -1,4 +1,4 @@
-//! The loads that a person lists: what each shows, its lines and lengths, and what apply and undo answer.
+//! The loads that a person lists: what each shows, its lines and lengths, and what is answered.
 use crate::reference::answers::{Operation, PLACE};
 use crate::wants::{answered, Case};
 
@@ -6,8 +6,7 @@ use crate::wants::{answered, Case};
 pub struct Added {
     pub shows: String,
     pub case: Case,
-    apply: String,
-    undo: String,
+    load: String,
 }
 
 /// The error names the line that can't be read.
@@ -25,17 +24,16 @@ fn take(all: &mut Vec<Added>, line: &str) -> Option<()> {
         all.push(Added { shows: rest.to_string(), ..Added::default() });
         return Some(());
     }
-    let Added { case, apply, undo, .. } = all.last_mut()?;
+    let Added { case, load, .. } = all.last_mut()?;
     match word {
         "holding" => case.old.extend([bytes_of(rest)?.as_slice(), b"\r\n"].concat()),
         "file" => case.change.extend([bytes_of(rest)?.as_slice(), b"\r\n"].concat()),
         "unended" => case.change.extend(bytes_of(rest)?),
         "lengths" => {
             let numbers: Option<Vec<usize>> = rest.split(' ').map(|number| number.parse().ok()).collect();
-            [case.room, case.undo_room, case.space] = numbers?.try_into().ok()?;
+            [case.room, case.undo_room] = numbers?.try_into().ok()?;
         }
-        "apply" => *apply = rest.to_string(),
-        "undo" => *undo = rest.to_string(),
+        "load" => *load = rest.to_string(),
         _ => return None,
     }
     Some(())
@@ -56,14 +54,12 @@ fn bytes_of(line: &str) -> Option<Vec<u8>> {
 impl Added {
     /// The error says where the reference's code, line, field and place aren't those of the list.
     pub fn check(&self) -> Result<(), String> {
-        for (operation, listed) in [(Operation::Apply, &self.apply), (Operation::Undo, &self.undo)] {
-            let numbers = answered(&self.case, operation).numbers;
-            let told = [numbers[0], numbers[1], numbers[2], numbers[PLACE]];
-            let given = told.map(|number| number.to_string()).join(",");
-            if given != *listed {
-                return Err(format!("{}: {operation:?} answers {given}, and the list says {listed}", self.shows));
-            }
+        let numbers = answered(&self.case, Operation::Load).numbers;
+        let told = [numbers[0], numbers[1], numbers[2], numbers[PLACE]];
+        let given = told.map(|number| number.to_string()).join(",");
+        if given == self.load {
+            return Ok(());
         }
-        Ok(())
+        Err(format!("{}: the reference answers {given}, and the list says {}", self.shows, self.load))
     }
 }

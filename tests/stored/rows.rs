@@ -51,15 +51,13 @@ fn case(left: &mut Left) -> Option<Case> {
     let room = left.number()? as usize;
     left.pass("; undoRoom = ")?;
     let undo_room = left.number()? as usize;
-    left.pass("; space = ")?;
-    let space = left.number()? as usize;
-    Some(Case { old, change, room, undo_room, space })
+    Some(Case { old, change, room, undo_room })
 }
 
 pub fn case_row(case: &Case) -> String {
-    let Case { old, change, room, undo_room, space } = case;
+    let Case { old, change, room, undo_room } = case;
     let (old, change, wants) = (bytes(old), bytes(change), wants::of_case(case));
-    format!("record {{ old = {old}; change = {change}; room = {room}; undoRoom = {undo_room}; space = {space}; {wants} }}")
+    format!("record {{ old = {old}; change = {change}; room = {room}; undoRoom = {undo_room}; {wants} }}")
 }
 
 fn enquiry(left: &mut Left) -> Option<String> {

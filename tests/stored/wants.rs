@@ -3,49 +3,43 @@ use crate::reference::answers::{answer, Answer, Call, Operation};
 use crate::reference::forms::Form;
 use crate::terms::{bytes, list};
 
-/// A holding, a file, and the lengths of apply's output, undo's output and undo's work buffer.
+/// A holding, a file, and the lengths of the buffers for the new holding and for the undo.
 #[derive(Default)]
 pub struct Case {
     pub old: Vec<u8>,
     pub change: Vec<u8>,
     pub room: usize,
     pub undo_room: usize,
-    pub space: usize,
 }
 
 const DAY: &str = "2001-01-01";
-/// Room for a full holding.
+/// Room for a full holding, and for the undo of one step.
 const AMPLE: usize = 1 << 20;
 const PROGRAM_ROOM: usize = 65_536;
 
 fn call(operation: Operation, holding: &[u8], file: &[u8]) -> Call {
-    Call { operation, holding: holding.to_vec(), file: file.to_vec(), out: 0, work: 0, first: 0, second: 0 }
+    Call { operation, holding: holding.to_vec(), file: file.to_vec(), out: 0, undo: 0, first: 0, second: 0 }
 }
 
 /// What an operation answers to a case.
 pub fn answered(case: &Case, operation: Operation) -> Answer {
-    let (out, work) = match operation {
-        Operation::Apply => (case.room, 0),
-        Operation::Undo => (case.undo_room, case.space),
-        _ => (0, 0),
-    };
-    answer(&Call { out, work, ..call(operation, &case.old, &case.change) })
+    let (out, undo) = if operation == Operation::Load { (case.room, case.undo_room) } else { (0, 0) };
+    answer(&Call { out, undo, ..call(operation, &case.old, &case.change) })
 }
 
 /// What is wanted of a case, as fields of its record.
 pub fn of_case(case: &Case) -> String {
-    let operations = [Operation::CheckFile, Operation::CheckHolding, Operation::Apply, Operation::Undo];
-    let [file, held, apply, undo] = operations.map(|operation| answered(case, operation));
+    let operations = [Operation::CheckFile, Operation::CheckHolding, Operation::Load];
+    let [file, held, load] = operations.map(|operation| answered(case, operation));
     let checks = format!("fileWants = {}; heldWants = {}", list(&file.numbers), list(&held.numbers));
-    let apply = format!("applyWants = {}; output = {}", list(&apply.numbers), bytes(result(&apply)));
-    let undo = format!("undoWants = {}; undoOutput = {}", list(&undo.numbers), bytes(result(&undo)));
-    format!("{checks}; {apply}; {undo}")
+    let [output, undo] = [&load.out, &load.undo].map(|buffer| bytes(result(buffer)));
+    format!("{checks}; loadWants = {}; output = {output}; undoOutput = {undo}", list(&load.numbers))
 }
 
-/// The output without the zeros behind it: no line has a zero in it.
-fn result(answer: &Answer) -> &[u8] {
-    let end = answer.out.iter().rposition(|byte| *byte != 0).map_or(0, |last| last + 1);
-    &answer.out[..end]
+/// A buffer without the zeros behind what was written: no line has a zero in it.
+fn result(buffer: &[u8]) -> &[u8] {
+    let end = buffer.iter().rposition(|byte| *byte != 0).map_or(0, |last| last + 1);
+    &buffer[..end]
 }
 
 /// Code, line and field, then slice, start and length: find and field are lent one slice, and don't say which.
@@ -93,15 +87,15 @@ pub fn of_step(kind: &str, change: &str, usrn: u64) -> Option<Vec<u64>> {
     let end = format!("29,\"a\",\"a\",\"a\",\"a\",\"a\",1,\"a\",\"a\",{DAY},\"a\",\"a\",{DAY},\"a\",\"a\"\r\n99,1,1,{DAY},000000\r\n");
     let held: String = (1..=8192).map(|order| street('I', order, 2 * order)).collect();
     let file = header() + &line + &end;
-    let answer = answer(&Call { out: AMPLE, ..call(Operation::Apply, held.as_bytes(), file.as_bytes()) });
+    let answer = answer(&Call { out: AMPLE, undo: AMPLE, ..call(Operation::Load, held.as_bytes(), file.as_bytes()) });
     Some(answer.numbers[..2].to_vec())
 }
 
-/// The numbers of apply with commas between them, and behind that line the new holding.
+/// The numbers of a load with commas between them, and behind that line the new holding.
 pub fn of_print(old: &[u8], change: &[u8]) -> Vec<u8> {
-    let answer = answer(&Call { out: PROGRAM_ROOM, ..call(Operation::Apply, old, change) });
+    let answer = answer(&Call { out: PROGRAM_ROOM, undo: PROGRAM_ROOM, ..call(Operation::Load, old, change) });
     let numbers = answer.numbers.iter().map(u64::to_string).collect::<Vec<_>>().join(",");
-    [numbers.as_bytes(), b"\r\n", result(&answer)].concat()
+    [numbers.as_bytes(), b"\r\n", result(&answer.out)].concat()
 }
 
 /// The place in a field where it must be filled, and where it may be empty.

@@ -10,18 +10,17 @@ use lib.Dec.{T}
 use lib.ListN.{length}
 use Rattle.meaning.specs.Table.{scottish}
 use Rattle.meaning.specs.Before.{before}
-use Rattle.meaning.specs.Load.{checkFile, checkHolding, apply, undoFile}
+use Rattle.meaning.specs.Load.{checkFile, checkHolding, loadFile}
 use Rattle.meaning.specs.Enquiries.{find, inForce}
 use Rattle.meaning.specs.Program.{program}
 use Rattle.laws.specs.Ascii.{ascii}
-use Rattle.laws.specs.AsBefore.{file-as-before, holding-as-before, apply-as-before, undo-as-before, find-as-before, in-force-as-before, print-as-before}
+use Rattle.laws.specs.AsBefore.{file-as-before, holding-as-before, load-as-before, find-as-before, in-force-as-before, print-as-before}
 use Rattle.answers.specs.Meant.{answerOf, verdictOf}
 use Rattle.answers.specs.declared.numbers.Answer.{Answer}
 use Rattle.answers.specs.declared.numbers.Verdict.{Verdict}
 use Rattle.text.specs.Front.{inFront}
 use Rattle.enquiries.specs.Handed.{Handed, HandedOf}
-use Rattle.apply.specs.Outcome.{Outcome}
-use Rattle.undo.specs.Outcome.{UndoOutcome}
+use Rattle.loader.specs.Outcome.{Outcome}
 use Rattle.muiwash.specs.Numbers.{partList, sidedList}
 use Rattle.program.specs.Outcome.{inputOf, PrintOutcome}
 
@@ -41,31 +40,21 @@ HoldingAsBefore old v = T (ascii old) → v ≡ verdictOf (checkHolding before o
 pub holding-before : (old : List ℕ) (v : Verdict) → v ≡ verdictOf (checkHolding scottish old) → HoldingAsBefore old v
 holding-before old v o a = o ∙ ap verdictOf (sym (holding-as-before old a))
 
--- ---- apply and undo
+-- ---- load
 
--- the numbers and the bytes of the output
-abbrev pub ApplyAsBefore : List ℕ → List ℕ → ℕ → Answer → List ℕ → Type 0
-ApplyAsBefore old file room r out =
-    T (ascii old) → T (ascii file) → (r ≡ answerOf (apply before old file room .answer)) × (out ≡ apply before old file room .output)
-
-pub apply-before : (old file : List ℕ) (room : ℕ) (r : Answer) (out : List ℕ) → Outcome old file room r out → ApplyAsBefore old file room r out
-apply-before old file room r out o a b =
-    let e = sym (apply-as-before old file room a b) in
-    (o .0 ∙ ap (λ x. answerOf (x .answer)) e, o .1 ∙ ap (λ x. x .output) e)
-
--- the numbers and the bytes of the output and of the work buffer
-abbrev pub UndoAsBefore : List ℕ → List ℕ → ℕ → ℕ → Answer → List ℕ → List ℕ → Type 0
-UndoAsBefore old file room space r out work =
+-- the numbers and the bytes of both buffers
+abbrev pub LoadAsBefore : List ℕ → List ℕ → ℕ → ℕ → Answer → List ℕ → List ℕ → Type 0
+LoadAsBefore old file room undoRoom r out undo =
     T (ascii old) → T (ascii file)
-    → (r ≡ answerOf (undoFile before old file room space .answer)) × (out ≡ undoFile before old file room space .output)
-    × (work ≡ undoFile before old file room space .work)
+    → (r ≡ answerOf (loadFile before old file room undoRoom .answer)) × (out ≡ loadFile before old file room undoRoom .output)
+    × (undo ≡ loadFile before old file room undoRoom .undo)
 
-pub undo-before :
-    (old file : List ℕ) (room space : ℕ) (r : Answer) (out work : List ℕ) → UndoOutcome old file room space r out work
-    → UndoAsBefore old file room space r out work
-undo-before old file room space r out work o a b =
-    let e = sym (undo-as-before old file room space a b) in
-    (o .0 ∙ ap (λ x. answerOf (x .answer)) e, o .1 ∙ ap (λ x. x .output) e, o .2 ∙ ap (λ x. x .work) e)
+pub load-before :
+    (old file : List ℕ) (room undoRoom : ℕ) (r : Answer) (out undo : List ℕ) → Outcome old file room undoRoom r out undo
+    → LoadAsBefore old file room undoRoom r out undo
+load-before old file room undoRoom r out undo o a b =
+    let e = sym (load-as-before old file room undoRoom a b) in
+    (o .0 ∙ ap (λ x. answerOf (x .answer)) e, o .1 ∙ ap (λ x. x .output) e, o .2 ∙ ap (λ x. x .undo) e)
 
 -- ---- find and the record in force
 

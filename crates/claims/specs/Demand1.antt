@@ -1,4 +1,5 @@
--- Demand 1: each refusal has a number, a line and a field, and by paper 02, request 01, 5 has a place; and the output then holds nothing but zeros.
+-- Demand 1: each refusal has a number, a line and a field, and by paper 02, request 01, 5 has a place; and the output then holds nothing but zeros,
+-- by request 03 in the buffer for the new holding and in that for the undo.
 -- That every input is met without a fault, and that each operation finishes, is no theorem: it is what a proved function without `requires` is.
 use mathlib.Core.Path.{_≡_, sym, ap, _∙_, subst}
 use mathlib.Core.List.{List, []}
@@ -12,55 +13,35 @@ use Rattle.meaning.specs.Place.{placeAs}
 use Rattle.meaning.specs.Table.{scottish}
 use Rattle.meaning.specs.Sound.{placeIn}
 use Rattle.meaning.specs.Codes.{fieldMalformed}
-use Rattle.meaning.specs.Load.{thenZeros, checkFile, checkHolding}
+use Rattle.meaning.specs.Load.{checkFile, checkHolding}
 use Rattle.meaning.specs.Enquiries.{Found, find, inForce, fieldOf}
 use Rattle.meaning.specs.Answers.{Three}
-use Rattle.meaning.specs.Undo.{undoBytes}
-use Rattle.laws.specs.Rows.{Row, given, pointed, checkRows, holdingRows, applyRows, undoRows, findRows, forceRows, fieldRows, FoundIn, check-given, holding-given, apply-given, undo-given, find-given, force-given, field-given, check-pointed, apply-pointed, undo-pointed}
+use Rattle.laws.specs.Rows.{Row, given, pointed, checkRows, holdingRows, loadRows, findRows, forceRows, fieldRows, FoundIn, check-given, holding-given, load-given, find-given, force-given, field-given, check-pointed, load-pointed}
 use Rattle.laws.specs.PlaceLaws.{place-most}
 use Rattle.laws.specs.Checks.{refused-counts}
 use Rattle.laws.specs.WhyFile.{FileFails, check-why, five-field}
-use Rattle.laws.specs.WhyLoad.{Reason, reason-five, apply-why, undo-why}
+use Rattle.laws.specs.WhyLoad.{Reason, reason-five, load-why}
 use Rattle.laws.specs.WhyField.{fieldBytes}
 use Rattle.laws.specs.Demand2.{refused-zeros}
-use Rattle.laws.specs.Demand3.{undo-done}
-use Rattle.laws.specs.Buffers.{work-zeros, undo-output, undo-refused-zeros}
 use Rattle.laws.specs.Scottish.{scottish-regular}
 use Rattle.answers.specs.Meant.{answerOf, verdictOf, threeList}
 use Rattle.answers.specs.declared.numbers.Answer.{Answer}
 use Rattle.answers.specs.declared.numbers.Verdict.{Verdict}
 use Rattle.enquiries.specs.Handed.{Handed, lentAs, HandedOf}
-use Rattle.apply.specs.Outcome.{Outcome}
-use Rattle.undo.specs.Outcome.{UndoOutcome}
+use Rattle.loader.specs.Outcome.{Outcome}
 
 -- ---- the output then holds nothing but zeros
 
--- a refusal leaves zeros, and the three counts are 0
-abbrev pub Nothing : ℕ → Answer → List ℕ → Type 0
-Nothing room r out = (out ≡ zeros room) × (r .inserts ≡ 0) × (r .updates ≡ 0) × (r .deletes ≡ 0)
+-- a refusal leaves zeros in both buffers, and the three counts are 0
+abbrev pub Nothing : ℕ → ℕ → Answer → List ℕ → List ℕ → Type 0
+Nothing room undoRoom r out undo = (out ≡ zeros room) × (undo ≡ zeros undoRoom) × (r .inserts ≡ 0) × (r .updates ≡ 0) × (r .deletes ≡ 0)
 
--- of apply
-pub apply-refused : (old file : List ℕ) (room : ℕ) (r : Answer) (out : List ℕ) → Outcome old file room r out → (r .code ≡ 0 → ⊥) → Nothing room r out
-apply-refused old file room r out o n =
-    let z = refused-zeros scottish old file room (λ e. n (ap (λ x. x .code) (o .0) ∙ e)) in
-    (o .1 ∙ z .0, ap (λ x. x .inserts) (o .0) ∙ z .1, ap (λ x. x .updates) (o .0) ∙ z .2, ap (λ x. x .deletes) (o .0) ∙ z .3)
-
--- of undo
-pub undo-refused : (old file : List ℕ) (room space : ℕ) (r : Answer) (out work : List ℕ) → UndoOutcome old file room space r out work → (r .code ≡ 0 → ⊥) → Nothing room r out
-undo-refused old file room space r out work o n =
-    let z = undo-refused-zeros scottish old file room space (λ e. n (ap (λ x. x .code) (o .0) ∙ e)) in
-    (o .1 ∙ z .0, ap (λ x. x .inserts) (o .0) ∙ z .1, ap (λ x. x .updates) (o .0) ∙ z .2, ap (λ x. x .deletes) (o .0) ∙ z .3)
-
--- on success the output holds the undo, then zeros to its end; apply's is demand 2's `new-holding`
-pub undo-filled : (old file : List ℕ) (room space : ℕ) (r : Answer) (out work : List ℕ) → UndoOutcome old file room space r out work → r .code ≡ 0
-    → (out ≡ thenZeros room (undoBytes scottish old file)) × (length (undoBytes scottish old file) ≤ room)
-undo-filled old file room space r out work o e =
-    let z = sym (ap (λ x. x .code) (o .0)) ∙ e in
-    (o .1 ∙ undo-output scottish scottish-regular old file room space z, undo-done scottish scottish-regular old file room space z .3)
-
--- the work buffer is all zeros afterwards, on success as on refusal
-pub work-is-zeros : (old file : List ℕ) (room space : ℕ) (r : Answer) (out work : List ℕ) → UndoOutcome old file room space r out work → work ≡ zeros space
-work-is-zeros old file room space r out work o = o .2 ∙ work-zeros scottish old file room space
+-- of load
+pub load-refused : (old file : List ℕ) (room undoRoom : ℕ) (r : Answer) (out undo : List ℕ) → Outcome old file room undoRoom r out undo → (r .code ≡ 0 → ⊥)
+    → Nothing room undoRoom r out undo
+load-refused old file room undoRoom r out undo o n =
+    let z = refused-zeros scottish old file room undoRoom (λ e. n (ap (λ x. x .code) (o .0) ∙ e)) in
+    (o .1 ∙ z .0, o .2 ∙ z .1, ap (λ x. x .inserts) (o .0) ∙ z .2, ap (λ x. x .updates) (o .0) ∙ z .3, ap (λ x. x .deletes) (o .0) ∙ z .4)
 
 -- the check of a file counts nothing where it refuses
 pub check-refused : (file : List ℕ) (r : Answer) → r ≡ answerOf (checkFile scottish file) → (r .code ≡ 0 → ⊥) → (r .inserts ≡ 0) × (r .updates ≡ 0) × (r .deletes ≡ 0)
@@ -102,20 +83,12 @@ check-file-numbers file r o = rw o (record { row = check-given scottish scottish
 pub check-holding-numbers : (old : List ℕ) (v : Verdict) → v ≡ verdictOf (checkHolding scottish old) → T (given (holdingRows old) (v .code) (v .line) (v .field))
 check-holding-numbers old v e = rw e (holding-given scottish old)
 
--- apply
-pub apply-numbers : (old file : List ℕ) (room : ℕ) (r : Answer) (out : List ℕ) → Outcome old file room r out → InTable (applyRows scottish old file) file r
-apply-numbers old file room r out o = rw (o .0) (record {
-  row = apply-given scottish scottish-regular old file room;
-  place = apply-pointed scottish scottish-regular old file room;
-  within = λ e. load-within room old file _ _ _ _ (apply-why scottish scottish-regular old file room (λ z. omega (arith, e, z))) e;
-})
-
--- undo
-pub undo-numbers : (old file : List ℕ) (room space : ℕ) (r : Answer) (out work : List ℕ) → UndoOutcome old file room space r out work → InTable (undoRows scottish old file) file r
-undo-numbers old file room space r out work o = rw (o .0) (record {
-  row = undo-given scottish scottish-regular old file room space;
-  place = undo-pointed scottish scottish-regular old file room space;
-  within = λ e. load-within space old file _ _ _ _ (undo-why scottish scottish-regular old file room space (λ z. omega (arith, e, z)) (λ z. omega (arith, e, z))) e;
+-- load
+pub load-numbers : (old file : List ℕ) (room undoRoom : ℕ) (r : Answer) (out undo : List ℕ) → Outcome old file room undoRoom r out undo → InTable (loadRows scottish old file) file r
+load-numbers old file room undoRoom r out undo o = rw (o .0) (record {
+  row = load-given scottish scottish-regular old file room undoRoom;
+  place = load-pointed scottish scottish-regular old file room undoRoom;
+  within = λ e. load-within room old file _ _ _ _ (load-why scottish scottish-regular old file room undoRoom (λ z. omega (arith, e, z)) (λ z. omega (arith, e, z))) e;
 })
 
 -- an enquiry's three numbers stand in these rows, and a refusal hands back an empty part

@@ -1,4 +1,4 @@
--- Demand 2, of the numbers that apply answers and the bytes that it leaves.
+-- Demand 2, of the numbers that load answers and the bytes that it leaves.
 use mathlib.Core.Path.{_≡_, sym, ap, _∙_}
 use mathlib.Core.Logic.{_↔_}
 use mathlib.Core.Option.{some}
@@ -17,6 +17,7 @@ use Rattle.meaning.specs.Records.{Rec, keyed, changeText}
 use Rattle.meaning.specs.Holding.{written}
 use Rattle.meaning.specs.Load.{thenZeros, checkHolding}
 use Rattle.meaning.specs.Answers.{noFault}
+use Rattle.meaning.specs.Undo.{undoBytes}
 use Rattle.laws.specs.LinesAndFields.{ends}
 use Rattle.laws.specs.LinePart.{noLine}
 use Rattle.laws.specs.HoldingReadBack.{insertOf}
@@ -24,36 +25,44 @@ use Rattle.laws.specs.SoundHolding.{SoundHolding}
 use Rattle.laws.specs.Checks.{holding-checked}
 use Rattle.laws.specs.Takes.{new-fits}
 use Rattle.laws.specs.Find.{record-line}
-use Rattle.laws.specs.Demand2.{Allowed, afterAll, Lawful, Roomy, Whole, lawful-exactly, taken-exactly, allowed-takes, allowed-done, at-every-state, last-line, unnamed, new-sound}
+use Rattle.laws.specs.Demand2.{Allowed, afterAll, UndoFits, Lawful, Roomy, Whole, lawful-exactly, taken-exactly, allowed-takes, allowed-done, at-every-state, last-line, unnamed, new-sound}
 use Rattle.laws.specs.Scottish.{scottish-regular}
 use Rattle.answers.specs.Meant.{answerOf, verdictOf}
 use Rattle.answers.specs.declared.numbers.Answer.{Answer}
 use Rattle.answers.specs.declared.numbers.Verdict.{Verdict}
-use Rattle.apply.specs.Outcome.{Outcome}
+use Rattle.loader.specs.Outcome.{Outcome}
 
-module _ (old file : List ℕ) (room : ℕ) (r : Answer) (out : List ℕ) (o : Outcome old file room r out) where
-  -- given a sound holding and buffers with room at every step, a file is taken exactly if every line and every step is allowed
-  pub taken-if : (st : List Rec) → SoundHolding scottish old st → Roomy scottish room st file → (r .code ≡ 0) ↔ Lawful scottish st file
-  taken-if st h w =
-      let t = lawful-exactly scottish scottish-regular old file room st h w in
+module _ (old file : List ℕ) (room undoRoom : ℕ) (r : Answer) (out undo : List ℕ) (o : Outcome old file room undoRoom r out undo) where
+  -- given a sound holding and buffers with room at every step and for the undo, a file is taken exactly if every line and every step is allowed
+  pub taken-if : (st : List Rec) → SoundHolding scottish old st → Roomy scottish room st file → UndoFits scottish old file undoRoom → (r .code ≡ 0) ↔ Lawful scottish st file
+  taken-if st h w u =
+      let t = lawful-exactly scottish scottish-regular old file room undoRoom st h w u in
       (λ e. t .0 (sym (ap (λ x. x .code) (o .0)) ∙ e), λ l. ap (λ x. x .code) (o .0) ∙ t .1 l)
 
-  -- the same with nothing given: taken exactly if the holding is sound, every line is allowed at its place, and every step is allowed and has room
-  pub taken-only : (r .code ≡ 0) ↔ Allowed scottish old file room
+  -- the same with nothing given: taken exactly if the holding is sound, every line is allowed at its place, every step is allowed and has room, and so has the undo
+  pub taken-only : (r .code ≡ 0) ↔ (Allowed scottish old file room × UndoFits scottish old file undoRoom)
   taken-only =
-      let t = taken-exactly scottish scottish-regular old file room in
+      let t = taken-exactly scottish scottish-regular old file room undoRoom in
       (λ e. t .0 (sym (ap (λ x. x .code) (o .0)) ∙ e), λ a. ap (λ x. x .code) (o .0) ∙ t .1 a)
 
   module _ (a : Allowed scottish old file room) where
-    -- the new holding is the old one with the file's inserts, updates and deletes made in their order, and zeros follow it
-    pub new-holding : (out ≡ thenZeros room (written (afterAll scottish a))) × (length (written (afterAll scottish a)) ≤ room)
-    new-holding = (o .1 ∙ ap (λ x. x .output) (allowed-done scottish scottish-regular old file room a), new-fits scottish scottish-regular room old file _ (allowed-takes scottish scottish-regular old file room a))
+    module _ (u : UndoFits scottish old file undoRoom) where
+      -- the new holding is the old one with the file's inserts, updates and deletes made in their order, and zeros follow it
+      pub new-holding : (out ≡ thenZeros room (written (afterAll scottish a))) × (length (written (afterAll scottish a)) ≤ room)
+      new-holding = (
+        o .1 ∙ ap (λ x. x .output) (allowed-done scottish scottish-regular old file room undoRoom a u),
+        new-fits scottish scottish-regular room old file _ (allowed-takes scottish scottish-regular old file room a),
+      )
 
-    -- each counted in the answer
-    pub counted : (r .inserts ≡ count ins (a .cs)) × (r .updates ≡ count upd (a .cs)) × (r .deletes ≡ count del (a .cs))
-    counted =
-        let e = o .0 ∙ ap (λ x. answerOf (x .answer)) (allowed-done scottish scottish-regular old file room a) in
-        (ap (λ x. x .inserts) e, ap (λ x. x .updates) e, ap (λ x. x .deletes) e)
+      -- each counted in the answer
+      pub counted : (r .inserts ≡ count ins (a .cs)) × (r .updates ≡ count upd (a .cs)) × (r .deletes ≡ count del (a .cs))
+      counted =
+          let e = o .0 ∙ ap (λ x. answerOf (x .answer)) (allowed-done scottish scottish-regular old file room undoRoom a u) in
+          (ap (λ x. x .inserts) e, ap (λ x. x .updates) e, ap (λ x. x .deletes) e)
+
+      -- the other buffer holds the undo, and zeros follow it
+      pub undo-left : (undo ≡ thenZeros undoRoom (undoBytes scottish old file)) × (length (undoBytes scottish old file) ≤ undoRoom)
+      undo-left = (o .2 ∙ ap (λ x. x .undo) (allowed-done scottish scottish-regular old file room undoRoom a u), u)
 
     -- each key once, each reference met after each step
     pub after-each-step : Through (after (keyed scottish)) (Whole scottish room) (a .st) (a .cs)

@@ -4,7 +4,7 @@ use mathlib.Core.List.{List}
 use Prim.Native.Nat.{ℕ}
 use Rattle.meaning.specs.Table.{scottish}
 use Rattle.meaning.specs.Answers.{numberList}
-use Rattle.meaning.specs.Load.{checkFile, checkHolding, apply, undoFile}
+use Rattle.meaning.specs.Load.{checkFile, checkHolding, loadFile}
 use Rattle.meaning.specs.Enquiries.{Found, find, inForce, fieldOf}
 use Rattle.laws.specs.WhyField.{FieldAnswers, field-answers}
 use Rattle.laws.specs.WhyFind.{FindAnswers, find-answers}
@@ -13,10 +13,10 @@ use Rattle.laws.specs.Scottish.{scottish-regular}
 use Rattle.answers.specs.Meant.{answerOf, verdictOf, answerList, verdictList, threeList}
 use Rattle.answers.specs.declared.numbers.Answer.{Answer}
 use Rattle.answers.specs.declared.numbers.Verdict.{Verdict}
-use Rattle.muiwash.specs.Numbers.{partList, sidedList, Applies, Undoes}
+use Rattle.muiwash.specs.Numbers.{partList, sidedList, Loads}
 use Rattle.claims.specs.AsBefore.{FindInCAsBefore, find-in-c-before, ForceInCAsBefore, force-in-c-before}
 use Rattle.claims.specs.CheckClaims.{FileClaims, file-claims, HoldingClaims, holding-claims}
-use Rattle.claims.specs.LoadClaims.{ApplyClaims, apply-claims, UndoClaims, undo-claims}
+use Rattle.claims.specs.LoadClaims.{LoadClaims, load-claims}
 
 -- ---- the checks
 
@@ -42,38 +42,22 @@ pub record HoldingInC (old answer : List ℕ) : Type 0 where
 pub holding-in-c : (old answer : List ℕ) → answer ≡ threeList (checkHolding scottish old) → HoldingInC old answer
 holding-in-c old answer o = record { outcome = o; told = verdictOf (checkHolding scottish old); numbers = o; claims = holding-claims old _ refl }
 
--- ---- apply and undo
+-- ---- load
 
--- the numbers of an answer and an output, of which apply's claims hold
-pub record ApplyInC (old file : List ℕ) (room : ℕ) (out answer : List ℕ) : Type 0 where
-  pub outcome : Applies old file room out answer
+-- the numbers of an answer and two buffers, of which load's claims hold
+pub record LoadInC (old file : List ℕ) (room undoRoom : ℕ) (out undo answer : List ℕ) : Type 0 where
+  pub outcome : Loads old file room undoRoom out undo answer
   pub told : Answer
   pub numbers : answer ≡ answerList told
-  pub claims : ApplyClaims old file room told out
+  pub claims : LoadClaims old file room undoRoom told out undo
 
 -- every outcome is so
-pub apply-in-c : (old file : List ℕ) (room : ℕ) (out answer : List ℕ) → Applies old file room out answer → ApplyInC old file room out answer
-apply-in-c old file room out answer o = record {
+pub load-in-c : (old file : List ℕ) (room undoRoom : ℕ) (out undo answer : List ℕ) → Loads old file room undoRoom out undo answer → LoadInC old file room undoRoom out undo answer
+load-in-c old file room undoRoom out undo answer o = record {
   outcome = o;
-  told = answerOf (apply scottish old file room .answer);
+  told = answerOf (loadFile scottish old file room undoRoom .answer);
   numbers = o .0;
-  claims = apply-claims old file room _ out (refl, o .1);
-}
-
--- the numbers of an answer, an output and a work buffer, of which undo's claims hold
-pub record UndoInC (old file : List ℕ) (room space : ℕ) (out work answer : List ℕ) : Type 0 where
-  pub outcome : Undoes old file room space out work answer
-  pub told : Answer
-  pub numbers : answer ≡ answerList told
-  pub claims : UndoClaims old file room space told out work
-
--- every outcome is so
-pub undo-in-c : (old file : List ℕ) (room space : ℕ) (out work answer : List ℕ) → Undoes old file room space out work answer → UndoInC old file room space out work answer
-undo-in-c old file room space out work answer o = record {
-  outcome = o;
-  told = answerOf (undoFile scottish old file room space .answer);
-  numbers = o .0;
-  claims = undo-claims old file room space _ out work (refl, o .1, o .2);
+  claims = load-claims old file room undoRoom _ out undo (refl, o .1, o .2);
 }
 
 -- ---- the enquiries: the numbers, and where the part stands

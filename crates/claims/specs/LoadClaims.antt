@@ -1,44 +1,39 @@
--- What is promised of apply and undo, of the numbers that they answer and the bytes that they leave: demands 1 and 2, and why each number.
+-- What is promised of load, of the numbers that it answers and the bytes that it leaves: demands 1 and 2, why each number, and how much room is always enough.
 use mathlib.Core.Path.{_≡_, refl, sym, ap, _∙_}
 use mathlib.Core.Logic.{_↔_}
 use mathlib.Core.List.{List}
-use Prim.Native.Nat.{ℕ, _≤_, _<_}
+use Prim.Native.Nat.{ℕ, _≤_, _<_, _+_, _*_}
 use native.Mathlib.Omega.{arith}
 use lib.Dec.{T}
 use lib.ListN.{length}
-use Rattle.base.specs.Lists.{zeros}
-use Rattle.theory.specs.Step.{ins, upd, del, after, back}
-use Rattle.theory.specs.Trail.{undo}
+use Rattle.theory.specs.Step.{ins, upd, del}
 use Rattle.theory.specs.Answer.{count}
 use Rattle.meaning.specs.Table.{scottish}
-use Rattle.meaning.specs.Records.{Rec, keyed}
+use Rattle.meaning.specs.Records.{Rec}
 use Rattle.meaning.specs.File.{writeFile}
 use Rattle.meaning.specs.Holding.{written}
-use Rattle.meaning.specs.Load.{thenZeros, checkFile, undoFile}
+use Rattle.meaning.specs.Load.{thenZeros, checkFile}
 use Rattle.meaning.specs.Steps.{fits}
-use Rattle.meaning.specs.Undo.{undoBytes}
+use Rattle.meaning.specs.Undo.{undoBody, undoBytes}
 use Rattle.meaning.specs.Codes.{fieldMalformed, holdingTooLong, holdingUnsound, undoTooLong}
 use Rattle.laws.specs.SoundHolding.{SoundHolding}
-use Rattle.laws.specs.SoundFile.{sound-read}
-use Rattle.laws.specs.Rows.{applyRows, undoRows}
+use Rattle.laws.specs.Rows.{loadRows}
 use Rattle.laws.specs.Checks.{SomeHolding}
-use Rattle.laws.specs.Demand2.{Allowed, afterAll, Lawful, Roomy}
-use Rattle.laws.specs.Demand3.{undo-done}
-use Rattle.laws.specs.WhyLoad.{reason-five, Located, Unsound, Faulty, BothSound, Reason, badFile, apply-why, why-apply, apply-14, apply-start, apply-13, undo-why, why-undo, undo-14, undo-start, undo-13, undo-0, undo-17, undo-body}
+use Rattle.laws.specs.Demand2.{Allowed, afterAll, UndoFits, Lawful, Roomy, allowed-takes}
+use Rattle.laws.specs.Room.{undo-enough, room-enough}
+use Rattle.laws.specs.WhyLoad.{reason-five, Located, Unsound, Faulty, BothSound, Reason, badFile, load-why, why-load, load-14, load-start, load-13, roomy-13, load-17, undo-body}
 use Rattle.laws.specs.Scottish.{scottish-regular}
 use Rattle.answers.specs.Meant.{answerOf}
 use Rattle.answers.specs.declared.numbers.Answer.{Answer}
-use Rattle.apply.specs.Outcome.{Outcome}
-use Rattle.undo.specs.Outcome.{UndoOutcome}
-use Rattle.claims.specs.Demand1.{Nothing, InTable, apply-refused, undo-refused, undo-filled, work-is-zeros, apply-numbers, undo-numbers}
+use Rattle.loader.specs.Outcome.{Outcome}
+use Rattle.claims.specs.Demand1.{Nothing, InTable, load-refused, load-numbers}
 use Rattle.claims.specs.CheckClaims.{FiveClaims, file-claims}
-use Rattle.claims.specs.Demand2.{taken-if, taken-only, new-holding, counted}
-use Rattle.claims.specs.Demand3.{changes}
-use Rattle.claims.specs.AsBefore.{ApplyAsBefore, apply-before, UndoAsBefore, undo-before}
+use Rattle.claims.specs.Demand2.{taken-if, taken-only, new-holding, counted, undo-left}
+use Rattle.claims.specs.AsBefore.{LoadAsBefore, load-before}
 
 -- ---- why a load is refused, of the numbers answered, with `room` bytes for the holding
 
--- the numbers of a file over a holding, where they aren't 0 and, for undo, not 17
+-- the numbers of a file over a holding, where they are neither 0 nor 17
 pub record WhyRefused (old file : List ℕ) (room : ℕ) (r : Answer) : Type 0 where
   -- where there is a reason, the numbers are its
   pub exactly : (c l f p : ℕ) → Reason scottish room old file c l f p → Located (r .code) (r .line) (r .field) (r .place) c l f p
@@ -62,110 +57,87 @@ five-told old file room r w e =
     let c = file-claims file (answerOf (checkFile scottish file)) refl in
     rw (d .0 .1, d .0 .2, d .1) (c .five (sym (d .0 .0) ∙ e))
 
--- ---- apply
+-- ---- load
 
--- what apply answers to a file over a holding with an output of `room` bytes, and leaves in it
-pub record ApplyClaims (old file : List ℕ) (room : ℕ) (r : Answer) (out : List ℕ) : Type 0 where
+-- what load answers to a file over a holding, with buffers of `room` bytes for the new holding and of `undoRoom` for the undo, and leaves in them
+pub record LoadClaims (old file : List ℕ) (room undoRoom : ℕ) (r : Answer) (out undo : List ℕ) : Type 0 where
   -- the definition's numbers and bytes, and so one outcome only
-  pub outcome : Outcome old file room r out
+  pub outcome : Outcome old file room undoRoom r out undo
   -- demand 1: a row of paper 01's table, and a place beside 5 alone
-  pub tabled : InTable (applyRows scottish old file) file r
-  -- and on refusal zeros, and nothing counted
-  pub refused : (r .code ≡ 0 → ⊥) → Nothing room r out
-  -- demand 2: taken exactly if all is allowed
-  pub taken : (r .code ≡ 0) ↔ Allowed scottish old file room
-  -- with a sound holding and room at every step, exactly if every line and every step is lawful
-  pub lawful : (st : List Rec) → SoundHolding scottish old st → Roomy scottish room st file → (r .code ≡ 0) ↔ Lawful scottish st file
-  -- then the output is the old holding with the file's changes made in their order, and zeros
-  pub new : (a : Allowed scottish old file room) → (out ≡ thenZeros room (written (afterAll scottish a))) × (length (written (afterAll scottish a)) ≤ room)
+  pub tabled : InTable (loadRows scottish old file) file r
+  -- and on refusal zeros in both buffers, and nothing counted
+  pub refused : (r .code ≡ 0 → ⊥) → Nothing room undoRoom r out undo
+  -- demand 2: taken exactly if all is allowed and the undo isn't longer than its buffer
+  pub taken : (r .code ≡ 0) ↔ (Allowed scottish old file room × UndoFits scottish old file undoRoom)
+  -- with a sound holding, room at every step and room for the undo, exactly if every line and every step is lawful
+  pub lawful : (st : List Rec) → SoundHolding scottish old st → Roomy scottish room st file → UndoFits scottish old file undoRoom → (r .code ≡ 0) ↔ Lawful scottish st file
+  -- then one buffer holds the old holding with the file's changes made in their order, and zeros
+  pub new : (a : Allowed scottish old file room) → UndoFits scottish old file undoRoom → (out ≡ thenZeros room (written (afterAll scottish a))) × (length (written (afterAll scottish a)) ≤ room)
   -- each counted in the answer
-  pub counts : (a : Allowed scottish old file room) → (r .inserts ≡ count ins (a .cs)) × (r .updates ≡ count upd (a .cs)) × (r .deletes ≡ count del (a .cs))
-  -- a refusal has a reason
-  pub why : (r .code ≡ 0 → ⊥) → Reason scottish room old file (r .code) (r .line) (r .field) (r .place)
+  pub counts : (a : Allowed scottish old file room) → UndoFits scottish old file undoRoom
+      → (r .inserts ≡ count ins (a .cs)) × (r .updates ≡ count upd (a .cs)) × (r .deletes ≡ count del (a .cs))
+  -- and the other holds the undo, and zeros
+  pub undone : Allowed scottish old file room → UndoFits scottish old file undoRoom → undo ≡ thenZeros undoRoom (undoBytes scottish old file)
+  -- which is the file's own header, metadata and trailer around the steps taken backwards, numbered from 1
+  pub body : (m : BothSound scottish old file) → undoBytes scottish old file ≡ writeFile (m .fr) (undoBody scottish (m .st) (m .cs))
+  -- 17 exactly if all is allowed, and the undo is longer than its buffer
+  pub long : (r .code ≡ undoTooLong) ↔ (Allowed scottish old file room × (undoRoom < length (undoBytes scottish old file)))
+  -- another refusal has a reason
+  pub why : (r .code ≡ 0 → ⊥) → (r .code ≡ undoTooLong → ⊥) → Reason scottish room old file (r .code) (r .line) (r .field) (r .place)
   -- and each code is given exactly then
   pub whys : WhyRefused old file room r
+  -- 13 is never given where the buffer for the new holding is as long as the old holding, the file and 16,384 bytes
+  pub roomEnough : length old + length file + 16384 ≤ room → r .code ≡ holdingTooLong → ⊥
+  -- nor 17 where that for the undo is as long as the old holding and twice the file
+  pub undoRoomEnough : length old + 2 * length file ≤ undoRoom → r .code ≡ undoTooLong → ⊥
   -- paper 02, request 02: of ASCII alone, the answer is what it was before, with bytes counted
-  pub asBefore : ApplyAsBefore old file room r out
+  pub asBefore : LoadAsBefore old file room undoRoom r out undo
 
--- every outcome of apply is so
-pub apply-claims : (old file : List ℕ) (room : ℕ) (r : Answer) (out : List ℕ) → Outcome old file room r out → ApplyClaims old file room r out
-apply-claims old file room r out o = record {
-  outcome = o;
-  tabled = apply-numbers old file room r out o;
-  refused = apply-refused old file room r out o;
-  taken = taken-only old file room r out o;
-  lawful = taken-if old file room r out o;
-  new = new-holding old file room r out o;
-  counts = counted old file room r out o;
-  why = λ n. rw (o .0) (apply-why scottish scottish-regular old file room (λ e. n (ap (λ x. x .code) (o .0) ∙ e)));
-  whys = record {
-    exactly = λ c l f p w. rw (o .0) (why-apply scottish scottish-regular old file room c l f p w);
-    unsound = rw (o .0) (apply-14 scottish scottish-regular old file room);
-    faulty = λ h n. rw (o .0) (why-apply scottish scottish-regular old file room _ _ _ _ (badFile h n ((refl, refl, refl), refl)));
-    five = λ e. five-told old file room r (rw (o .0) (apply-why scottish scottish-regular old file room (λ z. omega (arith, e, ap (λ x. x .code) (o .0), z)))) e;
-    start = λ m. rw (o .0) (apply-start scottish scottish-regular old file room m);
-    roomless = λ st h l. rw (o .0) (apply-13 scottish scottish-regular old file room st h l);
-  };
-  asBefore = apply-before old file room r out o;
-}
+module _ (old file : List ℕ) (room undoRoom : ℕ) (r : Answer) (out undo : List ℕ) (o : Outcome old file room undoRoom r out undo) where
+  reason : (r .code ≡ 0 → ⊥) → (r .code ≡ undoTooLong → ⊥) → Reason scottish room old file (r .code) (r .line) (r .field) (r .place)
+  reason n k = let e = ap (λ x. x .code) (o .0) in rw (o .0) (load-why scottish scottish-regular old file room undoRoom (λ z. n (e ∙ z)) (λ z. k (e ∙ z)))
 
--- ---- undo
+  only-14 : (r .code ≡ holdingUnsound) ↔ Unsound scottish old
+  only-14 = rw (o .0) (load-14 scottish scottish-regular old file room undoRoom)
 
--- what undo answers to a file over a holding with an output of `room` bytes and a work buffer of `space`, and leaves in them
-pub record UndoClaims (old file : List ℕ) (room space : ℕ) (r : Answer) (out work : List ℕ) : Type 0 where
-  -- the definition's numbers and bytes, and so one outcome only
-  pub outcome : UndoOutcome old file room space r out work
-  -- demand 1: a row of paper 01's table, and a place beside 5 alone
-  pub tabled : InTable (undoRows scottish old file) file r
-  -- on refusal zeros, and nothing counted
-  pub refused : (r .code ≡ 0 → ⊥) → Nothing room r out
-  -- the work buffer is all zeros
-  pub cleared : work ≡ zeros space
-  -- 0 exactly if all is allowed with the room of the work buffer, and the undo isn't longer than its output
-  pub done : (r .code ≡ 0) ↔ (Allowed scottish old file space × (length (undoBytes scottish old file) ≤ room))
-  -- 17 exactly if all is allowed so, and the undo is longer than its output
-  pub long : (r .code ≡ undoTooLong) ↔ (Allowed scottish old file space × (room < length (undoBytes scottish old file)))
-  -- on success it counts the file's body lines
-  pub counts : r .code ≡ 0 → (m : BothSound scottish old file) → (r .inserts ≡ count ins (m .cs)) × (r .updates ≡ count upd (m .cs)) × (r .deletes ≡ count del (m .cs))
-  -- and the output is the undo, and zeros
-  pub filledIn : r .code ≡ 0 → (out ≡ thenZeros room (undoBytes scottish old file)) × (length (undoBytes scottish old file) ≤ room)
-  -- which is the file's own header, metadata and trailer around the steps taken backwards, numbered from 1
-  pub body : (m : BothSound scottish old file) → undoBytes scottish old file ≡ writeFile (m .fr) (undo (after (keyed scottish)) (back (keyed scottish)) (m .st) (m .cs))
-  -- another refusal has a load's reason, with the work buffer's length for 13
-  pub why : (r .code ≡ 0 → ⊥) → (r .code ≡ undoTooLong → ⊥) → Reason scottish space old file (r .code) (r .line) (r .field) (r .place)
-  -- and each code is given exactly then
-  pub whys : WhyRefused old file space r
-  -- paper 02, request 02: of ASCII alone, the answer is what it was before, with bytes counted
-  pub asBefore : UndoAsBefore old file room space r out work
+  only-17 : (r .code ≡ undoTooLong) ↔ (Allowed scottish old file room × (undoRoom < length (undoBytes scottish old file)))
+  only-17 = rw (o .0) (load-17 scottish scottish-regular old file room undoRoom)
 
-undo-counts : (old file : List ℕ) (room space : ℕ) (r : Answer) → r ≡ answerOf (undoFile scottish old file room space .answer) → r .code ≡ 0 → (m : BothSound scottish old file)
-    → (r .inserts ≡ count ins (m .cs)) × (r .updates ≡ count upd (m .cs)) × (r .deletes ≡ count del (m .cs))
-undo-counts old file room space r o e m =
-    let w = undo-done scottish scottish-regular old file room space (sym (ap (λ x. x .code) o) ∙ e) in
-    let c : w .1 .cs ≡ m .cs = ap changes (sym (w .1 .read) ∙ sound-read scottish file (m .fr) (m .cs) (m .lines)) in
-    let q = o ∙ ap answerOf (w .2) in
-    (ap (λ x. x .inserts) q ∙ ap (count ins) c, ap (λ x. x .updates) q ∙ ap (count upd) c, ap (λ x. x .deletes) q ∙ ap (count del) c)
+  -- not 13 over a sound holding; over another it is 14
+  never-13 : length old + length file + 16384 ≤ room → r .code ≡ holdingTooLong → ⊥
+  never-13 h e =
+      let c = sym (ap (λ x. x .code) (o .0)) ∙ e in
+      let n = only-14 .1 (λ s. roomy-13 scottish scottish-regular old file room undoRoom (s .state) (s .sounds) (room-enough scottish scottish-regular old file (s .state) room (s .sounds) h) c) in
+      omega (arith, e, n)
 
--- every outcome of undo is so
-pub undo-claims : (old file : List ℕ) (room space : ℕ) (r : Answer) (out work : List ℕ) → UndoOutcome old file room space r out work → UndoClaims old file room space r out work
-undo-claims old file room space r out work o = record {
-  outcome = o;
-  tabled = undo-numbers old file room space r out work o;
-  refused = undo-refused old file room space r out work o;
-  cleared = work-is-zeros old file room space r out work o;
-  done = rw (o .0) (undo-0 scottish scottish-regular old file room space);
-  long = rw (o .0) (undo-17 scottish scottish-regular old file room space);
-  counts = undo-counts old file room space r (o .0);
-  filledIn = undo-filled old file room space r out work o;
-  body = undo-body scottish scottish-regular old file;
-  why = λ n k. let e = ap (λ x. x .code) (o .0) in rw (o .0) (undo-why scottish scottish-regular old file room space (λ z. n (e ∙ z)) (λ z. k (e ∙ z)));
-  whys = record {
-    exactly = λ c l f p w. rw (o .0) (why-undo scottish scottish-regular old file room space c l f p w);
-    unsound = rw (o .0) (undo-14 scottish scottish-regular old file room space);
-    faulty = λ h n. rw (o .0) (why-undo scottish scottish-regular old file room space _ _ _ _ (badFile h n ((refl, refl, refl), refl)));
-    five = λ e. five-told old file space r (let q = ap (λ x. x .code) (o .0) in rw (o .0) (undo-why scottish scottish-regular old file room space (λ z. omega (arith, e, q, z)) (λ z. omega (arith, e, q, z)))) e;
-    start = λ m. rw (o .0) (undo-start scottish scottish-regular old file room space m);
-    roomless = λ st h l. rw (o .0) (undo-13 scottish scottish-regular old file room space st h l);
-  };
-  asBefore = undo-before old file room space r out work o;
-}
+  never-17 : length old + 2 * length file ≤ undoRoom → r .code ≡ undoTooLong → ⊥
+  never-17 h e =
+      let w = only-17 .0 e in
+      omega (arith, h, w .1, undo-enough scottish scottish-regular room old file _ (allowed-takes scottish scottish-regular old file room (w .0)))
+
+  -- every outcome of load is so
+  pub load-claims : LoadClaims old file room undoRoom r out undo
+  load-claims = record {
+    outcome = o;
+    tabled = load-numbers old file room undoRoom r out undo o;
+    refused = load-refused old file room undoRoom r out undo o;
+    taken = taken-only old file room undoRoom r out undo o;
+    lawful = taken-if old file room undoRoom r out undo o;
+    new = new-holding old file room undoRoom r out undo o;
+    counts = counted old file room undoRoom r out undo o;
+    undone = λ a u. undo-left old file room undoRoom r out undo o a u .0;
+    body = undo-body scottish scottish-regular old file;
+    long = only-17;
+    why = reason;
+    whys = record {
+      exactly = λ c l f p w. rw (o .0) (why-load scottish scottish-regular old file room undoRoom c l f p w);
+      unsound = only-14;
+      faulty = λ h n. rw (o .0) (why-load scottish scottish-regular old file room undoRoom _ _ _ _ (badFile h n ((refl, refl, refl), refl)));
+      five = λ e. five-told old file room r (reason (λ z. omega (arith, e, z)) (λ z. omega (arith, e, z))) e;
+      start = λ m. rw (o .0) (load-start scottish scottish-regular old file room undoRoom m);
+      roomless = λ st h l. rw (o .0) (load-13 scottish scottish-regular old file room undoRoom st h l);
+    };
+    roomEnough = never-13;
+    undoRoomEnough = never-17;
+    asBefore = load-before old file room undoRoom r out undo o;
+  }

@@ -1,21 +1,24 @@
 -- One outcome only: any two outcomes that meet what is claimed of an operation are equal, in the numbers answered, in the bytes left, and for
 -- a part that is handed back in its bytes and in where it stands.
-use mathlib.Core.Path.{_≡_, ap₂}
+use mathlib.Core.Path.{_≡_, sym, ap₂, _∙_}
 use mathlib.Core.Bool.{Bool}
 use mathlib.Core.List.{List}
 use Prim.Native.Nat.{ℕ}
 use denote.Ref.{RefT}
 use Rattle.meaning.specs.Table.{scottish}
 use Rattle.meaning.specs.Enquiries.{Found, find, inForce, fieldOf}
-use Rattle.laws.specs.Buffers.{one-outcome}
 use Rattle.answers.specs.declared.numbers.Answer.{Answer}
 use Rattle.answers.specs.declared.numbers.Verdict.{Verdict}
 use Rattle.enquiries.specs.Handed.{Handed, lentAs}
 use Rattle.claims.specs.CheckClaims.{FileClaims, HoldingClaims}
-use Rattle.claims.specs.LoadClaims.{ApplyClaims, UndoClaims}
+use Rattle.claims.specs.LoadClaims.{LoadClaims}
 use Rattle.claims.specs.PartClaims.{FindClaims, ForceClaims, FieldClaims}
 use Rattle.claims.specs.PrintClaims.{PrintClaims}
-use Rattle.claims.specs.ForC.{FileInC, HoldingInC, ApplyInC, UndoInC, FindInC, ForceInC, FieldInC}
+use Rattle.claims.specs.ForC.{FileInC, HoldingInC, LoadInC, FindInC, ForceInC, FieldInC}
+
+-- any two outcomes that meet a statement are equal
+one-outcome : {X : Type 0} (f x y : X) → x ≡ f → y ≡ f → x ≡ y
+one-outcome f x y p q = p ∙ sym q
 
 -- check a file
 pub check-file-once : (file : List ℕ) (r s : Answer) → FileClaims file r → FileClaims file s → r ≡ s
@@ -25,17 +28,13 @@ check-file-once file r s o p = one-outcome _ r s (o .outcome) (p .outcome)
 pub check-holding-once : (old : List ℕ) (v w : Verdict) → HoldingClaims old v → HoldingClaims old w → v ≡ w
 check-holding-once old v w o p = one-outcome _ v w (o .outcome) (p .outcome)
 
--- apply
-pub apply-once : (old file : List ℕ) (room : ℕ) (r s : Answer) (out put : List ℕ) → ApplyClaims old file room r out → ApplyClaims old file room s put → (r ≡ s) × (out ≡ put)
-apply-once old file room r s out put o p = (one-outcome _ r s (o .outcome .0) (p .outcome .0), one-outcome _ out put (o .outcome .1) (p .outcome .1))
-
--- undo
-pub undo-once : (old file : List ℕ) (room space : ℕ) (r s : Answer) (out put work rest : List ℕ)
-    → UndoClaims old file room space r out work → UndoClaims old file room space s put rest → (r ≡ s) × (out ≡ put) × (work ≡ rest)
-undo-once old file room space r s out put work rest o p = (
+-- load
+pub load-once : (old file : List ℕ) (room undoRoom : ℕ) (r s : Answer) (out put undo rest : List ℕ)
+    → LoadClaims old file room undoRoom r out undo → LoadClaims old file room undoRoom s put rest → (r ≡ s) × (out ≡ put) × (undo ≡ rest)
+load-once old file room undoRoom r s out put undo rest o p = (
   one-outcome _ r s (o .outcome .0) (p .outcome .0),
   one-outcome _ out put (o .outcome .1) (p .outcome .1),
-  one-outcome _ work rest (o .outcome .2) (p .outcome .2),
+  one-outcome _ undo rest (o .outcome .2) (p .outcome .2),
 )
 
 -- the numbers, the part's bytes, its block and its place in it
@@ -76,17 +75,13 @@ check-file-in-c-once file a b o p = one-outcome _ a b (o .outcome) (p .outcome)
 pub check-holding-in-c-once : (old a b : List ℕ) → HoldingInC old a → HoldingInC old b → a ≡ b
 check-holding-in-c-once old a b o p = one-outcome _ a b (o .outcome) (p .outcome)
 
--- muiwash_apply
-pub apply-in-c-once : (old file : List ℕ) (room : ℕ) (out put a b : List ℕ) → ApplyInC old file room out a → ApplyInC old file room put b → (a ≡ b) × (out ≡ put)
-apply-in-c-once old file room out put a b o p = (one-outcome _ a b (o .outcome .0) (p .outcome .0), one-outcome _ out put (o .outcome .1) (p .outcome .1))
-
--- muiwash_undo
-pub undo-in-c-once : (old file : List ℕ) (room space : ℕ) (out put work rest a b : List ℕ) → UndoInC old file room space out work a → UndoInC old file room space put rest b
-    → (a ≡ b) × (out ≡ put) × (work ≡ rest)
-undo-in-c-once old file room space out put work rest a b o p = (
+-- muiwash_load
+pub load-in-c-once : (old file : List ℕ) (room undoRoom : ℕ) (out put undo rest a b : List ℕ)
+    → LoadInC old file room undoRoom out undo a → LoadInC old file room undoRoom put rest b → (a ≡ b) × (out ≡ put) × (undo ≡ rest)
+load-in-c-once old file room undoRoom out put undo rest a b o p = (
   one-outcome _ a b (o .outcome .0) (p .outcome .0),
   one-outcome _ out put (o .outcome .1) (p .outcome .1),
-  one-outcome _ work rest (o .outcome .2) (p .outcome .2),
+  one-outcome _ undo rest (o .outcome .2) (p .outcome .2),
 )
 
 -- muiwash_find

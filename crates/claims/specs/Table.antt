@@ -5,14 +5,13 @@ use mathlib.Core.List.{List, [], _∷_, _++_}
 use Prim.Native.Nat.{ℕ}
 use lib.Dec.{T, eqb}
 use lib.ListN.{length}
-use Rattle.base.specs.Lists.{all, zeros}
+use Rattle.base.specs.Lists.{all}
 use Rattle.meaning.specs.Load.{thenZeros}
 use Rattle.meaning.specs.Examples.{claims, paper-lines, places, place-lines, lines, taken, oldIs, changeIs, newIs, undoIs, worked-example, printed-whole}
 use Rattle.text.specs.Front.{inFront}
 use Rattle.answers.specs.Meant.{answerOf}
 use Rattle.answers.specs.declared.numbers.Answer.{Answer}
-use Rattle.apply.specs.Outcome.{Outcome}
-use Rattle.undo.specs.Outcome.{UndoOutcome}
+use Rattle.loader.specs.Outcome.{Outcome}
 use Rattle.program.specs.Outcome.{PrintOutcome}
 
 -- the lines marked [p]: each is answered as the paper says
@@ -23,20 +22,20 @@ p-table = paper-lines
 pub place-table : T (all (λ c. eqb (c .answer) (c .wanted)) places)
 place-table = place-lines
 
--- the paper's file over the paper's holding: taken, with one insert and one update, and the new holding is the paper's
-pub worked : (r : Answer) (out : List ℕ) → Outcome oldIs changeIs 200 r out → (r ≡ answerOf (taken 1 1 0)) × (out ≡ thenZeros 200 newIs)
-worked r out o = let w = worked-example .0 in (o .0 ∙ ap (λ x. answerOf (x .answer)) w, o .1 ∙ ap (λ x. x .output) w)
+-- the paper's file over the paper's holding: taken, with one insert and one update; the new holding is the paper's, and the undo is an update of 500
+-- with the old content, then a delete of the cross reference
+pub worked : (r : Answer) (out undo : List ℕ) → Outcome oldIs changeIs 200 400 r out undo
+    → (r ≡ answerOf (taken 1 1 0)) × (out ≡ thenZeros 200 newIs) × (undo ≡ thenZeros 400 undoIs)
+worked r out undo o =
+    let w = worked-example .0 in
+    (o .0 ∙ ap (λ x. answerOf (x .answer)) w, o .1 ∙ ap (λ x. x .output) w, o .2 ∙ ap (λ x. x .undo) w)
 
--- its undo: an update of 500 with the old content, then a delete of the cross reference
-pub worked-undo : (r : Answer) (out work : List ℕ) → UndoOutcome oldIs changeIs 400 200 r out work
-    → (r ≡ answerOf (taken 1 1 0)) × (out ≡ thenZeros 400 undoIs) × (work ≡ zeros 200)
-worked-undo r out work o =
+-- handed in, the undo gives the old holding back, and its own undo is the paper's file
+pub worked-back : (r : Answer) (out undo : List ℕ) → Outcome newIs undoIs 200 400 r out undo
+    → (r ≡ answerOf (taken 0 1 1)) × (out ≡ thenZeros 200 oldIs) × (undo ≡ thenZeros 400 changeIs)
+worked-back r out undo o =
     let w = worked-example .1 in
-    (o .0 ∙ ap (λ x. answerOf (x .answer)) w, o .1 ∙ ap (λ x. x .output) w, o .2 ∙ ap (λ x. x .work) w)
-
--- handed in, the undo gives the old holding back
-pub worked-back : (r : Answer) (out : List ℕ) → Outcome newIs undoIs 200 r out → (r ≡ answerOf (taken 0 1 1)) × (out ≡ thenZeros 200 oldIs)
-worked-back r out o = let w = worked-example .2 in (o .0 ∙ ap (λ x. answerOf (x .answer)) w, o .1 ∙ ap (λ x. x .output) w)
+    (o .0 ∙ ap (λ x. answerOf (x .answer)) w, o .1 ∙ ap (λ x. x .output) w, o .2 ∙ ap (λ x. x .undo) w)
 
 -- printed whole
 pub printed : (before after : List ℕ) (n : ℕ) → PrintOutcome true oldIs true changeIs before n after

@@ -1,11 +1,10 @@
 // What is claimed of the functions for C.
 ghost use lib.ListN.{length};
-ghost use Rattle.claims.specs.ForC.{FileInC, HoldingInC, ApplyInC, UndoInC, FindInC, ForceInC, FieldInC};
+ghost use Rattle.claims.specs.ForC.{FileInC, HoldingInC, LoadInC, FindInC, ForceInC, FieldInC};
 use answers::numbers::Answer;
 use muiwash::checks::muiwash_check_file;
 use muiwash::checks::muiwash_check_holding;
-use muiwash::load::muiwash_apply;
-use muiwash::load::muiwash_undo;
+use muiwash::load::muiwash_load;
 use muiwash::parts::muiwash_field;
 use muiwash::parts::muiwash_find;
 use muiwash::parts::muiwash_in_force;
@@ -24,24 +23,17 @@ pub fn checked_holding(holding: &[u8], answer: &mut [u64; 3])
     muiwash_check_holding(holding, &mut *answer);
 }
 
-// Takes a file into a holding.
-pub fn applied(holding: &[u8], file: &[u8], out: &mut [u8], answer: &mut [u64; Answer::NUMBERS])
-    ensures { λ _. ⌜ ApplyInC (now (holding .entry)) (now (file .entry)) (length (now (out .entry))) (now (out .exit)) (now (answer .exit)) ⌝ }
-{
-    muiwash_apply(holding, file, &mut *out, &mut *answer);
-}
-
-// Writes the undo of a file.
-pub fn undone(
+// Loads a file into a holding.
+pub fn loaded(
     holding: &[u8],
     file: &[u8],
     out: &mut [u8],
-    work: &mut [u8],
+    undo: &mut [u8],
     answer: &mut [u64; Answer::NUMBERS],
 )
-    ensures { λ _. ⌜ UndoInC (now (holding .entry)) (now (file .entry)) (length (now (out .entry))) (length (now (work .entry))) (now (out .exit)) (now (work .exit)) (now (answer .exit)) ⌝ }
+    ensures { λ _. ⌜ LoadInC (now (holding .entry)) (now (file .entry)) (length (now (out .entry))) (length (now (undo .entry))) (now (out .exit)) (now (undo .exit)) (now (answer .exit)) ⌝ }
 {
-    muiwash_undo(holding, file, &mut *out, &mut *work, &mut *answer);
+    muiwash_load(holding, file, &mut *out, &mut *undo, &mut *answer);
 }
 
 // The line of a street or BLPU.

@@ -4,8 +4,8 @@
 // What is claimed stands in specs/, in the order of its Lib: theorems of demands 1, 2 and 3 over an operation's outcome; the claims that the
 // callers ensure, made of them; one outcome only; the [p] table. docs/PROMISES.md maps the sentences of the demands to these.
 pub mod checks; // a file, and a holding
-pub mod loads; // taking a file, and handing it back
-pub mod back; // both, one after the other
+pub mod loads; // loading a file
+pub mod back; // a file that is taken, and handed back
 pub mod parts; // find, the record in force, one field of a line
 pub mod prints; // what the program prints
 pub mod for_c; // the same of the functions for C

@@ -1,4 +1,4 @@
-// What is claimed of the program that runs apply.
+// What is claimed of the program that loads a file.
 ghost use Rattle.claims.specs.PrintClaims.{PrintClaims};
 use program::MOST;
 use program::print;

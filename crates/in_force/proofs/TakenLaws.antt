@@ -1,4 +1,4 @@
--- In force is what apply would leave: where a file would be taken, in_force shows the record that stands at the key afterwards, or 11.
+-- In force is what a load would leave: where a file would be taken, in_force shows the record that stands at the key afterwards, or 11.
 use mathlib.Core.Path.{_≡_, refl, sym, ap, _∙_, subst}
 use mathlib.Core.Bool.{true}
 use mathlib.Core.Option.{Option, none, some, Option·some-injective}
@@ -115,7 +115,7 @@ module _ (old b : List ℕ) (room kind n : ℕ) (a : Allowed scottish old b room
       go upd q e v g = rw (e, g) (refl, stands)
       go del q e v g = rw (e, g) (refl, refl)
 
--- where a file would be taken, what in_force answers and hands back is what apply would leave at that key
+-- where a file would be taken, what in_force answers and hands back is what a load would leave at that key
 pub taken-shows : (s t r : RefT (List ℕ)) (kind n room : ℕ) (answer : List ℕ) → some? (numberedAmong enquiries kind) ≡ true → (a : Allowed scottish (s .now) (t .now) room)
     → HandedOf (inForce scottish (s .now) (t .now) kind n) s t r answer → Shows (get (keyed scottish) (kind ∷ n ∷ []) (afterAll scottish a)) answer (r .now)
 taken-shows s t r kind n room answer e a h = rw (h .numbers, h .part .bytes ∙ side (f .slice)) shown

@@ -33,7 +33,7 @@ use Rattle.meaning.specs.File.{Stage, Judged, bad, good, Sheet, countFault, lin
 use Rattle.meaning.specs.Holding.{Held, sound, unsound, heldTest, heldKind, heldLine, above, onHeld, scan, referring, onScan, readHolding}
 use Rattle.meaning.specs.Steps.{keyCode, few, roomTests, runSteps}
 use Rattle.meaning.specs.Undo.{undoBody, undoSheet, undoHeld, undoBytes}
-use Rattle.meaning.specs.Load.{fromStart, onFile, onHolding, load, checkFile, checkHolding, apply, undoFile}
+use Rattle.meaning.specs.Load.{fromStart, onFile, onHolding, tried, load, checkFile, checkHolding, loadFile}
 use Rattle.meaning.specs.Enquiries.{heldAt, findIn, findKind, find, lastNaming, inForcePart, inForceFile, inForceHeld, inForceKind, inForce}
 use Rattle.meaning.specs.Program.{programRoom, program}
 use Rattle.laws.specs.LineFails.{noField}
@@ -280,10 +280,10 @@ module _ (F : Format) (rule : TextRule) where
 
     -- ---- what hangs on both
 
-    -- a load answers the same, and leaves the same new holding
-    pub load-same : (room : ℕ) (old b : List ℕ) → T (ascii old) → T (ascii b) → load F room old b ≡ load G room old b
-    unfolding load
-    load-same room old b o h = rw (holding-same old o) (go (readHolding G old))
+    -- every test but that of the undo answers the same, and the new holding is the same
+    pub tried-same : (room : ℕ) (old b : List ℕ) → T (ascii old) → T (ascii b) → tried F room old b ≡ tried G room old b
+    unfolding tried
+    tried-same room old b o h = rw (holding-same old o) (go (readHolding G old))
       where
         go : (x : Held) → onHolding F room b x ≡ onHolding G room b x
         go (unsound n) = unfold onHolding in refl
@@ -331,17 +331,13 @@ module _ (F : Format) (rule : TextRule) where
     unfolding checkHolding
     check-holding-same old o = rw (holding-same old o)
 
-    pub apply-same : (old b : List ℕ) (room : ℕ) → T (ascii old) → T (ascii b) → apply F old b room ≡ apply G old b room
-    unfolding apply
-    apply-same old b room o h = rw (load-same room old b o h)
-
-    pub undo-file-same : (old b : List ℕ) (room space : ℕ) → T (ascii old) → T (ascii b) → undoFile F old b room space ≡ undoFile G old b room space
-    unfolding undoFile
-    undo-file-same old b room space o h = rw (undo-same old b o h, load-same space old b o h)
+    pub load-file-same : (old b : List ℕ) (room undoRoom : ℕ) → T (ascii old) → T (ascii b) → loadFile F old b room undoRoom ≡ loadFile G old b room undoRoom
+    unfolding loadFile load
+    load-file-same old b room undoRoom o h = rw (undo-same old b o h, tried-same room old b o h)
 
     pub print-same : (old b : Option (List ℕ)) → T (ascii (Option·getD old [])) → T (ascii (Option·getD b [])) → program F old b ≡ program G old b
-    unfolding program
-    print-same old b o h = rw (load-same programRoom (Option·getD old []) (Option·getD b []) o h)
+    unfolding program load
+    print-same old b o h = rw (undo-same (Option·getD old []) (Option·getD b []) o h, tried-same programRoom (Option·getD old []) (Option·getD b []) o h)
 
 -- ---- paper 01's format, as it was before and as it is
 
@@ -353,13 +349,9 @@ file-as-before = check-file-same before byCharacters scottish-ascii
 pub holding-as-before : (old : List ℕ) → T (ascii old) → checkHolding before old ≡ checkHolding scottish old
 holding-as-before = check-holding-same before byCharacters scottish-ascii
 
--- apply: the numbers, and every byte of the output
-pub apply-as-before : (old b : List ℕ) (room : ℕ) → T (ascii old) → T (ascii b) → apply before old b room ≡ apply scottish old b room
-apply-as-before = apply-same before byCharacters scottish-ascii
-
--- undo: the numbers, and every byte of the output and of the work buffer
-pub undo-as-before : (old b : List ℕ) (room space : ℕ) → T (ascii old) → T (ascii b) → undoFile before old b room space ≡ undoFile scottish old b room space
-undo-as-before = undo-file-same before byCharacters scottish-ascii
+-- load a file: the numbers, and every byte of both buffers
+pub load-as-before : (old b : List ℕ) (room undoRoom : ℕ) → T (ascii old) → T (ascii b) → loadFile before old b room undoRoom ≡ loadFile scottish old b room undoRoom
+load-as-before = load-file-same before byCharacters scottish-ascii
 
 -- find: the numbers, and where the line stands
 pub find-as-before : (old : List ℕ) (kind n : ℕ) → T (ascii old) → find before old kind n ≡ find scottish old kind n

@@ -1,10 +1,11 @@
--- Demand 2: a file is taken exactly if the holding is sound and every line and step is allowed; what apply leaves then, and when it refuses.
+-- Demand 2: a file is taken exactly if the holding is sound, every line and step is allowed and the undo fits; what a load leaves then, and when it refuses.
 use mathlib.Core.Path.{_≡_, refl, sym, ap, subst}
 use mathlib.Core.Logic.{_↔_}
 use mathlib.Core.Bool.{true}
 use mathlib.Core.Option.{none}
-use mathlib.Core.List.{List, [], _∷_, _++_}
+use mathlib.Core.List.{List, [], _∷_}
 use Prim.Native.Nat.{ℕ, _≤_}
+use native.Mathlib.Decide.{decLe}
 use native.Mathlib.Omega.{arith}
 use lib.Dec.{T, leb, leb→le, le→leb}
 use lib.ListN.{length}
@@ -12,27 +13,28 @@ use Rattle.base.specs.Lists.{zeros}
 use Rattle.base.specs.Tests.{and-in, and-l, and-r}
 use Rattle.theory.specs.Store.{get, Asc}
 use Rattle.theory.specs.Refs.{met}
-use Rattle.theory.specs.Step.{ins, upd, del, Change, allowed, at, after, judge}
+use Rattle.theory.specs.Step.{Change, allowed, at, after, judge}
 use Rattle.theory.specs.Trail.{final, Each, Through}
 use Rattle.theory.specs.Run.{Taken, Good, last, free}
-use Rattle.theory.specs.Answer.{took, refused, count, counts}
+use Rattle.theory.specs.Answer.{took, refused, counts}
 use Rattle.theory.specs.StepLaws.{judge-ok, ok-judge}
 use Rattle.theory.specs.RunLaws.{frame, get-final, good-through}
 use Rattle.meaning.specs.Format.{Format}
 use Rattle.meaning.specs.Records.{Rec, keyed, refsOf}
 use Rattle.meaning.specs.File.{Frame}
 use Rattle.meaning.specs.Holding.{readHolding, written}
-use Rattle.meaning.specs.Load.{load, thenZeros, applied, apply}
-use Rattle.meaning.specs.Steps.{few, fits, heldTests, roomTests, stepRules}
+use Rattle.meaning.specs.Load.{load, tried, ifUndoFits, thenZeros, Loaded, loaded, loadFile}
+use Rattle.meaning.specs.Steps.{few, fits, stepRules}
 use Rattle.meaning.specs.Answers.{Answer, takenWith}
+use Rattle.meaning.specs.Undo.{undoBytes}
 use Rattle.laws.specs.Regular.{Regular}
 use Rattle.laws.specs.HoldingReadBack.{heldRecords}
 use Rattle.laws.specs.SoundHolding.{SoundHolding, held-sound, sound-held, held-is-sound}
 use Rattle.laws.specs.SoundFile.{SoundFile, sound-read, read-sound}
 use Rattle.laws.specs.FileRefusals.{among}
 use Rattle.laws.specs.Checks.{held-only}
-use Rattle.laws.specs.LoadRefusals.{loadCodes, AnswerIn, load-in}
-use Rattle.laws.specs.Takes.{Takes, taken, TookSays, took-takes, good-old, new-held}
+use Rattle.laws.specs.LoadRefusals.{triedCodes, AnswerIn, tried-in}
+use Rattle.laws.specs.Takes.{Takes, taken, taken-long, TookSays, took-takes, good-old, new-held}
 
 -- what fits a buffer fits a longer one
 fits-more : (room space : ℕ) (st : List Rec) → room ≤ space → T (fits room st) → T (fits space st)
@@ -101,6 +103,10 @@ module _ (F : Format) where
   abbrev pub afterAll : {old b : List ℕ} {room : ℕ} → Allowed old b room → List Rec
   afterAll a = final (after (keyed F)) (a .st) (a .cs)
 
+  -- the undo isn't longer than its buffer
+  abbrev pub UndoFits : List ℕ → List ℕ → ℕ → Type 0
+  UndoFits old b undoRoom = length (undoBytes F old b) ≤ undoRoom
+
   -- ---- all is lawful, where a sound holding and buffers with room at every step are given
 
   -- every line of the file is allowed at its place, and every step is lawful over the records st
@@ -118,7 +124,8 @@ module _ (F : Format) where
   steps-lawful room st [] s = tt
   steps-lawful room st (c ∷ cs) s = (s .0 .lawful, steps-lawful room (after (keyed F) st c) cs (s .1))
 
-  through-first : (room : ℕ) (st : List Rec) (cs : List (Change Rec)) → Through (after (keyed F)) (λ s. T (fits room s)) st cs → T (fits room st)
+  -- room throughout is room at the start
+  pub through-first : (room : ℕ) (st : List Rec) (cs : List (Change Rec)) → Through (after (keyed F)) (λ s. T (fits room s)) st cs → T (fits room st)
   through-first room st [] r = r
   through-first room st (c ∷ cs) r = r .0
 
@@ -151,16 +158,19 @@ module _ (F : Format) where
 
   -- ---- a refusal
 
-  -- a refusal leaves zeros, and the three counts are 0
-  pub refused-zeros : (old b : List ℕ) (room : ℕ) → (apply F old b room .answer .code ≡ 0 → ⊥)
-      → (apply F old b room .output ≡ zeros room) × (apply F old b room .answer .inserts ≡ 0) × (apply F old b room .answer .updates ≡ 0) × (apply F old b room .answer .deletes ≡ 0)
-  unfolding apply applied
-  refused-zeros old b room n = go (load F room old b) n
+  -- a refusal leaves zeros in both buffers, and the three counts are 0
+  pub refused-zeros : (old b : List ℕ) (room undoRoom : ℕ) → (loadFile F old b room undoRoom .answer .code ≡ 0 → ⊥)
+      → (loadFile F old b room undoRoom .output ≡ zeros room) × (loadFile F old b room undoRoom .undo ≡ zeros undoRoom)
+      × (loadFile F old b room undoRoom .answer .inserts ≡ 0) × (loadFile F old b room undoRoom .answer .updates ≡ 0) × (loadFile F old b room undoRoom .answer .deletes ≡ 0)
+  unfolding loadFile loaded
+  refused-zeros old b room undoRoom n = go (load F room undoRoom old b) n
     where
-      go : (x : Answer) → (applied room x .answer .code ≡ 0 → ⊥)
-          → (applied room x .output ≡ zeros room) × (applied room x .answer .inserts ≡ 0) × (applied room x .answer .updates ≡ 0) × (applied room x .answer .deletes ≡ 0)
+      Left : Loaded → Type 0
+      Left x = (x .output ≡ zeros room) × (x .undo ≡ zeros undoRoom) × (x .answer .inserts ≡ 0) × (x .answer .updates ≡ 0) × (x .answer .deletes ≡ 0)
+
+      go : (x : Answer) → (loaded room undoRoom (undoBytes F old b) x .answer .code ≡ 0 → ⊥) → Left (loaded room undoRoom (undoBytes F old b) x)
       go (took new m) n = absurd (n refl)
-      go (refused r) n = (refl, refl, refl, refl)
+      go (refused r) n = (refl, refl, refl, refl, refl)
 
   -- ---- the states of a run
 
@@ -187,7 +197,7 @@ module _ (F : Format) where
   through-map P Q f st (c ∷ cs) t = (f st (t .0), through-map P Q f (after (keyed F) st c) cs (t .1))
 
   module _ (regular : Regular F) where
-    -- ---- taken exactly if all is allowed
+    -- ---- taken exactly if all is allowed and the undo fits
 
     -- where all is allowed the file is taken
     pub allowed-takes : (old b : List ℕ) (room : ℕ) (a : Allowed old b room) → Takes F regular room old b (written (afterAll a))
@@ -216,44 +226,61 @@ module _ (F : Format) where
       steps = ok-steps room (a .st) (a .cs) (a .takes);
     }
 
-    -- where all is allowed: 0, the counts of the body lines, and the new holding, then zeros
-    pub allowed-done : (old b : List ℕ) (room : ℕ) (a : Allowed old b room)
-        → apply F old b room ≡ record { answer = takenWith (counts (a .cs)); output = thenZeros room (written (afterAll a)) }
+    -- where all is allowed and the undo fits: 0, the counts of the body lines, and the new holding and the undo, then zeros
+    pub allowed-done : (old b : List ℕ) (room undoRoom : ℕ) (a : Allowed old b room) → UndoFits old b undoRoom
+        → loadFile F old b room undoRoom
+        ≡ record { answer = takenWith (counts (a .cs)); output = thenZeros room (written (afterAll a)); undo = thenZeros undoRoom (undoBytes F old b) }
     unfolding allowed-takes
-    allowed-done old b room a = taken F regular room old b (written (afterAll a)) (allowed-takes old b room a)
+    allowed-done old b room undoRoom a = taken F regular room undoRoom old b (written (afterAll a)) (allowed-takes old b room a)
 
-    -- the answer is 0 only where all is allowed
-    pub done-allowed : (old b : List ℕ) (room : ℕ) → apply F old b room .answer .code ≡ 0 → Allowed old b room
-    unfolding apply applied
-    done-allowed old b room e = go (load F room old b) (took-takes F regular room old b) (load-in F regular room old b) e
+    -- a code that refuses neither the holding, the file nor a step is given only where all is allowed
+    pub code-allowed : (old b : List ℕ) (room undoRoom code : ℕ) → (T (among code triedCodes) → ⊥) → loadFile F old b room undoRoom .answer .code ≡ code → Allowed old b room
+    unfolding loadFile loaded load ifUndoFits
+    code-allowed old b room undoRoom code out e = go (tried F room old b) (took-takes F regular room old b) (tried-in F regular room old b) e
       where
-        go : (x : Answer) → TookSays F regular room old b x → AnswerIn x → applied room x .answer .code ≡ 0 → Allowed old b room
+        u : List ℕ
+        u = undoBytes F old b
+
+        go : (x : Answer) → TookSays F regular room old b x → AnswerIn x → loaded room undoRoom u (ifUndoFits undoRoom u x) .answer .code ≡ code → Allowed old b room
         go (took new m) t n e = takes-allowed old b new room t
-        go (refused r) t n e = absurd (unfold among in subst (λ z. T (among z loadCodes)) e n)
+        go (refused r) t n e = absurd (out (subst (λ z. T (among z triedCodes)) e n))
 
-    -- a file is taken exactly if every line is allowed at its place and every step is allowed
-    pub taken-exactly : (old b : List ℕ) (room : ℕ) → (apply F old b room .answer .code ≡ 0 → Allowed old b room) × (Allowed old b room → apply F old b room .answer .code ≡ 0)
-    taken-exactly old b room = (done-allowed old b room, λ a. ap (λ x. x .answer .code) (allowed-done old b room a))
+    -- the answer is 0 only where all is allowed and the undo fits
+    pub done-allowed : (old b : List ℕ) (room undoRoom : ℕ) → loadFile F old b room undoRoom .answer .code ≡ 0 → Allowed old b room × UndoFits old b undoRoom
+    done-allowed old b room undoRoom e =
+        let a = code-allowed old b room undoRoom 0 (λ t. unfold among in t) e in
+        (a, go a (decLe (length (undoBytes F old b)) undoRoom))
+      where
+        go : Allowed old b room → Dec (UndoFits old b undoRoom) → UndoFits old b undoRoom
+        go a (yes h) = h
+        go a (no h) = absurd (omega (arith, e, ap (λ x. x .answer .code) (taken-long F regular room undoRoom old b _ (allowed-takes old b room a) (omega arith))))
 
-    -- with a sound holding and room at every step, a file is taken exactly if every line and every step is lawful
-    pub lawful-exactly : (old b : List ℕ) (room : ℕ) (st : List Rec) → SoundHolding F old st → Roomy room st b → (apply F old b room .answer .code ≡ 0) ↔ Lawful st b
-    lawful-exactly old b room st h r = (
+    -- a file is taken exactly if every line is allowed at its place, every step is allowed and the undo fits
+    pub taken-exactly : (old b : List ℕ) (room undoRoom : ℕ) → (loadFile F old b room undoRoom .answer .code ≡ 0) ↔ (Allowed old b room × UndoFits old b undoRoom)
+    taken-exactly old b room undoRoom = (done-allowed old b room undoRoom, λ w. ap (λ x. x .answer .code) (allowed-done old b room undoRoom (w .0) (w .1)))
+
+    -- with a sound holding, room at every step and room for the undo, a file is taken exactly if every line and every step is lawful
+    pub lawful-exactly : (old b : List ℕ) (room undoRoom : ℕ) (st : List Rec) → SoundHolding F old st → Roomy room st b → UndoFits old b undoRoom
+        → (loadFile F old b room undoRoom .answer .code ≡ 0) ↔ Lawful st b
+    lawful-exactly old b room undoRoom st h r u = (
       λ e.
-          let a = done-allowed old b room e in
+          let a = done-allowed old b room undoRoom e .0 in
           let q = subst (λ s. StepsAllowed room s (a .cs)) (held-only F regular old (a .st) st (a .held) h) (a .steps) in
           record { fr = a .fr; cs = a .cs; lines = a .lines; steps = steps-lawful room st (a .cs) q },
       λ l.
           let t = r (l .fr) (l .cs) (l .lines) in
-          taken-exactly old b room .1
-          (record {
-            st = st;
-            fr = l .fr;
-            cs = l .cs;
-            held = h;
-            lines = l .lines;
-            starts = through-first room st (l .cs) t;
-            steps = lawful-steps room st (l .cs) (l .steps) t;
-          }),
+          taken-exactly old b room undoRoom .1 (
+            record {
+              st = st;
+              fr = l .fr;
+              cs = l .cs;
+              held = h;
+              lines = l .lines;
+              starts = through-first room st (l .cs) t;
+              steps = lawful-steps room st (l .cs) (l .steps) t;
+            },
+            u,
+          ),
     )
 
     -- ---- a longer buffer, and what follows for the new holding

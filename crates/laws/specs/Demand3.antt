@@ -1,40 +1,30 @@
--- Demand 3 for one file: its undo is a sound file, is itself taken and gives the old holding back.
+-- Demand 3 for one file: what its undo says, and that it is a sound file; that it is taken and gives the old holding back stands in Takes.
 use mathlib.Core.Path.{_≡_, refl, sym, ap, _∙_, subst}
-use mathlib.Core.Bool.{Bool, true, false}
 use mathlib.Core.List.{List, [], _∷_, _++_}
-use Prim.Native.Nat.{ℕ, _+_, _≤_}
+use Prim.Native.Nat.{ℕ, _+_}
 use native.Mathlib.Omega.{arith}
-use lib.Dec.{T, leb, leb→le}
+use lib.Dec.{T}
 use lib.ListN.{length}
-use Rattle.base.specs.Lists.{pick, zeros}
-use Rattle.theory.specs.Fold.{sum}
 use Rattle.theory.specs.Step.{Op, ins, upd, del, Change, after, inv, back}
 use Rattle.theory.specs.Trail.{final, undo}
-use Rattle.theory.specs.Answer.{file, took, refused, count, isOp, Counts, counts}
+use Rattle.theory.specs.Answer.{file, count, isOp, Counts, counts}
 use Rattle.theory.specs.TrailLaws.{length-undo}
 use Rattle.theory.specs.RunLaws.{fine-undo}
+use Rattle.theory.specs.RoomLaws.{sum-append}
 use Rattle.meaning.specs.Format.{Format}
 use Rattle.meaning.specs.Records.{Rec, keyed, changeTexts}
 use Rattle.meaning.specs.File.{Frame, readFile, writeFile}
 use Rattle.meaning.specs.Holding.{readHolding, written}
-use Rattle.meaning.specs.Load.{load, thenZeros, checked, checkFile, Undone, undone, undoFile}
-use Rattle.meaning.specs.Answers.{Answer, takenWith, alone, refusedWith}
+use Rattle.meaning.specs.Load.{checked, checkFile}
+use Rattle.meaning.specs.Answers.{takenWith}
 use Rattle.meaning.specs.Undo.{undoBytes, undoSheet, undoHeld}
-use Rattle.meaning.specs.Codes.{undoTooLong}
 use Rattle.laws.specs.Regular.{Regular}
 use Rattle.laws.specs.LinesAndFields.{endsAll, unlines, lines-join, unlines-ends}
 use Rattle.laws.specs.Body.{fine}
 use Rattle.laws.specs.SoundHolding.{held-sound}
 use Rattle.laws.specs.SoundFile.{SaysChanges, SoundFile, read-sound}
-use Rattle.laws.specs.FileRefusals.{among}
-use Rattle.laws.specs.LoadRefusals.{loadCodes, AnswerIn, load-in}
 use Rattle.laws.specs.FileReadBack.{suits, file-reads, file-says}
-use Rattle.laws.specs.Takes.{Takes, load-took, TookSays, took-takes, met-old}
-use Rattle.laws.specs.Demand2.{takes-more}
-
-sum-append : {X : Type 0} (w : X → ℕ) (xs ys : List X) → sum w (xs ++ ys) ≡ sum w xs + sum w ys
-sum-append w [] ys = omega arith
-sum-append w (x ∷ xs) ys = omega (arith, sum-append w xs ys)
+use Rattle.laws.specs.Takes.{Takes, met-old}
 
 op-inv : (o p : Op) → isOp o (inv p) ≡ isOp (inv o) p
 op-inv ins ins = refl
@@ -111,48 +101,3 @@ module _ (F : Format) where
           a .made ∙ ap (λ cs. written (final (after (keyed F)) (a .st) cs)) e ∙ sym (met-old F regular room old b new a .0),
           undo-is room old b new a ∙ ap (λ cs. writeFile (a .fr) (undo (after (keyed F)) (back (keyed F)) (a .st) cs)) e ∙ sym (empty-file b (a .fr) s),
         )
-
-    -- ---- one file and its undo
-
-    -- undo of a taken file, with a work buffer in which the file would be taken: only 17 can refuse it
-    pub undo-answers : (room space : ℕ) (old b new : List ℕ) (a : Takes F regular space old b new)
-        → undoFile F old b room space ≡ pick (leb (length (undoBytes F old b)) room)
-        (record { answer = takenWith (counts (a .cs)); output = thenZeros room (undoBytes F old b); work = zeros space })
-        (record { answer = refusedWith (alone undoTooLong); output = zeros room; work = zeros space })
-    unfolding undoFile undone
-    undo-answers room space old b new a = rw (load-took F regular space old b new a)
-
-    -- undo answers 0 only where the file would be taken with a buffer as long as the work buffer
-    undo-taken : (old b : List ℕ) (out space : ℕ) → undoFile F old b out space .answer .code ≡ 0 → (new : List ℕ) × Takes F regular space old b new
-    unfolding undoFile undone
-    undo-taken old b out space e = go (load F space old b) (took-takes F regular space old b) (load-in F regular space old b) e
-      where
-        go : (x : Answer) → TookSays F regular space old b x → AnswerIn x → undone out space (undoBytes F old b) x .answer .code ≡ 0 → (new : List ℕ) × Takes F regular space old b new
-        go (took new m) t n e = (new, t)
-        go (refused r) t n e = absurd (unfold among in subst (λ z. T (among z loadCodes)) e n)
-
-    -- then it counts the file's body lines, and the undo fits its output
-    pub undo-done : (old b : List ℕ) (out space : ℕ) → undoFile F old b out space .answer .code ≡ 0
-        → (new : List ℕ)
-        × (a : Takes F regular space old b new)
-        × (undoFile F old b out space .answer ≡ takenWith (counts (a .cs)))
-        × (length (undoBytes F old b) ≤ out)
-    undo-done old b out space e =
-        let w = undo-taken old b out space e in
-        let q = go (leb (length (undoBytes F old b)) out) refl _ _ (undo-answers out space old b (w .0) (w .1)) refl in
-        (w .0, w .1, q .0, q .1)
-      where
-        go : (c : Bool) → leb (length (undoBytes F old b)) out ≡ c → (x y : Undone) → undoFile F old b out space ≡ pick c x y → y .answer .code ≡ 17
-            → (undoFile F old b out space .answer ≡ x .answer) × (length (undoBytes F old b) ≤ out)
-        go true l x y q z = (ap (λ u. u .answer) q, leb→le (length (undoBytes F old b)) out (rw l tt))
-        go false l x y q z = absurd (omega (arith, e, ap (λ u. u .answer .code) q, z))
-
-    -- with a work buffer as long as the output of apply or longer: 17 exactly if the undo is longer than its output
-    pub undo-only-17 : (room out space : ℕ) (old b new : List ℕ) → Takes F regular room old b new → room ≤ space
-        → undoFile F old b out space .answer .code ≡ pick (leb (length (undoBytes F old b)) out) 0 17
-    undo-only-17 room out space old b new a h =
-        ap (λ x. x .answer .code) (undo-answers out space old b new (takes-more F regular old b new room space h a)) ∙ go (leb (length (undoBytes F old b)) out) _ _
-      where
-        go : (c : Bool) (x y : Undone) → pick c x y .answer .code ≡ pick c (x .answer .code) (y .answer .code)
-        go true x y = refl
-        go false x y = refl

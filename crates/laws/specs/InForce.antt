@@ -1,4 +1,4 @@
--- The record in force is what apply would leave at that key if the file were taken.
+-- The record in force is what a load would leave at that key if the file were taken.
 use mathlib.Core.Path.{_≡_, refl, sym, _∙_, subst}
 use mathlib.Core.Bool.{Bool, true, false}
 use mathlib.Core.Option.{Option, none, some}

@@ -1,4 +1,4 @@
--- Which codes apply refuses with: 14 for the holding, the file check's, and those of the steps; and at which line a step is refused.
+-- Which codes a load refuses with, but for 17: 14 for the holding, the file check's, and those of the steps; and at which line a step is refused.
 use mathlib.Core.Bool.{Bool, true, false, _||_}
 use mathlib.Core.Option.{Option, none, some}
 use mathlib.Core.List.{List, [], _∷_, _++_}
@@ -15,7 +15,7 @@ use Rattle.meaning.specs.Format.{Format}
 use Rattle.meaning.specs.Records.{Rec, keyed}
 use Rattle.meaning.specs.File.{Sheet, readFile}
 use Rattle.meaning.specs.Holding.{Held, sound, unsound, readHolding}
-use Rattle.meaning.specs.Load.{outcome, fromStart, onFile, onHolding, load}
+use Rattle.meaning.specs.Load.{outcome, fromStart, onFile, onHolding, tried}
 use Rattle.meaning.specs.Steps.{keyCode, fits, stepRules, runSteps}
 use Rattle.meaning.specs.Answers.{Read, Answer, alone}
 use Rattle.meaning.specs.Codes.{holdingTooLong, keyHeld, keyAbsent, tooManyRecords, referenceUnmet, holdingUnsound}
@@ -26,9 +26,9 @@ use Rattle.laws.specs.FileRefusals.{among, fileCodes, ReadIn, file-codes
 abbrev pub stepCodes : List ℕ
 stepCodes = keyHeld ∷ keyAbsent ∷ tooManyRecords ∷ referenceUnmet ∷ holdingTooLong ∷ []
 
--- the codes of apply: the holding's, the file's, the steps'
-abbrev pub loadCodes : List ℕ
-loadCodes = holdingUnsound ∷ (fileCodes ++ stepCodes)
+-- the codes of a load but for 17: the holding's, the file's, the steps'
+abbrev pub triedCodes : List ℕ
+triedCodes = holdingUnsound ∷ (fileCodes ++ stepCodes)
 
 among-l : (c : ℕ) (xs ys : List ℕ) → T (among c xs) → T (among c (xs ++ ys))
 unfolding among
@@ -81,10 +81,10 @@ abbrev pub OutIn : ℕ → ℕ → Out (List Rec) → Type 0
 OutIn n m (done st) = Unit {0}
 OutIn n m (stop l w) = T (among w stepCodes) × (n ≤ l) × (l < n + m)
 
--- a refusal has one of the codes of apply
+-- a refusal has one of those codes
 abbrev pub AnswerIn : Answer → Type 0
 AnswerIn (took new n) = Unit {0}
-AnswerIn (refused r) = T (among (r .code) loadCodes)
+AnswerIn (refused r) = T (among (r .code) triedCodes)
 
 module _ (F : Format) where
   -- ---- every refusal looks so
@@ -109,10 +109,10 @@ module _ (F : Format) where
       go (some w) i r h = unfold on in (i, omega arith, omega arith)
 
   module _ (regular : Regular F) where
-    -- and apply refuses so, whatever the holding, the file and the buffer
-    pub load-in : (room : ℕ) (old b : List ℕ) → AnswerIn (load F room old b)
-    unfolding load onHolding onFile fromStart outcome among
-    load-in room old b = holds (readHolding F old)
+    -- and a load refuses so, whatever the holding, the file and the buffer
+    pub tried-in : (room : ℕ) (old b : List ℕ) → AnswerIn (tried F room old b)
+    unfolding tried onHolding onFile fromStart outcome among
+    tried-in room old b = holds (readHolding F old)
       where
         ran : (cs : List (Change Rec)) (o : Out (List Rec)) → OutIn 2 (length cs) o → AnswerIn (outcome cs o)
         ran cs (done st) i = tt

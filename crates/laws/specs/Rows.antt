@@ -13,20 +13,20 @@ use Rattle.base.specs.Lists.{pick}
 use Rattle.base.specs.Tests.{and-in, T-true, or-l, or-r}
 use Rattle.theory.specs.Decimal.{value}
 use Rattle.theory.specs.Step.{Op, ins, upd, del, Change}
-use Rattle.theory.specs.Run.{Out, done, stop, run}
+use Rattle.theory.specs.Run.{Out, done, stop}
 use Rattle.theory.specs.Answer.{fault, file, took, refused}
 use Rattle.meaning.specs.Lines.{Line, linesOf, fieldsOf, oddQuotes}
 use Rattle.meaning.specs.Kinds.{Kind, ident, numberedAmong}
 use Rattle.meaning.specs.Format.{Format, Field}
 use Rattle.meaning.specs.Place.{place, placeAs}
 use Rattle.meaning.specs.Sound.{soundField, placeIn}
-use Rattle.meaning.specs.Records.{Rec, keyed}
+use Rattle.meaning.specs.Records.{Rec}
 use Rattle.meaning.specs.File.{Stage, atStart, Sheet, readFrom, readFile}
 use Rattle.meaning.specs.Holding.{Held, sound, unsound, readHolding}
-use Rattle.meaning.specs.Load.{outcome, fromStart, onFile, onHolding, load, checked, checkFile, heldNumbers, checkHolding, applied, apply, Undone, undone, undoFile}
+use Rattle.meaning.specs.Load.{outcome, fromStart, onFile, onHolding, ifUndoFits, tried, load, checked, checkFile, heldNumbers, checkHolding, loaded, loadFile}
 use Rattle.meaning.specs.Enquiries.{Found, refusal, spanned, partOf, heldAt, heldPart, findIn, findKind, find, lastNaming, unlessDeleted, inForcePart, inForceFile, inForceHeld, inForceKind, inForce, fieldPart, fieldIn, fieldOf, first, second}
 use Rattle.meaning.specs.Answers.{Read, Answer, Numbers, noFault, alone, ofLine, ofField, Refusal, atLine}
-use Rattle.meaning.specs.Steps.{fits, stepRules, runSteps}
+use Rattle.meaning.specs.Steps.{fits, runSteps}
 use Rattle.meaning.specs.Undo.{undoBytes}
 use Rattle.meaning.specs.Codes.{holdingTooLong, allDone, endingWrong, identifierUnknown, outOfPlace, fieldCountWrong, fieldMalformed, endBeforeStart, notRunningNumber, recordCountWrong, tooManyBodyLines, keyAbsent, holdingUnsound, kindNotAsked, undoTooLong, noSuchPart}
 use Rattle.laws.specs.Regular.{Regular}
@@ -39,7 +39,7 @@ use Rattle.laws.specs.HoldingRefusals.{HeldAt, holding-fault-at}
 use Rattle.laws.specs.LoadRefusals.{stepCodes, OutIn, run-in}
 use Rattle.laws.specs.StepFails.{no-true}
 use Rattle.laws.specs.LineFails.{LineFails, ending, unknown, misplaced, tooMany, miscounted, malformed, misdated, misnumbered, mistold, lowest-within}
-use Rattle.laws.specs.WhyLoad.{Reason, badHolding, badFile, noStart, badStep, LoadSays, load-says, step-code}
+use Rattle.laws.specs.WhyLoad.{Reason, badHolding, badFile, noStart, badStep, TriedSays, tried-says, step-code}
 use Rattle.laws.specs.WhyFile.{faultAt, atItsEnd, ReadFails, read-fails}
 
 -- ---- rows
@@ -133,8 +133,8 @@ refusal-in : (rs : List Row) (r : Refusal) → T (given rs (r .code) (r .line) (
 unfolding refusal
 refusal-in rs r t = record { numbers = t; empty = λ n. refl }
 
--- whatever holds of each of two answers of undo holds of the one that is picked
-either : (P : Numbers → Type 0) (c : Bool) (x y : Undone) → P (x .answer) → P (y .answer) → P (pick c x y .answer)
+-- whatever holds of each of two answers holds of the one that is picked
+either : (P : Answer → Type 0) (c : Bool) (x y : Answer) → P x → P y → P (pick c x y)
 either P true x y p q = p
 either P false x y p q = q
 
@@ -223,17 +223,13 @@ module _ (F : Format) where
   unfoldable pub checkRows : List ℕ → List Row
   checkRows b = rows nought (allDone ∷ []) ++ fileRows (length (linesOf b))
 
-  -- what refuses a file over a holding: 14, the file check, 13 for the start, the steps
+  -- what refuses a file over a holding, but for the length of its undo: 14, the file check, 13 for the start, the steps
+  unfoldable pub triedRows : List ℕ → List ℕ → List Row
+  triedRows old b = heldRows (length (linesOf old)) ++ (fileRows (length (linesOf b)) ++ (rows nought (holdingTooLong ∷ []) ++ stepRows b))
+
+  -- load a file: 0, or 17, or what refuses the file
   unfoldable pub loadRows : List ℕ → List ℕ → List Row
-  loadRows old b = heldRows (length (linesOf old)) ++ (fileRows (length (linesOf b)) ++ (rows nought (holdingTooLong ∷ []) ++ stepRows b))
-
-  -- apply: 0, or what refuses the file
-  unfoldable pub applyRows : List ℕ → List ℕ → List Row
-  applyRows old b = rows nought (allDone ∷ []) ++ loadRows old b
-
-  -- undo: the same, or 17
-  unfoldable pub undoRows : List ℕ → List ℕ → List Row
-  undoRows old b = rows nought (allDone ∷ undoTooLong ∷ []) ++ loadRows old b
+  loadRows old b = rows nought (allDone ∷ undoTooLong ∷ []) ++ triedRows old b
 
   -- the record in force: what find gives, or the file check
   unfoldable pub forceRows : List ℕ → List ℕ → List Row
@@ -359,57 +355,54 @@ module _ (F : Format) where
         go (fault r) i = given-r (rows nought (allDone ∷ [])) _ (r .code) (r .line) (r .field) i
         go (file s) i = unfold given in tt
 
-    -- ---- apply and undo
+    -- ---- a load
 
-    load-given : (room : ℕ) (old b : List ℕ) → RefusalIn (loadRows old b) (load F room old b)
-    unfolding load onHolding onFile fromStart outcome loadRows stepRows
-    load-given room old b = holds (readHolding F old) (holding-fault-at F old)
+    tried-given : (room : ℕ) (old b : List ℕ) → RefusalIn (triedRows old b) (tried F room old b)
+    unfolding tried onHolding onFile fromStart outcome triedRows stepRows
+    tried-given room old b = holds (readHolding F old) (holding-fault-at F old)
       where
         n : ℕ
         n = length (linesOf b)
 
-        stepped : (c l f : ℕ) → T (given (rows nought (holdingTooLong ∷ []) ++ stepRows b) c l f) → T (given (loadRows old b) c l f)
+        stepped : (c l f : ℕ) → T (given (rows nought (holdingTooLong ∷ []) ++ stepRows b) c l f) → T (given (triedRows old b) c l f)
         stepped c l f t = given-r (heldRows (length (linesOf old))) _ c l f (given-r (fileRows n) _ c l f t)
 
-        ran : (cs : List (Change Rec)) → n ≡ length cs + 3 → (o : Out (List Rec)) → OutIn 2 (length cs) o → RefusalIn (loadRows old b) (outcome cs o)
+        ran : (cs : List (Change Rec)) → n ≡ length cs + 3 → (o : Out (List Rec)) → OutIn 2 (length cs) o → RefusalIn (triedRows old b) (outcome cs o)
         ran cs e (done st) i = tt
         ran cs e (stop l w) i =
             stepped w l 0 (given-r (rows nought (holdingTooLong ∷ [])) _ w l 0 (rows-given (within 2 (n - 2)) stepCodes w l (in-lines 2 (n - 2) l (i .1) (omega (arith, i .2, e))) (i .0)))
 
         starts : (c : Bool) (st : List Rec) (s : Sheet) → n ≡ length (s .1) + 3
-            → RefusalIn (loadRows old b) (pick c (outcome (s .1) (runSteps F room st (s .1))) (refused (alone holdingTooLong)))
+            → RefusalIn (triedRows old b) (pick c (outcome (s .1) (runSteps F room st (s .1))) (refused (alone holdingTooLong)))
         starts true st s e = ran (s .1) e (runSteps F room st (s .1)) (run-in F room 2 st (s .1))
         starts false st s e = stepped holdingTooLong 0 0 (unfold given in tt)
 
-        files : (st : List Rec) (r : Read Sheet) → FileGiven b r → RefusalIn (loadRows old b) (onFile F room st r)
+        files : (st : List Rec) (r : Read Sheet) → FileGiven b r → RefusalIn (triedRows old b) (onFile F room st r)
         files st (fault r) i = given-r (heldRows (length (linesOf old))) _ (r .code) (r .line) (r .field) (given-l (fileRows n) _ (r .code) (r .line) (r .field) i)
         files st (file s) i = starts (fits room st) st s i
 
-        holds : (h : Held) → HeldAt 1 (length (linesOf old)) h → RefusalIn (loadRows old b) (onHolding F room b h)
+        holds : (h : Held) → HeldAt 1 (length (linesOf old)) h → RefusalIn (triedRows old b) (onHolding F room b h)
         holds (unsound l) i = given-l (heldRows (length (linesOf old))) _ holdingUnsound l 0 (held-given (length (linesOf old)) l i)
         holds (sound st) i = files st (readFile F b) (file-given b)
 
-    -- the numbers of apply
-    pub apply-given : (old b : List ℕ) (room : ℕ) → NumbersIn (applyRows old b) (apply F old b room .answer)
-    unfolding applyRows apply applied
-    apply-given old b room = go (load F room old b) (load-given room old b)
+    -- the numbers of a load
+    pub load-given : (old b : List ℕ) (room undoRoom : ℕ) → NumbersIn (loadRows old b) (loadFile F old b room undoRoom .answer)
+    unfolding loadRows loadFile loaded load ifUndoFits
+    load-given old b room undoRoom = go (tried F room old b) (tried-given room old b)
       where
-        go : (x : Answer) → RefusalIn (loadRows old b) x → NumbersIn (rows nought (allDone ∷ []) ++ loadRows old b) (applied room x .answer)
-        go (took new n) t = unfold given in tt
-        go (refused r) t = given-r (rows nought (allDone ∷ [])) _ (r .code) (r .line) (r .field) t
+        u : List ℕ
+        u = undoBytes F old b
 
-    -- the numbers of undo
-    pub undo-given : (old b : List ℕ) (out space : ℕ) → NumbersIn (undoRows old b) (undoFile F old b out space .answer)
-    unfolding undoRows undoFile undone
-    undo-given old b out space = go (load F space old b) (load-given space old b)
-      where
-        go : (x : Answer) → RefusalIn (loadRows old b) x → NumbersIn (rows nought (allDone ∷ undoTooLong ∷ []) ++ loadRows old b) (undone out space (undoBytes F old b) x .answer)
-        go (took new n) t = either (NumbersIn _) (leb (length (undoBytes F old b)) out) _ _ (unfold given in tt) (unfold given in tt)
+        Given : Answer → Type 0
+        Given x = NumbersIn (rows nought (allDone ∷ undoTooLong ∷ []) ++ triedRows old b) (loaded room undoRoom u x .answer)
+
+        go : (x : Answer) → RefusalIn (triedRows old b) x → Given (ifUndoFits undoRoom u x)
+        go (took new n) t = either Given (leb (length u) undoRoom) _ _ (unfold given in tt) (unfold given in tt)
         go (refused r) t = given-r (rows nought (allDone ∷ undoTooLong ∷ [])) _ (r .code) (r .line) (r .field) t
 
-    -- ---- a place: apply and undo
+    -- ---- a place: a load
 
-    -- what refuses a load has a place with 5 alone
+    -- what refuses a file has a place with 5 alone
     reason-pointed : (room : ℕ) (old b : List ℕ) (c l f p : ℕ) → Reason F room old b c l f p → T (pointed c p)
     unfolding pointed among
     reason-pointed room old b c l f p (badHolding n d) = rw (d .0 .0, d .1) tt
@@ -417,23 +410,17 @@ module _ (F : Format) where
     reason-pointed room old b c l f p (noStart m n d) = rw (d .0 .0, d .1) tt
     reason-pointed room old b c l f p (badStep m t r d z) = rw z (none-pointed c (λ e. rw e at (step-code F room _ _ c (r .refuses))))
 
-    -- and so has apply
-    pub apply-pointed : (old b : List ℕ) (room : ℕ) → Pointed (apply F old b room .answer)
-    unfolding apply applied pointed
-    apply-pointed old b room = go (load F room old b) (load-says F regular room old b)
+    -- and so has a load
+    pub load-pointed : (old b : List ℕ) (room undoRoom : ℕ) → Pointed (loadFile F old b room undoRoom .answer)
+    unfolding loadFile loaded load ifUndoFits pointed
+    load-pointed old b room undoRoom = go (tried F room old b) (tried-says F regular room old b)
       where
-        go : (x : Answer) → LoadSays F room old b x → Pointed (applied room x .answer)
-        go (took new n) w = tt
-        go (refused r) w = reason-pointed room old b (r .code) (r .line) (r .field) (r .place) w
+        u : List ℕ
+        u = undoBytes F old b
 
-    -- and undo
-    pub undo-pointed : (old b : List ℕ) (out space : ℕ) → Pointed (undoFile F old b out space .answer)
-    unfolding undoFile undone pointed
-    undo-pointed old b out space = go (load F space old b) (load-says F regular space old b)
-      where
-        go : (x : Answer) → LoadSays F space old b x → Pointed (undone out space (undoBytes F old b) x .answer)
-        go (took new n) w = either Pointed (leb (length (undoBytes F old b)) out) _ _ tt tt
-        go (refused r) w = reason-pointed space old b (r .code) (r .line) (r .field) (r .place) w
+        go : (x : Answer) → TriedSays F room old b x → Pointed (loaded room undoRoom u (ifUndoFits undoRoom u x) .answer)
+        go (took new n) w = either (λ x. Pointed (loaded room undoRoom u x .answer)) (leb (length u) undoRoom) _ _ tt tt
+        go (refused r) w = reason-pointed room old b (r .code) (r .line) (r .field) (r .place) w
 
     -- ---- the record in force
 

@@ -1,18 +1,19 @@
--- Apply and undo of this format are those of the theory, so a file that is taken is one that the theory takes; and what the theory says of it.
+-- Loads and undos of this format are those of the theory, so a file that is taken is one that the theory takes; and what the theory says of it.
 use mathlib.Core.Path.{_≡_, refl, _∙_}
 use mathlib.Core.Bool.{Bool, true, false}
 use mathlib.Core.Option.{none, some}
-use mathlib.Core.List.{List, _++_}
-use Prim.Native.Nat.{ℕ, _≤_}
-use lib.Dec.{T, leb, leb→le}
+use mathlib.Core.List.{List}
+use Prim.Native.Nat.{ℕ, _≤_, _<_}
+use native.Mathlib.Omega.{arith}
+use lib.Dec.{T, leb, leb→le, le→leb}
 use lib.ListN.{length}
 use Rattle.base.specs.ListLaws.{append-all}
-use Rattle.base.specs.Lists.{all, pick, ask}
-use Rattle.base.specs.Tests.{and-l, bools}
-use Rattle.theory.specs.Step.{ins, upd, del, Change, Test, fails, after, passes}
+use Rattle.base.specs.Lists.{all, pick, ask, zeros}
+use Rattle.base.specs.Tests.{and-l, bools, T-true}
+use Rattle.theory.specs.Step.{Change, fails, after, passes}
 use Rattle.theory.specs.Trail.{final}
-use Rattle.theory.specs.Run.{Out, done, stop, run, Good}
-use Rattle.theory.specs.Answer.{fault, file, took, refused, count, counts}
+use Rattle.theory.specs.Run.{Out, done, stop, Good}
+use Rattle.theory.specs.Answer.{fault, file, took, refused, counts}
 use Rattle.theory.specs.ReadBack.{Sound}
 use Rattle.theory.specs.RunLaws.{fine-final, good-final}
 use Rattle.theory.specs.ApplyLaws.{says-apply, apply-took, back-one}
@@ -20,16 +21,16 @@ use Rattle.meaning.specs.Format.{Format}
 use Rattle.meaning.specs.Records.{Rec, keyed}
 use Rattle.meaning.specs.File.{Sheet, readFile}
 use Rattle.meaning.specs.Holding.{Held, sound, unsound, readHolding, written}
-use Rattle.meaning.specs.Load.{outcome, fromStart, onFile, onHolding, load, thenZeros, applied, apply}
+use Rattle.meaning.specs.Load.{outcome, fromStart, onFile, onHolding, ifUndoFits, tried, load, thenZeros, loaded, loadFile}
 use Rattle.laws.specs.Regular.{Regular}
 use Rattle.laws.specs.Body.{fine}
 use Rattle.laws.specs.HoldingReadBack.{heldRecords, holding}
 use Rattle.laws.specs.FileReadBack.{files}
 use Rattle.theory.specs.Apply as A
-use Rattle.meaning.specs.Answers.{Read, Answer, takenWith, alone, Refusal, ofLine, atLine}
+use Rattle.meaning.specs.Answers.{Read, Answer, takenWith, refusedWith, alone, Refusal, ofLine, atLine}
 use Rattle.meaning.specs.Steps.{fits, stepRules, heldTests, runSteps, keyCode, roomTests}
 use Rattle.meaning.specs.Undo.{undoBytes, undoSheet, undoHeld}
-use Rattle.meaning.specs.Codes.{holdingTooLong, holdingUnsound}
+use Rattle.meaning.specs.Codes.{holdingTooLong, holdingUnsound, undoTooLong}
 
 module _ (F : Format) where
   -- ---- the definitions of the meaning are those of the theory
@@ -47,11 +48,11 @@ module _ (F : Format) where
   terms = record { Room = ℕ; late = roomTests; keyCode = keyCode; faulty = λ b. atLine (badLine b) (ofLine holdingUnsound); stopped = λ line code. atLine line (ofLine code) }
 
   module _ (regular : Regular F) where
-    -- apply as the theory has it
+    -- a load as the theory has it, which knows no 17
     abbrev theirs : ℕ → List ℕ → List ℕ → Answer
     theirs = A.apply (keyed F) (holding F regular) (files F regular) terms
 
-    -- the file b is taken over the holding old, with a buffer of `room` bytes, and gives the holding new
+    -- the file b is taken over the holding old, with a buffer of `room` bytes and one long enough for its undo, and gives the holding new
     abbrev pub Takes : ℕ → List ℕ → List ℕ → List ℕ → Type 0
     Takes = A.Applied (keyed F) (holding F regular) (files F regular) terms
 
@@ -80,9 +81,9 @@ module _ (F : Format) where
     same-held room old b (unsound n) e = rw e
     same-held room old b (sound st) e = same-file room st (readFile F b)
 
-    same-load : (room : ℕ) (old b : List ℕ) → load F room old b ≡ theirs room old b
-    unfolding load A.apply
-    same-load room old b = same-held room old b (readHolding F old) refl
+    same-tried : (room : ℕ) (old b : List ℕ) → tried F room old b ≡ theirs room old b
+    unfolding tried A.apply
+    same-tried room old b = same-held room old b (readHolding F old) refl
 
     same-sheet : (st : List Rec) (r : Read Sheet) → undoSheet F st r ≡ A.undoFile (keyed F) (holding F regular) (files F regular) terms st r
     unfolding undoSheet A.undoFile
@@ -99,15 +100,35 @@ module _ (F : Format) where
 
     -- ---- what is taken
 
-    -- a file that is taken gives the new holding and the counts of its body lines
-    pub load-took : (room : ℕ) (old b new : List ℕ) (a : Takes room old b new) → load F room old b ≡ took new (counts (a .cs))
-    load-took room old b new a = same-load room old b ∙ apply-took (keyed F) (holding F regular) (files F regular) terms room old b new a
+    -- such a file passes every test but that of the undo, and gives the new holding and the counts of its body lines
+    pub tried-took : (room : ℕ) (old b new : List ℕ) (a : Takes room old b new) → tried F room old b ≡ took new (counts (a .cs))
+    tried-took room old b new a = same-tried room old b ∙ apply-took (keyed F) (holding F regular) (files F regular) terms room old b new a
 
-    -- what apply answers and leaves
-    pub taken : (room : ℕ) (old b new : List ℕ) (a : Takes room old b new)
-        → apply F old b room ≡ record { answer = takenWith (counts (a .cs)); output = thenZeros room new }
-    unfolding apply applied
-    taken room old b new a = rw (load-took room old b new a)
+    -- and so the load takes it where the undo isn't longer than its buffer
+    pub load-took : (room undoRoom : ℕ) (old b new : List ℕ) (a : Takes room old b new) → length (undoBytes F old b) ≤ undoRoom
+        → load F room undoRoom old b ≡ took new (counts (a .cs))
+    unfolding load ifUndoFits
+    load-took room undoRoom old b new a h =
+        rw (tried-took room old b new a, T-true (leb (length (undoBytes F old b)) undoRoom) (le→leb (length (undoBytes F old b)) undoRoom h))
+
+    -- what is answered and left then
+    pub taken : (room undoRoom : ℕ) (old b new : List ℕ) (a : Takes room old b new) → length (undoBytes F old b) ≤ undoRoom
+        → loadFile F old b room undoRoom
+        ≡ record { answer = takenWith (counts (a .cs)); output = thenZeros room new; undo = thenZeros undoRoom (undoBytes F old b) }
+    unfolding loadFile loaded
+    taken room undoRoom old b new a h = rw (load-took room undoRoom old b new a h)
+
+    -- and what where the undo is longer
+    pub taken-long : (room undoRoom : ℕ) (old b new : List ℕ) → Takes room old b new → undoRoom < length (undoBytes F old b)
+        → loadFile F old b room undoRoom ≡ record { answer = refusedWith (alone undoTooLong); output = zeros room; undo = zeros undoRoom }
+    unfolding loadFile loaded load ifUndoFits
+    taken-long room undoRoom old b new a h = rw (tried-took room old b new a) (go (leb (length (undoBytes F old b)) undoRoom) refl)
+      where
+        go : (c : Bool) → leb (length (undoBytes F old b)) undoRoom ≡ c
+            → loaded room undoRoom (undoBytes F old b) (pick c (took new (counts (a .cs))) (refused (alone undoTooLong)))
+            ≡ record { answer = refusedWith (alone undoTooLong); output = zeros room; undo = zeros undoRoom }
+        go true e = absurd (omega (arith, h, leb→le (length (undoBytes F old b)) undoRoom (rw e tt)))
+        go false e = refl
 
     -- an answer that takes a file is of a file that is taken
     abbrev pub TookSays : ℕ → List ℕ → List ℕ → Answer → Type 0
@@ -115,8 +136,8 @@ module _ (F : Format) where
     TookSays room old b (refused r) = Unit {0}
 
     -- and that is so of every answer: only such a file is taken
-    pub took-takes : (room : ℕ) (old b : List ℕ) → TookSays room old b (load F room old b)
-    took-takes room old b = rw (same-load room old b) (go (theirs room old b) (says-apply (keyed F) (holding F regular) (files F regular) terms room old b))
+    pub took-takes : (room : ℕ) (old b : List ℕ) → TookSays room old b (tried F room old b)
+    took-takes room old b = rw (same-tried room old b) (go (theirs room old b) (says-apply (keyed F) (holding F regular) (files F regular) terms room old b))
       where
         go : (x : Answer) → A.Says (keyed F) (holding F regular) (files F regular) terms room old b x → TookSays room old b x
         go (took new n) s = s .0

@@ -1,36 +1,36 @@
--- Why a load is refused, and with which numbers: its holding, its file, the start, or the first step that isn't allowed. So of apply, and of undo,
--- which 17 alone refuses besides.
+-- Why a load is refused, and with which numbers: its holding, its file, the start, or the first step that isn't allowed; and, last, the length of
+-- its undo.
 use mathlib.Core.Path.{_≡_, refl, sym, ap, _∙_, subst}
 use mathlib.Core.Logic.{_↔_}
 use mathlib.Core.Bool.{Bool, true, false}
 use mathlib.Core.List.{List, [], _∷_, _++_}
-use Prim.Native.Nat.{ℕ, _≤_, _<_}
+use Prim.Native.Nat.{ℕ, _<_}
 use native.Mathlib.Decide.{decLe}
 use native.Mathlib.Omega.{arith}
-use lib.Dec.{T, leb, leb→le, le→leb}
+use lib.Dec.{T, leb, eqb}
 use lib.ListN.{length}
 use Rattle.base.specs.Lists.{pick}
-use Rattle.base.specs.Tests.{T-true}
+use Rattle.base.specs.Tests.{T-true, or-r}
 use Rattle.theory.specs.Step.{Op, ins, upd, del, Change, after, back}
 use Rattle.theory.specs.Trail.{final, Each, Through, undo}
-use Rattle.theory.specs.Run.{Out, done, stop, run}
-use Rattle.theory.specs.Answer.{fault, file, took, refused}
+use Rattle.theory.specs.Run.{Out, done, stop}
+use Rattle.theory.specs.Answer.{fault, file, took, refused, Counts}
 use Rattle.meaning.specs.Format.{Format}
 use Rattle.meaning.specs.Records.{Rec, keyed}
 use Rattle.meaning.specs.File.{Frame, Sheet, readFile, writeFile}
 use Rattle.meaning.specs.Holding.{Held, sound, unsound, readHolding}
-use Rattle.meaning.specs.Load.{outcome, fromStart, onFile, onHolding, load, checked, checkFile, heldNumbers, checkHolding, applied, apply, Undone, undone, undoFile}
+use Rattle.meaning.specs.Load.{outcome, fromStart, onFile, onHolding, ifUndoFits, tried, load, checked, checkFile, heldNumbers, checkHolding, Loaded, loaded, loadFile}
 use Rattle.meaning.specs.Steps.{keyCode, fits, runSteps}
-use Rattle.meaning.specs.Answers.{Read, Answer, Refusal, atLine, alone}
+use Rattle.meaning.specs.Answers.{Read, Answer, Refusal, alone}
 use Rattle.meaning.specs.Undo.{undoSheet, undoHeld, undoBytes}
 use Rattle.laws.specs.Regular.{Regular}
 use Rattle.laws.specs.SoundHolding.{SoundHolding, sound-held, held-is-sound}
 use Rattle.laws.specs.SoundFile.{SoundFile, sound-read, read-sound}
-use Rattle.laws.specs.FileRefusals.{ReadIn, among, file-codes}
-use Rattle.laws.specs.LoadRefusals.{stepCodes, AnswerIn, loadCodes, load-in}
+use Rattle.laws.specs.FileRefusals.{ReadIn, among, fileCodes, file-codes}
+use Rattle.laws.specs.LoadRefusals.{stepCodes}
+use Rattle.laws.specs.Takes.{taken-long}
 use Rattle.laws.specs.Checks.{SomeFile, SomeHolding, held-only}
-use Rattle.laws.specs.Demand2.{StepLawful, StepsAllowed, Allowed, Lawful, Roomy, allowed-takes, done-allowed, lawful-exactly}
-use Rattle.laws.specs.Demand3.{undo-only-17}
+use Rattle.laws.specs.Demand2.{StepLawful, StepsAllowed, Allowed, UndoFits, Lawful, Roomy, through-first, allowed-takes, code-allowed, done-allowed, taken-exactly}
 use Rattle.laws.specs.StepFails.{no-true, false-no, FailsWith, atKey, tooMany, unmet, noRoom, FirstRefused, RunSays, run-says, refused-stops}
 use Rattle.meaning.specs.Codes.{fieldMalformed, holdingTooLong, holdingUnsound, undoTooLong, allDone}
 
@@ -80,7 +80,7 @@ module _ (F : Format) where
     pub held : SoundHolding F old st
     pub lines : SoundFile F b fr cs
 
-  -- why a file is refused over a holding with those numbers, where the holding may take `room` bytes: the four exclude one another
+  -- why a file is refused over a holding with those numbers, but for 17, where the holding may take `room` bytes: the four exclude one another
   pub data Reason (room : ℕ) (old b : List ℕ) (code line field place : ℕ) : Type 0 where
     -- 14: the holding is unsound, and its check names the line
     badHolding : Unsound old → Located code line field place holdingUnsound (checkHolding F old .line) 0 0 → Reason room old b code line field place
@@ -92,10 +92,10 @@ module _ (F : Format) where
     -- there is room at the start, and a step is the first that is refused; the first body line stands on line 2
     badStep : (m : BothSound old b) → T (fits room (m .st)) → FirstRefused F 2 room (m .st) (m .cs) line code → field ≡ 0 → place ≡ 0 → Reason room old b code line field place
 
-  -- what the end of a load says
-  abbrev pub LoadSays : ℕ → List ℕ → List ℕ → Answer → Type 0
-  LoadSays room old b (took new n) = Allowed F old b room
-  LoadSays room old b (refused r) = Reason room old b (r .code) (r .line) (r .field) (r .place)
+  -- what the end of a load says, but for 17
+  abbrev pub TriedSays : ℕ → List ℕ → List ℕ → Answer → Type 0
+  TriedSays room old b (took new n) = Allowed F old b room
+  TriedSays room old b (refused r) = Reason room old b (r .code) (r .line) (r .field) (r .place)
 
   -- a sound file is no fault, so a fault is no sound file
   pub fault-faulty : (b : List ℕ) (r : Refusal) → readFile F b ≡ fault r → Faulty b
@@ -123,7 +123,7 @@ module _ (F : Format) where
   reason-five room old b c l f p (noStart m n d) e = absurd (omega (arith, d .0 .0, e))
   reason-five room old b c l f p (badStep m t r d z) e = absurd (rw e at (step-code room _ _ c (r .refuses)))
 
-  -- ---- a step of a run that is lawful throughout
+  -- ---- a step of a run that is lawful, or has room, throughout
 
   each-at : (st : List Rec) (before : List (Change Rec)) (c : Change Rec) (rest : List (Change Rec)) → Each (after (keyed F)) (StepLawful F) st (before ++ (c ∷ rest))
       → StepLawful F (final (after (keyed F)) st before) c
@@ -135,6 +135,23 @@ module _ (F : Format) where
   lawful-13 room st c w l (tooMany k n e) = absurd (n (l .fewRecords))
   lawful-13 room st c w l (unmet k f n e) = absurd (n (l .references))
   lawful-13 room st c w l (noRoom m n e) = e
+
+  through-at : (room : ℕ) (st : List Rec) (before : List (Change Rec)) (c : Change Rec) (rest : List (Change Rec))
+      → Through (after (keyed F)) (λ s. T (fits room s)) st (before ++ (c ∷ rest)) → T (fits room (after (keyed F) (final (after (keyed F)) st before) c))
+  through-at room st [] c rest r = through-first F room (after (keyed F) st c) rest (r .1)
+  through-at room st (b ∷ before) c rest r = through-at room (after (keyed F) st b) before c rest (r .1)
+
+  -- a step with room after it doesn't fail with 13
+  roomy-step : (room : ℕ) (st : List Rec) (c : Change Rec) (w : ℕ) → T (fits room (after (keyed F) st c)) → FailsWith F room st c w → w ≡ holdingTooLong → ⊥
+  roomy-step room st c w t (atKey n e) z = go (c .op) e
+    where
+      go : (o : Op) → w ≡ keyCode o → ⊥
+      go ins e = omega (arith, z, e)
+      go upd e = omega (arith, z, e)
+      go del e = omega (arith, z, e)
+  roomy-step room st c w t (tooMany k n e) z = omega (arith, z, e)
+  roomy-step room st c w t (unmet k f n e) z = omega (arith, z, e)
+  roomy-step room st c w t (noRoom l n e) z = n t
 
   steps-roomy : (room : ℕ) (st : List Rec) (cs : List (Change Rec)) → T (fits room st) → StepsAllowed F room st cs → Through (after (keyed F)) (λ s. T (fits room s)) st cs
   steps-roomy room st [] t a = t
@@ -152,63 +169,64 @@ module _ (F : Format) where
       ap changes (sym (sound-read F b (m .fr) (m .cs) (m .lines)) ∙ sound-read F b (w .fr) (w .cs) (w .lines)),
     )
 
-    -- ---- the load
+    -- ---- all but the undo
 
-    -- a load takes only what is allowed, and refuses only for a reason
-    pub load-says : (room : ℕ) (old b : List ℕ) → LoadSays room old b (load F room old b)
-    unfolding load onHolding onFile fromStart outcome checkHolding heldNumbers checkFile checked
-    load-says room old b = holds (readHolding F old) refl
+    -- only what is allowed is taken, and only for a reason is anything refused
+    pub tried-says : (room : ℕ) (old b : List ℕ) → TriedSays room old b (tried F room old b)
+    unfolding tried onHolding onFile fromStart outcome checkHolding heldNumbers checkFile checked
+    tried-says room old b = holds (readHolding F old) refl
       where
-        ran : (m : BothSound old b) → T (fits room (m .st)) → (o : Out (List Rec)) → RunSays F 2 room (m .st) (m .cs) o → LoadSays room old b (outcome (m .cs) o)
+        ran : (m : BothSound old b) → T (fits room (m .st)) → (o : Out (List Rec)) → RunSays F 2 room (m .st) (m .cs) o → TriedSays room old b (outcome (m .cs) o)
         ran m t (done s) a = record { st = m .st; fr = m .fr; cs = m .cs; held = m .held; lines = m .lines; starts = t; steps = a }
         ran m t (stop l w) r = badStep m t r refl refl
 
         starts : (m : BothSound old b) (c : Bool) → fits room (m .st) ≡ c
-            → LoadSays room old b (pick c (outcome (m .cs) (runSteps F room (m .st) (m .cs))) (refused (alone holdingTooLong)))
+            → TriedSays room old b (pick c (outcome (m .cs) (runSteps F room (m .st) (m .cs))) (refused (alone holdingTooLong)))
         starts m true e = ran m (rw e tt) (runSteps F room (m .st) (m .cs)) (run-says F 2 room (m .st) (m .cs))
         starts m false e = noStart m (false-no _ e) ((refl, refl, refl), refl)
 
-        files : (st : List Rec) → SoundHolding F old st → (r : Read Sheet) → readFile F b ≡ r → LoadSays room old b (onFile F room st r)
+        files : (st : List Rec) → SoundHolding F old st → (r : Read Sheet) → readFile F b ≡ r → TriedSays room old b (onFile F room st r)
         files st h (fault r) e = badFile (record { state = st; sounds = h }) (fault-faulty b r e) ((rw e, rw e, rw e), rw e)
         files st h (file s) e = starts (record { st = st; fr = s .0; cs = s .1; held = h; lines = read-sound F b (s .0) (s .1) e }) (fits room st) refl
 
-        holds : (h : Held) → readHolding F old ≡ h → LoadSays room old b (onHolding F room b h)
+        holds : (h : Held) → readHolding F old ≡ h → TriedSays room old b (onHolding F room b h)
         holds (unsound n) e = badHolding (unsound-is old n e) ((refl, rw e, refl), refl)
         holds (sound st) e = files st (held-is-sound F regular old st e) (readFile F b) refl
 
-    -- for such a reason it refuses, with the reason's numbers
-    why-load : (room : ℕ) (old b : List ℕ) (c l f p : ℕ) → Reason room old b c l f p → RefusedWith (load F room old b) c l f p
-    unfolding load onHolding onFile fromStart outcome checkHolding heldNumbers checkFile checked
-    why-load room old b c l f p (badHolding n e) = go (readHolding F old) refl (e .0 .1)
+    -- and for a reason it is, with the reason's numbers
+    why-tried : (room : ℕ) (old b : List ℕ) (c l f p : ℕ) → Reason room old b c l f p → RefusedWith (tried F room old b) c l f p
+    unfolding tried onHolding onFile fromStart outcome checkHolding heldNumbers checkFile checked
+    why-tried room old b c l f p (badHolding n e) = go (readHolding F old) refl (e .0 .1)
       where
         go : (h : Held) → readHolding F old ≡ h → l ≡ heldNumbers (readHolding F old) .line → RefusedWith (onHolding F room b h) c l f p
         go (sound st) q d = absurd (n (record { state = st; sounds = held-is-sound F regular old st q }))
         go (unsound m) q d = (_, refl, rw (e .0 .0, e .0 .2, d, q, e .1) ((refl, refl, refl), refl))
-    why-load room old b c l f p (badFile s n e) = rw (sound-held F regular old (s .state) (s .sounds)) (go (readFile F b) refl)
+    why-tried room old b c l f p (badFile s n e) = rw (sound-held F regular old (s .state) (s .sounds)) (go (readFile F b) refl)
       where
         go : (r : Read Sheet) → readFile F b ≡ r → RefusedWith (onFile F room (s .state) r) c l f p
         go (fault r) q = (r, refl, rw (e .0 .0, e .0 .1, e .0 .2, e .1, q) ((refl, refl, refl), refl))
         go (file x) q = absurd (n (record { frame = x .0; changes = x .1; sounds = read-sound F b (x .0) (x .1) q }))
-    why-load room old b c l f p (noStart m n e) =
+    why-tried room old b c l f p (noStart m n e) =
         rw (sound-held F regular old (m .st) (m .held), sound-read F b (m .fr) (m .cs) (m .lines), no-true (fits room (m .st)) n, e .0 .0, e .0 .1, e .0 .2, e .1) (_, refl, ((refl, refl, refl), refl))
-    why-load room old b c l f p (badStep m t r e z) =
+    why-tried room old b c l f p (badStep m t r e z) =
         rw (sound-held F regular old (m .st) (m .held), sound-read F b (m .fr) (m .cs) (m .lines), T-true (fits room (m .st)) t, refused-stops F 2 room (m .st) (m .cs) l c r, e, z) (_, refl, ((refl, refl, refl), refl))
 
     -- ---- what each code says of its reason
 
-    check-code : (b : List ℕ) → checkFile F b .code ≡ holdingUnsound → ⊥
+    -- a code of the file check is 0 or one of the file's
+    check-code : (b : List ℕ) (code : ℕ) → (T (among code (allDone ∷ fileCodes)) → ⊥) → checkFile F b .code ≡ code → ⊥
     unfolding checkFile checked among
-    check-code b = go (readFile F b) (file-codes F regular b)
+    check-code b code out e = go (readFile F b) (file-codes F regular b) e
       where
-        go : (r : Read Sheet) → ReadIn r → checked r .code ≡ holdingUnsound → ⊥
-        go (fault r) i e = rw e at i
-        go (file s) i e = omega (arith, e)
+        go : (r : Read Sheet) → ReadIn r → checked r .code ≡ code → ⊥
+        go (fault r) i e = out (rw (← e) (or-r (eqb (r .code) allDone) (among (r .code) fileCodes) i))
+        go (file s) i e = out (rw (← e) tt)
 
     -- 14: the holding is unsound
     reason-14 : (room : ℕ) (old b : List ℕ) (c l f p : ℕ) → Reason room old b c l f p → c ≡ holdingUnsound → Unsound old
     unfolding among
     reason-14 room old b c l f p (badHolding n d) e = n
-    reason-14 room old b c l f p (badFile s n d) e = absurd (check-code b (sym (d .0 .0) ∙ e))
+    reason-14 room old b c l f p (badFile s n d) e = absurd (check-code b holdingUnsound (λ t. t) (sym (d .0 .0) ∙ e))
     reason-14 room old b c l f p (noStart m n d) e = absurd (omega (arith, d .0 .0, e))
     reason-14 room old b c l f p (badStep m t r d y) e = absurd (rw e at (step-code room _ _ c (r .refuses)))
 
@@ -229,6 +247,18 @@ module _ (F : Format) where
         let s : Each (after (keyed F)) (StepLawful F) (m .st) (r .before ++ (r .step ∷ r .rest)) = rw (← r .whole, ← q .0, ← q .1) (w .steps) in
         lawful-13 room _ (r .step) c (each-at (m .st) (r .before) (r .step) (r .rest) s) (r .refuses)
 
+    -- with room at every step: not 13
+    reason-roomy : (room : ℕ) (old b : List ℕ) (c l f p : ℕ) → Reason room old b c l f p → (st : List Rec) → SoundHolding F old st → Roomy F room st b → c ≡ holdingTooLong → ⊥
+    unfolding among
+    reason-roomy room old b c l f p (badHolding n d) st h w e = n (record { state = st; sounds = h })
+    reason-roomy room old b c l f p (badFile s n d) st h w e = check-code b holdingTooLong (λ t. t) (sym (d .0 .0) ∙ e)
+    reason-roomy room old b c l f p (noStart m n d) st h w e =
+        n (subst (λ s. T (fits room s)) (held-only F regular old st (m .st) h (m .held)) (through-first F room st (m .cs) (w (m .fr) (m .cs) (m .lines))))
+    reason-roomy room old b c l f p (badStep m t r d y) st h w e =
+        let o = held-only F regular old st (m .st) h (m .held) in
+        let q : Through (after (keyed F)) (λ s. T (fits room s)) (m .st) (r .before ++ (r .step ∷ r .rest)) = rw (← r .whole, ← o) (w (m .fr) (m .cs) (m .lines)) in
+        roomy-step room _ (r .step) c (through-at room (m .st) (r .before) (r .step) (r .rest) q) (r .refuses) e
+
     allowed-roomy : (room : ℕ) (old b : List ℕ) (st : List Rec) → SoundHolding F old st → Allowed F old b room → Roomy F room st b
     allowed-roomy room old b st h a fr cs s =
         let w = same-both old b (record { st = a .st; fr = a .fr; cs = a .cs; held = a .held; lines = a .lines }) (record { st = st; fr = fr; cs = cs; held = h; lines = s }) in
@@ -245,145 +275,76 @@ module _ (F : Format) where
         go (sound st) e = (λ z. absurd (omega (arith, z)), λ u. absurd (u (record { state = st; sounds = held-is-sound F regular old st e })))
         go (unsound n) e = (λ z. unsound-is old n e, λ u. refl)
 
-    -- ---- apply
+    -- ---- a load with `room` bytes for the new holding and `undoRoom` for the undo
 
-    module _ (old b : List ℕ) (room : ℕ) where
-      -- a refusal has a reason
-      pub apply-why : (apply F old b room .answer .code ≡ 0 → ⊥)
-          → Reason room old b (apply F old b room .answer .code) (apply F old b room .answer .line) (apply F old b room .answer .field) (apply F old b room .answer .place)
-      unfolding apply applied
-      apply-why n = go (load F room old b) (load-says room old b) n
+    module _ (old b : List ℕ) (room undoRoom : ℕ) where
+      -- but for 17, a refusal has a reason
+      pub load-why : (loadFile F old b room undoRoom .answer .code ≡ 0 → ⊥) → (loadFile F old b room undoRoom .answer .code ≡ undoTooLong → ⊥)
+          → Reason room old b (loadFile F old b room undoRoom .answer .code) (loadFile F old b room undoRoom .answer .line) (loadFile F old b room undoRoom .answer .field) (loadFile F old b room undoRoom .answer .place)
+      unfolding loadFile loaded load ifUndoFits
+      load-why n k = go (tried F room old b) (tried-says room old b) n k
         where
-          go : (x : Answer) → LoadSays room old b x → (applied room x .answer .code ≡ 0 → ⊥)
-              → Reason room old b (applied room x .answer .code) (applied room x .answer .line) (applied room x .answer .field) (applied room x .answer .place)
-          go (took new m) a n = absurd (n refl)
-          go (refused x) r n = r
+          u : List ℕ
+          u = undoBytes F old b
 
-      -- and where there is one, the numbers are its
-      pub why-apply : (c l f p : ℕ) → Reason room old b c l f p
-          → Located (apply F old b room .answer .code) (apply F old b room .answer .line) (apply F old b room .answer .field) (apply F old b room .answer .place) c l f p
-      unfolding apply applied
-      why-apply c l f p r = let w = why-load room old b c l f p r in rw (w .1) (w .2)
+          Why : Loaded → Type 0
+          Why x = (x .answer .code ≡ 0 → ⊥) → (x .answer .code ≡ undoTooLong → ⊥) → Reason room old b (x .answer .code) (x .answer .line) (x .answer .field) (x .answer .place)
 
-      -- 14 exactly if the holding is unsound
-      pub apply-14 : (apply F old b room .answer .code ≡ holdingUnsound) ↔ Unsound old
-      apply-14 = (λ e. reason-14 room old b _ _ _ _ (apply-why (λ z. omega (arith, e, z))) e, λ u. why-apply holdingUnsound (checkHolding F old .line) 0 0 (badHolding u ((refl, refl, refl), refl)) .0 .0)
+          either : (c : Bool) (new : List ℕ) (m : Counts) → Why (loaded room undoRoom u (pick c (took new m) (refused (alone undoTooLong))))
+          either true new m = λ n k. absurd (n refl)
+          either false new m = λ n k. absurd (k refl)
 
-      -- 13 at line 0 exactly if a sound holding is longer than its room before the first step of a sound file
-      pub apply-start : (m : BothSound old b) → ((apply F old b room .answer .code ≡ holdingTooLong) × (apply F old b room .answer .line ≡ 0)) ↔ (T (fits room (m .st)) → ⊥)
-      apply-start m = (
-        λ e. reason-start room old b _ _ _ _ (apply-why (λ z. omega (arith, e .0, z))) (e .1) m,
-        λ n. let w = why-apply holdingTooLong 0 0 0 (noStart m n ((refl, refl, refl), refl)) .0 in (w .0, w .1),
-      )
-
-      -- where all is lawful, 13 exactly if there isn't room at every step
-      pub apply-13 : (st : List Rec) → SoundHolding F old st → Lawful F st b → (apply F old b room .answer .code ≡ holdingTooLong) ↔ (Roomy F room st b → ⊥)
-      apply-13 st h l = (
-        λ e w. omega (arith, e, lawful-exactly F regular old b room st h w .1 l),
-        λ n. reason-13 room old b _ _ _ _ (apply-why (λ z. n (allowed-roomy room old b st h (done-allowed F regular old b room z)))) st h l,
-      )
-
-    -- ---- undo: a load with the room of its work buffer, and then 17
-
-    module _ (old b : List ℕ) (room space : ℕ) where
-      -- but for 17, a refusal has a load's reason
-      pub undo-why : (undoFile F old b room space .answer .code ≡ 0 → ⊥) → (undoFile F old b room space .answer .code ≡ undoTooLong → ⊥)
-          → Reason space old b (undoFile F old b room space .answer .code) (undoFile F old b room space .answer .line) (undoFile F old b room space .answer .field) (undoFile F old b room space .answer .place)
-      unfolding undoFile undone
-      undo-why n k = go (load F space old b) (load-says space old b) n k
-        where
-          Why : Undone → Type 0
-          Why x = (x .answer .code ≡ 0 → ⊥) → (x .answer .code ≡ undoTooLong → ⊥) → Reason space old b (x .answer .code) (x .answer .line) (x .answer .field) (x .answer .place)
-
-          either : (c : Bool) (x y : Undone) → x .answer .code ≡ 0 → y .answer .code ≡ undoTooLong → Why (pick c x y)
-          either true x y p q = λ n k. absurd (n p)
-          either false x y p q = λ n k. absurd (k q)
-
-          go : (x : Answer) → LoadSays space old b x → Why (undone room space (undoBytes F old b) x)
-          go (took new n) a = either (leb (length (undoBytes F old b)) room) _ _ refl refl
+          go : (x : Answer) → TriedSays room old b x → Why (loaded room undoRoom u (ifUndoFits undoRoom u x))
+          go (took new m) a = either (leb (length u) undoRoom) new m
           go (refused x) r = λ n k. r
 
       -- and where there is one, the numbers are its
-      pub why-undo : (c l f p : ℕ) → Reason space old b c l f p
-          → Located (undoFile F old b room space .answer .code) (undoFile F old b room space .answer .line) (undoFile F old b room space .answer .field) (undoFile F old b room space .answer .place) c l f p
-      unfolding undoFile undone
-      why-undo c l f p r = let w = why-load space old b c l f p r in rw (w .1) (w .2)
+      pub why-load : (c l f p : ℕ) → Reason room old b c l f p
+          → Located (loadFile F old b room undoRoom .answer .code) (loadFile F old b room undoRoom .answer .line) (loadFile F old b room undoRoom .answer .field) (loadFile F old b room undoRoom .answer .place) c l f p
+      unfolding loadFile loaded load ifUndoFits
+      why-load c l f p r = let w = why-tried room old b c l f p r in rw (w .1) (w .2)
 
-      -- a code that no load has is given only where all is allowed with the room of the work buffer
-      undo-allowed : (w : ℕ) → (T (among w loadCodes) → ⊥) → undoFile F old b room space .answer .code ≡ w → Allowed F old b space
-      unfolding undoFile undone
-      undo-allowed w un e = go (load F space old b) (load-says space old b) (load-in F regular space old b) e
-        where
-          go : (x : Answer) → LoadSays space old b x → AnswerIn x → undone room space (undoBytes F old b) x .answer .code ≡ w → Allowed F old b space
-          go (took new m) a n e = a
-          go (refused x) r n e = absurd (un (subst (λ z. T (among z loadCodes)) e n))
-
-      -- the code of undo where all is allowed
-      undo-long : ℕ
-      undo-long = pick (leb (length (undoBytes F old b)) room) allDone undoTooLong
-
-      undo-code : Allowed F old b space → undoFile F old b room space .answer .code ≡ undo-long
-      unfolding undo-long
-      undo-code a = undo-only-17 F regular space room space old b _ (allowed-takes F regular old b space a) (omega arith)
-
-      short-0 : length (undoBytes F old b) ≤ room → undo-long ≡ 0
-      unfolding undo-long
-      short-0 h = rw (T-true (leb (length (undoBytes F old b)) room) (le→leb (length (undoBytes F old b)) room h))
-
-      long-17 : room < length (undoBytes F old b) → undo-long ≡ undoTooLong
-      unfolding undo-long
-      long-17 h = rw (no-true (leb (length (undoBytes F old b)) room) (λ t. omega (arith, h, leb→le (length (undoBytes F old b)) room t)))
-
-      -- 0 exactly if all is allowed with the room of the work buffer, and the undo isn't longer than its output
-      pub undo-0 : (undoFile F old b room space .answer .code ≡ 0) ↔ (Allowed F old b space × (length (undoBytes F old b) ≤ room))
-      undo-0 = (
+      -- 17 exactly if all is allowed, and the undo is longer than its buffer
+      pub load-17 : (loadFile F old b room undoRoom .answer .code ≡ undoTooLong) ↔ (Allowed F old b room × (undoRoom < length (undoBytes F old b)))
+      load-17 = (
         λ e.
-            let a = undo-allowed 0 (λ t. unfold among in t) e in
-            (a, go (decLe (length (undoBytes F old b)) room) (sym (undo-code a) ∙ e)),
-        λ w. undo-code (w .0) ∙ short-0 (w .1),
+            let a = code-allowed F regular old b room undoRoom undoTooLong (λ t. unfold among in t) e in
+            (a, go a e (decLe (length (undoBytes F old b)) undoRoom)),
+        λ w. ap (λ x. x .answer .code) (taken-long F regular room undoRoom old b _ (allowed-takes F regular old b room (w .0)) (w .1)),
       )
         where
-          go : Dec (length (undoBytes F old b) ≤ room) → undo-long ≡ 0 → length (undoBytes F old b) ≤ room
-          go (yes h) e = h
-          go (no h) e = absurd (omega (arith, e, long-17 (omega arith)))
-
-      -- 17 exactly if all is allowed with the room of the work buffer, and the undo is longer than its output
-      pub undo-17 : (undoFile F old b room space .answer .code ≡ undoTooLong) ↔ (Allowed F old b space × (room < length (undoBytes F old b)))
-      undo-17 = (
-        λ e.
-            let a = undo-allowed undoTooLong (λ t. unfold among in t) e in
-            (a, go (decLe (length (undoBytes F old b)) room) (sym (undo-code a) ∙ e)),
-        λ w. undo-code (w .0) ∙ long-17 (w .1),
-      )
-        where
-          go : Dec (length (undoBytes F old b) ≤ room) → undo-long ≡ undoTooLong → room < length (undoBytes F old b)
-          go (yes h) e = absurd (omega (arith, e, short-0 h))
-          go (no h) e = omega arith
+          go : Allowed F old b room → loadFile F old b room undoRoom .answer .code ≡ undoTooLong → Dec (UndoFits F old b undoRoom) → undoRoom < length (undoBytes F old b)
+          go a e (yes h) = absurd (omega (arith, e, taken-exactly F regular old b room undoRoom .1 (a, h)))
+          go a e (no h) = omega arith
 
       -- 14 exactly if the holding is unsound
-      pub undo-14 : (undoFile F old b room space .answer .code ≡ holdingUnsound) ↔ Unsound old
-      undo-14 = (
-        λ e. reason-14 space old b _ _ _ _ (undo-why (λ z. omega (arith, e, z)) (λ z. omega (arith, e, z))) e,
-        λ u. why-undo holdingUnsound (checkHolding F old .line) 0 0 (badHolding u ((refl, refl, refl), refl)) .0 .0,
+      pub load-14 : (loadFile F old b room undoRoom .answer .code ≡ holdingUnsound) ↔ Unsound old
+      load-14 = (
+        λ e. reason-14 room old b _ _ _ _ (load-why (λ z. omega (arith, e, z)) (λ z. omega (arith, e, z))) e,
+        λ u. why-load holdingUnsound (checkHolding F old .line) 0 0 (badHolding u ((refl, refl, refl), refl)) .0 .0,
       )
 
-      -- 13 at line 0 exactly if a sound holding is longer than the work buffer before the first step of a sound file
-      pub undo-start : (m : BothSound old b) → ((undoFile F old b room space .answer .code ≡ holdingTooLong) × (undoFile F old b room space .answer .line ≡ 0)) ↔ (T (fits space (m .st)) → ⊥)
-      undo-start m = (
-        λ e. reason-start space old b _ _ _ _ (undo-why (λ z. omega (arith, e .0, z)) (λ z. omega (arith, e .0, z))) (e .1) m,
-        λ n. let w = why-undo holdingTooLong 0 0 0 (noStart m n ((refl, refl, refl), refl)) .0 in (w .0, w .1),
+      -- 13 at line 0 exactly if a sound holding is longer than its room before the first step of a sound file
+      pub load-start : (m : BothSound old b) → ((loadFile F old b room undoRoom .answer .code ≡ holdingTooLong) × (loadFile F old b room undoRoom .answer .line ≡ 0)) ↔ (T (fits room (m .st)) → ⊥)
+      load-start m = (
+        λ e. reason-start room old b _ _ _ _ (load-why (λ z. omega (arith, e .0, z)) (λ z. omega (arith, e .0, z))) (e .1) m,
+        λ n. let w = why-load holdingTooLong 0 0 0 (noStart m n ((refl, refl, refl), refl)) .0 in (w .0, w .1),
       )
 
-      -- where all is lawful, 13 exactly if the work buffer hasn't room at every step
-      pub undo-13 : (st : List Rec) → SoundHolding F old st → Lawful F st b → (undoFile F old b room space .answer .code ≡ holdingTooLong) ↔ (Roomy F space st b → ⊥)
-      undo-13 st h l = (
-        λ e w. neither (decLe (length (undoBytes F old b)) room) (sym (undo-code (done-allowed F regular old b space (lawful-exactly F regular old b space st h w .1 l))) ∙ e),
-        λ n. reason-13 space old b _ _ _ _ (undo-why (λ z. n (allowed-roomy space old b st h (undo-0 .0 z .0))) (λ z. n (allowed-roomy space old b st h (undo-17 .0 z .0)))) st h l,
+      -- with room at every step 13 is never given, whatever else is wrong with the file
+      pub roomy-13 : (st : List Rec) → SoundHolding F old st → Roomy F room st b → loadFile F old b room undoRoom .answer .code ≡ holdingTooLong → ⊥
+      roomy-13 st h w e = reason-roomy room old b _ _ _ _ (load-why (λ z. omega (arith, e, z)) (λ z. omega (arith, e, z))) st h w e
+
+      -- where all is lawful, 13 exactly if there isn't room at every step
+      pub load-13 : (st : List Rec) → SoundHolding F old st → Lawful F st b → (loadFile F old b room undoRoom .answer .code ≡ holdingTooLong) ↔ (Roomy F room st b → ⊥)
+      load-13 st h l = (
+        λ e w. roomy-13 st h w e,
+        λ n.
+            reason-13 room old b _ _ _ _
+            (load-why (λ z. n (allowed-roomy room old b st h (done-allowed F regular old b room undoRoom z .0))) (λ z. n (allowed-roomy room old b st h (load-17 .0 z .0)))) st h l,
       )
-        where
-          neither : Dec (length (undoBytes F old b) ≤ room) → undo-long ≡ holdingTooLong → ⊥
-          neither (yes h) e = omega (arith, e, short-0 h)
-          neither (no h) e = omega (arith, e, long-17 (omega arith))
+
+    -- ---- the undo's bytes
 
     -- the undo of a sound file over a sound holding: the file's header, metadata and trailer around the steps taken backwards
     pub undo-body : (old b : List ℕ) (m : BothSound old b) → undoBytes F old b ≡ writeFile (m .fr) (undo (after (keyed F)) (back (keyed F)) (m .st) (m .cs))

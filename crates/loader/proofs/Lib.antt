@@ -1,3 +1,3 @@
 pub mod FillLaws
-pub mod FrameLaws
+pub mod UndoLaws
 pub mod LoadLaws

@@ -1,1 +1,2 @@
-pub mod Loaded
+pub mod Lent
+pub mod Outcome

@@ -50,7 +50,7 @@ Answer = theory.Answer Refusal
 
 -- ---- the numbers
 
--- checking a file, apply and undo: code, line, field, the file's body lines with I, U and D, and the place
+-- checking a file, and loading it: code, line, field, the file's body lines with I, U and D, and the place
 pub record Numbers : Type 0 where
   pub code : ℕ
   pub line : ℕ

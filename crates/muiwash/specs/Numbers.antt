@@ -4,7 +4,7 @@ use mathlib.Core.List.{List, [], _∷_}
 use Prim.Native.Nat.{ℕ}
 use Rattle.base.specs.Lists.{pick}
 use Rattle.meaning.specs.Table.{scottish}
-use Rattle.meaning.specs.Load.{apply, undoFile}
+use Rattle.meaning.specs.Load.{loadFile}
 use Rattle.meaning.specs.Enquiries.{Slice, first, second, Found}
 use Rattle.meaning.specs.Answers.{numberList}
 use Rattle.enquiries.specs.declared.finding.Finding.{Finding}
@@ -30,11 +30,8 @@ findingList g = g .answer .code ∷ g .answer .line ∷ g .answer .field ∷ g .
 abbrev pub sidedFindingList : Finding → List ℕ
 sidedFindingList g = g .answer .code ∷ g .answer .line ∷ g .answer .field ∷ pick (g .infile) 1 0 ∷ g .start ∷ g .size ∷ []
 
--- what apply leaves in its output of `room` bytes and in its answer
-abbrev pub Applies : List ℕ → List ℕ → ℕ → List ℕ → List ℕ → Type 0
-Applies old file room out answer = (answer ≡ numberList (apply scottish old file room .answer)) × (out ≡ apply scottish old file room .output)
-
--- what undo leaves in its output, in its work buffer of `space` bytes and in its answer
-abbrev pub Undoes : List ℕ → List ℕ → ℕ → ℕ → List ℕ → List ℕ → List ℕ → Type 0
-Undoes old file room space out work answer =
-    (answer ≡ numberList (undoFile scottish old file room space .answer)) × (out ≡ undoFile scottish old file room space .output) × (work ≡ undoFile scottish old file room space .work)
+-- what load leaves in its two buffers, of `room` and `undoRoom` bytes, and in its answer
+abbrev pub Loads : List ℕ → List ℕ → ℕ → ℕ → List ℕ → List ℕ → List ℕ → Type 0
+Loads old file room undoRoom out undo answer =
+    (answer ≡ numberList (loadFile scottish old file room undoRoom .answer)) × (out ≡ loadFile scottish old file room undoRoom .output)
+    × (undo ≡ loadFile scottish old file room undoRoom .undo)

@@ -4,5 +4,5 @@
 // The contracts are those of the operations underneath, by the same definitions. tests/header compares these functions with the header.
 pub mod numbers; // an answer's numbers in their order
 pub mod checks; // a file, and a holding
-pub mod load; // taking a file, and handing it back
+pub mod load; // loading a file, with its undo
 pub mod parts; // find, the record in force, one field of a line

@@ -1,34 +1,20 @@
-// Taking a file, and handing it back.
+// Loading a file, with its undo.
 ghost use lib.ListN.{length};
-ghost use Rattle.muiwash.specs.Numbers.{Applies, Undoes};
+ghost use Rattle.muiwash.specs.Numbers.{Loads};
 use answers::numbers::Answer;
 use answers::numbers::in_order;
-use apply::apply;
-use undo::undo;
+use loader::load;
 
-// Takes a file into a holding: the new holding in the output, or zeros.
+// Loads a file into a holding: the new holding and the file's undo, each in its buffer, or zeros in both.
 #[no_mangle]
-pub extern "C" fn muiwash_apply(
+pub extern "C" fn muiwash_load(
     holding: &[u8],
     file: &[u8],
     out: &mut [u8],
+    undo: &mut [u8],
     answer: &mut [u64; Answer::NUMBERS],
 )
-    ensures { λ _. ⌜ Applies (now (holding .entry)) (now (file .entry)) (length (now (out .entry))) (now (out .exit)) (now (answer .exit)) ⌝ }
+    ensures { λ _. ⌜ Loads (now (holding .entry)) (now (file .entry)) (length (now (out .entry))) (length (now (undo .entry))) (now (out .exit)) (now (undo .exit)) (now (answer .exit)) ⌝ }
 {
-    *answer = in_order(apply(holding, file, &mut *out));
-}
-
-// Writes the undo of a file: the undo in the output, or zeros, and zeros in the work buffer.
-#[no_mangle]
-pub extern "C" fn muiwash_undo(
-    holding: &[u8],
-    file: &[u8],
-    out: &mut [u8],
-    work: &mut [u8],
-    answer: &mut [u64; Answer::NUMBERS],
-)
-    ensures { λ _. ⌜ Undoes (now (holding .entry)) (now (file .entry)) (length (now (out .entry))) (length (now (work .entry))) (now (out .exit)) (now (work .exit)) (now (answer .exit)) ⌝ }
-{
-    *answer = in_order(undo(holding, file, &mut *out, &mut *work));
+    *answer = in_order(load(holding, file, &mut *out, &mut *undo));
 }

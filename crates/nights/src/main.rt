@@ -1,10 +1,10 @@
 // Example nights. Standard input names folders, each with the two files of a night and, in `printed`, what the program prints for them;
-// each is run and compared byte for byte. Cases that no file of 65,536 bytes can hold, or no output of as many, are built here.
+// each is run and compared byte for byte. Cases that no file of 65,536 bytes can hold, or no buffer of as many, are built here.
 ghost use mathlib.Core.Path.{_≡_};
 ghost use Prim.Native.Nat.{_≤_};
 ghost use lib.ListN.{length};
-use apply::apply;
 use libc::STDIN_FILENO;
+use loader::load;
 use night::input::read_file;
 use night::night;
 use program::MOST;
@@ -61,12 +61,22 @@ fn nights(s: &[u8]) {
     }
 }
 
-// What apply answers with an output of so many bytes of what is lent.
-fn answer(holding: &[u8], file: &[u8], out: &mut [u8], size: usize) {
+// What load answers with so many bytes of what is lent for the new holding, and of what is lent for the undo.
+fn answer(
+    holding: &[u8],
+    file: &[u8],
+    out: &mut [u8],
+    size: usize,
+    undo: &mut [u8],
+    undo_size: usize,
+) {
     if out.len() < size {
         return;
     }
-    say_numbers(apply(holding, file, &mut out[0..size]));
+    if undo.len() < undo_size {
+        return;
+    }
+    say_numbers(load(holding, file, &mut out[0..size], &mut undo[0..undo_size]));
     say(b"\n");
 }
 
@@ -78,24 +88,27 @@ fn room() -> [u8; 500000]
 }
 
 // The file insert.csv, which inserts street 501, into a holding.
-fn insert(holding: &[u8], size: usize) {
+fn insert(holding: &[u8], size: usize, undo_size: usize) {
     say_number(holding.len() as u64);
-    say(b" bytes and an insert, an output of ");
+    say(b" bytes and an insert, buffers of ");
     say_number(size as u64);
+    say(b" and ");
+    say_number(undo_size as u64);
     say(b": ");
     let mut file = [0u8; 512];
     let n = read_file(b"insert.csv", &mut file).size;
     let mut out = room();
-    answer(holding, &file[0..n], &mut out, size);
+    let mut undo = [0u8; 512];
+    answer(holding, &file[0..n], &mut out, size, &mut undo, undo_size);
 }
 
-// A holding of so many lines, street 500 and its cross references, with the insert and an output of so many bytes.
-fn built(count: u64, size: usize) {
+// A holding of so many lines, street 500 and its cross references, with the insert and buffers of so many bytes.
+fn built(count: u64, size: usize, undo_size: usize) {
     let mut held = room();
     let n = put_holding(&mut held, count);
     say_number(count);
     say(b" lines of ");
-    insert(&held[0..n], size);
+    insert(&held[0..n], size, undo_size);
 }
 
 // Inputs of so many zeros, as a holding and as a change file.
@@ -118,12 +131,15 @@ fn main() {
     let mut names = io::large_buffer();
     let n = io::read_full(STDIN_FILENO, &mut names);
     nights(&names[..n]);
-    built(8191, 500000);
-    built(8192, 500000);
-    built(1, 74);
-    built(1, 75);
-    built(1, 149);
-    built(1, 150);
+    built(8191, 500000, 512);
+    built(8192, 500000, 512);
+    built(1, 74, 512);
+    built(1, 75, 512);
+    built(1, 149, 512);
+    built(1, 150, 512);
+    built(1, 150, 222);
+    built(1, 150, 221);
+    built(1, 149, 221);
     zeros(65536);
     zeros(65537);
 }

@@ -26,7 +26,7 @@ pub second-18 : (old b : Option (List ℕ)) → true ≡ unusable b → printNum
 unfolding program
 second-18 old b e = go (unusable old)
   where
-    go : (x : Bool) → printNumbers (refusedWith (alone inputUnusable)) ≡ pick (x || unusable b) (printNumbers (refusedWith (alone inputUnusable))) (printLoad (load scottish programRoom (Option·getD old []) (Option·getD b [])))
+    go : (x : Bool) → printNumbers (refusedWith (alone inputUnusable)) ≡ pick (x || unusable b) (printNumbers (refusedWith (alone inputUnusable))) (printLoad (load scottish programRoom programRoom (Option·getD old []) (Option·getD b [])))
     go true = refl
     go false = rw (← e)
 

@@ -1,4 +1,4 @@
-// What the program that runs apply prints: 18, or what apply answers and, on 0, the new holding.
+// What the program that loads a file prints: 18, or what load answers and, on 0, the new holding.
 //
 // No contract can say which bytes a call of C reads or writes, so the work is done on slices: `print` leaves in a buffer exactly what
 // the meaning's `program` says. The crate `night` reads the two files and calls it, and a program writes what it left.
@@ -15,13 +15,13 @@ ghost use Rattle.program.specs.Outcome.{inputOf, mostPrinted, PrintOutco
 use answers::codes::INPUT_UNUSABLE;
 use answers::numbers::refused;
 use answers::refusal::Refusal;
-use apply::apply;
+use loader::load;
 use printed::bare::bare_length;
 use printed::numbers::MOST_OF_NUMBERS;
 use printed::numbers::put_numbers;
 use text::put;
 
-// The most bytes of an input, and the bytes of the output that apply is given.
+// The most bytes of an input, and the bytes of each buffer that load is given.
 pub const ROOM: usize = 65536;
 
 // The most bytes that are printed: the numbers of an answer, and a holding.
@@ -45,14 +45,16 @@ fn print_unusable(printed: &mut [u8]) -> usize
     put_numbers(&mut *printed, refused(Refusal::alone(INPUT_UNUSABLE)))
 }
 
-// The numbers of apply, and what stands in its output before the zeros: after a refusal that is nothing.
+// The numbers of load, and what stands in the buffer of the new holding before the zeros: after a refusal that is nothing. The undo is not
+// printed.
 fn print_load(holding: &[u8], change: &[u8], printed: &mut [u8]) -> usize
     requires { ⌜ mostPrinted ≤ length (now printed) ⌝ }
-    ensures { λ r. ⌜ (r ≡ length (printLoad (load scottish programRoom (now (holding .entry)) (now (change .entry))))) × (r ≤ mostPrinted)
-        × (now (printed .exit) ≡ inFront (printLoad (load scottish programRoom (now (holding .entry)) (now (change .entry)))) (now (printed .entry))) ⌝ }
+    ensures { λ r. ⌜ (r ≡ length (printLoad (load scottish programRoom programRoom (now (holding .entry)) (now (change .entry))))) × (r ≤ mostPrinted)
+        × (now (printed .exit) ≡ inFront (printLoad (load scottish programRoom programRoom (now (holding .entry)) (now (change .entry)))) (now (printed .entry))) ⌝ }
 {
     let mut out = [0u8; ROOM];
-    let answer = apply(holding, change, &mut out);
+    let mut undo = [0u8; ROOM];
+    let answer = load(holding, change, &mut out, &mut undo);
     let at = put_numbers(&mut *printed, answer);
     let size = bare_length(&out);
     at + put::bytes(&mut printed[at..], &out[0..size])

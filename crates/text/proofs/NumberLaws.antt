@@ -1,8 +1,7 @@
 -- How the loops over digits meet the value and the width of theory's Decimal.
 use mathlib.Core.Path.{_≡_, refl}
 use mathlib.Core.List.{List}
-use Prim.Native.Nat.{ℕ, zero, suc, _+_, _-_, _*_, _/_, _^_, _≤_, _<_}
-use native.Mathlib.Decide.{decLe}
+use Prim.Native.Nat.{ℕ, _+_, _-_, _*_, _/_, _^_, _≤_, _<_}
 use native.Mathlib.Nat.{pow-suc, pow-le-pow-right}
 use native.Mathlib.Numerals.{add-one}
 use native.Mathlib.Omega.{arith}
@@ -12,7 +11,7 @@ use mir.Syntax.{w64}
 use mir.Val.{Fits}
 use Rattle.base.proofs.Walk.{at-cons, at-end}
 use Rattle.theory.specs.Decimal.{value, valueF, width}
-use Rattle.theory.specs.DecimalLaws.{width-small, width-big, width-pos}
+use Rattle.theory.specs.DecimalLaws.{width-small, width-big, width-pos, width-below}
 
 -- ---- the value of digits
 
@@ -49,16 +48,7 @@ pub ruleset reading = (needs, value-start, value-turn, value-done, worth-turn, w
 
 -- ---- the width of a number
 
--- a number below 10 ^ k has k digits at most
-pub width-below : (k n : ℕ) → n < 10 ^ suc k → width n ≤ suc k
-width-below zero n h = rw (width-small n (omega arith)) (omega arith)
-width-below (suc k) n h = go (decLe 10 n) (λ g. width-below k (n / 10) g)
-  where
-    go : Dec (10 ≤ n) → (n / 10 < 10 ^ suc k → width (n / 10) ≤ suc k) → width n ≤ suc (suc k)
-    go (no p) f = rw (width-small n (omega arith)) (omega arith)
-    go (yes p) f = rw (width-big n p) (omega (arith, f (omega arith)))
-
--- so one that fits has 20 at most
+-- a number that fits has 20 digits at most
 pub width-most : (n : ℕ) → Fits w64 n → width n ≤ 20
 width-most n h = width-below 19 n (omega arith)
 

@@ -57,13 +57,18 @@ width-big n h = widthF-same n (suc n) n (le-refl n) (omega arith) ∙ widthF-big
 pub width-pos : (n : ℕ) → 0 < width n
 width-pos n = split 10 n (λ h. rw (width-big n h) (omega arith)) (λ h. rw (width-small n h) (omega arith))
 
-width-step : (n k : ℕ) → (10 ≤ n → width (n / 10) ≤ k) → width n ≤ suc k
-width-step n k f = split 10 n (λ h. rw (width-big n h) (omega (arith, f h))) (λ h. rw (width-small n h) (omega arith))
+-- a number below 10 ^ k has at most k digits
+pub width-below : (k n : ℕ) → n < 10 ^ suc k → width n ≤ suc k
+width-below zero n h = rw (width-small n (omega arith)) (omega arith)
+width-below (suc k) n h = go (decLe 10 n) (λ g. width-below k (n / 10) g)
+  where
+    go : Dec (10 ≤ n) → (n / 10 < 10 ^ suc k → width (n / 10) ≤ suc k) → width n ≤ suc (suc k)
+    go (no p) f = rw (width-small n (omega arith)) (omega arith)
+    go (yes p) f = rw (width-big n p) (omega (arith, f (omega arith)))
 
 -- a number below 10,000 has at most four digits
 pub width-four : (n : ℕ) → n < 10000 → width n ≤ 4
-width-four n h =
-    width-step n 3 (λ a. width-step (n / 10) 2 (λ b. width-step (n / 10 / 10) 1 (λ c. rw (width-small (n / 10 / 10 / 10) (omega arith)) (omega arith))))
+width-four n h = width-below 3 n (omega arith)
 
 -- ---- the digits
 

@@ -1,9 +1,11 @@
 -- The laws of the line of an entry's record.
-use mathlib.Core.Path.{_≡_, sym, _∙_}
+use mathlib.Core.Path.{_≡_, sym, ap, _∙_}
+use mathlib.Core.Bool.{true, false, false≢true}
 use mathlib.Core.List.{List, []}
-use Prim.Native.Nat.{ℕ, _+_, _/_, _%_, _≤_}
+use Prim.Native.Nat.{ℕ, _+_, _/_, _%_, _≤_, _<_}
 use native.Mathlib.Omega.{arith}
 use borrow.Author.Needs.{needs}
+use borrow.Author.Tests.{le-leb, lt-leb}
 use lib.ListN.{length, getD}
 use Rattle.theory.specs.Step.{Op, inv}
 use Rattle.theory.specs.Decimal.{width}
@@ -14,7 +16,9 @@ use Rattle.text.specs.Front.{inFront}
 use Rattle.entries.specs.Entries.{recOf, lineAt, recordOf}
 use Rattle.entries.proofs.EntryLaws.{entry-held, entry-filed, line-past, line-here}
 use Rattle.places.specs.Changes.{opAt}
+use Rattle.writer.specs.declared.room.Fitted.{Fitted}
 use Rattle.writer.specs.Lines.{lineBytes}
+use Rattle.writer.specs.Room.{PutIfFits}
 use Rattle.writer.proofs.LineLaws.{length-line}
 
 -- the text of the line at an offset
@@ -30,29 +34,38 @@ held-is h f v e = sym (entry-held h f v e)
 pub filed-is : (h f : List ℕ) (v : ℕ) → (v % 2 ≡ 0 → ⊥) → recOf (lineAt f (v / 2)) ≡ recordOf h f v
 filed-is h f v e = sym (entry-filed h f v e)
 
--- the line of a record has the room that the line of the same record has
-pub same-room : (n m : ℕ) (o : Op) (q r : Rec) → length (lineBytes n (record { op = o; rec = r })) ≤ m → q ≡ r → length (lineBytes n (record { op = o; rec = q })) ≤ m
-same-room n m o q r h e = rw e h
+-- so what is written of a record's line where it fits is that of the same record's
+pub same-put : (n room : ℕ) (o : Op) (q r : Rec) (old new : List ℕ) (x : Fitted) → PutIfFits (lineBytes n (record { op = o; rec = q })) room old x new → q ≡ r
+    → PutIfFits (lineBytes n (record { op = o; rec = r })) room old x new
+same-put n room o q r old new x h e = rw (← e) h
 
--- as many bytes
-pub same-count : (x n : ℕ) (o : Op) (q r : Rec) → x ≡ length (lineBytes n (record { op = o; rec = q })) → q ≡ r → x ≡ length (lineBytes n (record { op = o; rec = r }))
-same-count x n o q r h e = h ∙ rw e
+pub ruleset entryline = (needs, same-put, held-is, filed-is)
 
--- and the same bytes
-pub same-done : (new old : List ℕ) (n : ℕ) (o : Op) (q r : Rec) → new ≡ inFront (lineBytes n (record { op = o; rec = q })) old → q ≡ r → new ≡ inFront (lineBytes n (record { op = o; rec = r })) old
-same-done new old n o q r h e = h ∙ rw e
+-- ---- a line that is written where it fits
 
--- a line's record is its kind and content
-pub record-is : (t c : List ℕ) (k : Kind) → k ≡ recOf t .kind → c ≡ recOf t .content → record { kind = k; content = c } ≡ recOf t
-record-is t c k e q = rw (e, q)
+module _ (t c : List ℕ) (n room : ℕ) (o : Op) (e : c ≡ recOf t .content) where
+  line-long : length (lineBytes n (record { op = o; rec = recOf t })) ≡ 10 + width n + length c
+  line-long = length-line n (recOf t .kind) o (recOf t .content) ∙ rw e
 
--- the line has the room that its parts have
-pub record-room : (t c : List ℕ) (k : Kind) (n m : ℕ) (o : Op) → k ≡ recOf t .kind → c ≡ recOf t .content → length (lineBytes n (record { op = o; rec = recOf t })) ≤ m → 10 + width n + length c ≤ m
-record-room t c k n m o e q h = omega (arith, same-room n m o (record { kind = k; content = c }) (recOf t) h (record-is t c k e q), length-line n k o c)
+  -- it doesn't fit
+  pub record-long : (old new : List ℕ) → room < 10 + width n + length c → PutIfFits (lineBytes n (record { op = o; rec = recOf t })) room old (record { fits = false; size = 0 }) new
+  record-long old new h = record {
+    fits = sym (lt-leb (length (lineBytes n (record { op = o; rec = recOf t }))) room (omega (arith, line-long)));
+    size = λ f. absurd (false≢true f);
+    front = λ f. absurd (false≢true f);
+  }
 
-pub ruleset recordline = (needs, record-room, same-count, same-done, record-is)
-
-pub ruleset entryline = (needs, same-room, same-count, same-done, held-is, filed-is)
+  -- it does, and is written
+  pub record-put : (k : Kind) (old new : List ℕ) (m : ℕ) → 10 + width n + length c ≤ room → k ≡ recOf t .kind
+      → m ≡ length (lineBytes n (record { op = o; rec = record { kind = k; content = c } })) → new ≡ inFront (lineBytes n (record { op = o; rec = record { kind = k; content = c } })) old
+      → PutIfFits (lineBytes n (record { op = o; rec = recOf t })) room old (record { fits = true; size = m }) new
+  record-put k old new m h q l w =
+      let r : _≡_ {A = Rec} (record { kind = k; content = c }) (recOf t) = rw (q, e) in
+      record {
+        fits = sym (le-leb (length (lineBytes n (record { op = o; rec = recOf t }))) room (omega (arith, line-long)));
+        size = λ f. l ∙ ap (λ x. length (lineBytes n (record { op = o; rec = x }))) r;
+        front = λ f. w ∙ ap (λ x. inFront (lineBytes n (record { op = o; rec = x })) old) r;
+      }
 
 -- a step is taken back by the inverse of what its line says
 pub back-is : (f t : List ℕ) (v : ℕ) (o b : Op) → t ≡ lineAt f (v / 2) → o ≡ opOf (getD (fieldsOf t) 1 []) → b ≡ inv o → b ≡ inv (opAt f v)

@@ -1,4 +1,3 @@
 pub mod LineLaws
 pub mod EntryLaws
 pub mod RunLaws
-pub mod RoomLaws

@@ -1,20 +1,20 @@
 -- The laws of a line that is written.
-use mathlib.Core.Path.{_≡_, refl, sym, ap, _∙_}
+use mathlib.Core.Path.{_≡_, sym, ap, _∙_}
 use mathlib.Core.List.{List, [], _∷_, _++_, append-assoc}
 use Prim.Native.Nat.{ℕ, _+_, _-_, _≤_}
 use native.Mathlib.Omega.{arith}
 use borrow.Author.Needs.{needs}
 use borrow.Rule.Slice.PartMut.{putMid}
-use lib.Dec.{eqb, eqb→eq}
 use lib.ListN.{length, take, drop, length-append}
 use Rattle.base.specs.Lists.{same, bytes}
 use Rattle.base.specs.ListLaws.{same-eq}
-use Rattle.theory.specs.Step.{Op, ins, upd, del}
+use Rattle.theory.specs.Step.{Op}
 use Rattle.theory.specs.Decimal.{width, widthF, dec, value, valueF}
 use Rattle.theory.specs.DecimalLaws.{length-dec}
 use Rattle.meaning.specs.Kinds.{Kind, kinds, ident}
 use Rattle.meaning.specs.Records.{letter, changeText}
 use Rattle.laws.specs.Kinds.{every}
+use Rattle.laws.specs.Room.{ident-long, letter-long}
 use Rattle.text.specs.Front.{inFront}
 use Rattle.text.proofs.FrontLaws.{front-then, front-room, front-last, last-room}
 use Rattle.layout.specs.declared.records.Layout.{Layout}
@@ -28,23 +28,13 @@ pub ident-dec : (k : Kind) → dec (value (ident k)) ≡ ident k
 unfolding kinds ident dec width widthF value valueF same bytes
 ident-dec k = same-eq (dec (value (ident k))) (ident k) (every (λ k. same (dec (value (ident k))) (ident k)) tt k)
 
-ident-two : (k : Kind) → length (ident k) ≡ 2
-unfolding kinds ident bytes
-ident-two k = eqb→eq (length (ident k)) 2 (every (λ k. eqb (length (ident k)) 2) tt k)
-
 ident-width : (k : Kind) → width (value (ident k)) ≡ 2
-ident-width k = sym (length-dec (value (ident k))) ∙ ap length (ident-dec k) ∙ ident-two k
-
-letter-three : (o : Op) → length (letter o) ≡ 3
-unfolding letter bytes
-letter-three ins = refl
-letter-three upd = refl
-letter-three del = refl
+ident-width k = sym (length-dec (value (ident k))) ∙ ap length (ident-dec k) ∙ ident-long k
 
 -- seven bytes stand before a line's number
 pub length-front : (k : Kind) (o : Op) → length (lineFront k o) ≡ 7
 unfolding lineFront
-length-front k o = length-append (ident k) (44 ∷ (letter o ++ (44 ∷ []))) ∙ omega (arith, ident-two k, letter-three o, length-append (letter o) (44 ∷ []))
+length-front k o = length-append (ident k) (44 ∷ (letter o ++ (44 ∷ []))) ∙ omega (arith, ident-long k, letter-long o, length-append (letter o) (44 ∷ []))
 
 -- the content and three bytes after it
 pub length-back : (c : List ℕ) → length (lineBack c) ≡ 3 + length c
@@ -85,12 +75,12 @@ pub ruleset identifier = (needs, ident-room, ident-count, ident-done)
 module _ (k : Kind) (o : Op) (x n : ℕ) (old new : List ℕ) (p : n ≡ 2) (q : new ≡ inFront (ident k) old) where
   -- CHANGE_TYPE has room
   pub letter-room : 7 ≤ length old → 5 ≤ length (take (length new - n) (drop n new))
-  letter-room h = front-room (ident k) old new n 5 (p ∙ sym (ident-two k)) q (omega arith)
+  letter-room h = front-room (ident k) old new n 5 (p ∙ sym (ident-long k)) q (omega arith)
 
   -- after it the line stands up to its number
   pub front-done : (last : List ℕ) → 34 ∷ (x ∷ (34 ∷ [])) ≡ letter o → last ≡ inFront (44 ∷ (34 ∷ (x ∷ (34 ∷ (44 ∷ []))))) (take (length new - n) (drop n new)) → putMid n (length new - n) new last ≡ inFront (lineFront k o) old
   unfolding lineFront
-  front-done last g w = front-then (ident k) (44 ∷ (34 ∷ (x ∷ (34 ∷ (44 ∷ []))))) old new last n (p ∙ sym (ident-two k)) q w ∙ rw (← g)
+  front-done last g w = front-then (ident k) (44 ∷ (34 ∷ (x ∷ (34 ∷ (44 ∷ []))))) old new last n (p ∙ sym (ident-long k)) q w ∙ rw (← g)
 
 pub ruleset front = (needs, letter-room, front-done)
 

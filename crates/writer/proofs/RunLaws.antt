@@ -1,26 +1,32 @@
 -- The laws of lines that are written one after another.
 use mathlib.Core.Path.{_≡_, refl, sym, ap, _∙_}
+use mathlib.Core.Bool.{true, false, false≢true}
 use mathlib.Core.List.{List, [], _∷_, _++_, append-assoc}
 use Prim.Native.Nat.{ℕ, zero, suc, _+_, _-_, _^_, _≤_, _<_}
 use native.Mathlib.Nat.{add-zero}
 use native.Mathlib.Omega.{arith}
 use borrow.Author.Needs.{needs}
+use borrow.Author.Tests.{le-leb, lt-leb, leb-true, leb-false}
 use borrow.Rule.Slice.PartMut.{putMid}
 use mir.Syntax.{w64}
 use mir.Val.{Fits}
+use lib.Dec.{leb}
 use lib.ListN.{length, getD, take, drop, length-append, length-drop, take-append-drop}
 use lib.Seq.{length-take-le, take-add, take-all}
 use Rattle.theory.specs.Step.{Op, ins, inv, Change}
 use Rattle.theory.specs.Run.{asInserts}
 use Rattle.meaning.specs.Records.{Rec, changeText, changeTexts, joined}
+use Rattle.laws.specs.Room.{inserts-length}
 use Rattle.text.specs.Front.{inFront}
-use Rattle.text.proofs.FrontLaws.{front-none, front-same, front-then, front-room}
+use Rattle.text.proofs.FrontLaws.{front-none, front-same, front-then}
 use Rattle.entries.specs.Entries.{recordOf}
 use Rattle.places.specs.Places.{says}
 use Rattle.places.specs.Changes.{opAt, stepsBack}
 use Rattle.places.proofs.SaysLaws.{length-says, says-at}
 use Rattle.places.proofs.BackLaws.{length-back}
+use Rattle.writer.specs.declared.room.Fitted.{Fitted}
 use Rattle.writer.specs.Lines.{lineBytes}
+use Rattle.writer.specs.Room.{PutIfFits}
 
 -- ---- changes, the first i of them written
 
@@ -66,29 +72,26 @@ pub record Writing (cs : List (Change Rec)) (old out : List ℕ) (pos i : ℕ) :
   pub same : length out ≡ length old
   pub within : pos ≤ length old
 
+-- as much of the output is free as is left of it
+pub writing-free : (cs : List (Change Rec)) (old out : List ℕ) (pos i : ℕ) → Writing cs old out pos i → length (take (length out - pos) (drop pos out)) ≡ length old - pos
+writing-free cs old out pos i g = length-take-le (length out - pos) (drop pos out) (omega (arith, length-drop pos out)) ∙ omega (arith, g .same)
+
 -- at first none does
 pub writing-start : (cs : List (Change Rec)) (old : List ℕ) → Writing cs old old 0 0
 unfolding joined changeTexts
 writing-start cs old = record { place = refl; front = front-none old; same = refl; within = omega arith }
 
-module _ (cs : List (Change Rec)) (old out : List ℕ) (pos i : ℕ) (c : Change Rec) (g : Writing cs old out pos i) (h : length (texts cs) ≤ length old) (e : drop i cs ≡ c ∷ drop (suc i) cs) where
+module _ (cs : List (Change Rec)) (old out : List ℕ) (pos i : ℕ) (c : Change Rec) (g : Writing cs old out pos i) (e : drop i cs ≡ c ∷ drop (suc i) cs) where
   more : texts (take (i + 1) cs) ≡ texts (take i cs) ++ lineBytes (i + 1) c
   more = texts-more cs i c e
 
-  long : pos + length (lineBytes (i + 1) c) ≤ length old
-  long = omega (arith, texts-most cs i c e, g .place)
+  -- with it the lines are not more than all
+  pub writing-most : pos + length (lineBytes (i + 1) c) ≤ length (texts cs)
+  writing-most = omega (arith, texts-most cs i c e, g .place)
 
-  -- the next line has room
-  pub writing-room : length (lineBytes (i + 1) c) ≤ length (take (length out - pos) (drop pos out))
-  writing-room = front-room (texts (take i cs)) old out pos (length (lineBytes (i + 1) c)) (g .place) (g .front) long
-
-  module _ (r : ℕ) (q : r ≡ length (lineBytes (i + 1) c)) where
+  module _ (long : pos + length (lineBytes (i + 1) c) ≤ length old) (r : ℕ) (q : r ≡ length (lineBytes (i + 1) c)) where
     writing-in : pos + r ≤ length old
     writing-in = omega (arith, long)
-
-    -- it ends within the output
-    pub writing-fits : length old < 2 ^ 64 → Fits w64 (pos + r)
-    writing-fits b = record { fits = omega (arith, writing-in) }
 
     -- and stands after those before it
     pub writing-turn : (last : List ℕ) → last ≡ inFront (lineBytes (i + 1) c) (take (length out - pos) (drop pos out)) → Writing cs old (putMid pos (length out - pos) out last) (pos + r) (i + 1)
@@ -102,6 +105,32 @@ module _ (cs : List (Change Rec)) (old out : List ℕ) (pos i : ℕ) (c : Change
           within = writing-in;
         }
 
+-- the next line is written where it fits what is left of a room
+module _ (cs : List (Change Rec)) (old out : List ℕ) (pos i : ℕ) (c : Change Rec) (g : Writing cs old out pos i) (e : drop i cs ≡ c ∷ drop (suc i) cs) (room : ℕ) (p : pos ≤ room) (x : Fitted) (last : List ℕ)
+    (w : PutIfFits (lineBytes (i + 1) c) (room - pos) (take (length out - pos) (drop pos out)) x last) where
+  -- where it doesn't, all of them don't fit the room
+  pub line-long : x .fits ≡ false → (new : List ℕ) → PutIfFits (texts cs) room old x new
+  line-long f new = record {
+    fits =
+        f
+        ∙ sym (lt-leb (length (texts cs)) room (omega (arith, p, writing-most cs old out pos i c g e, leb-false (length (lineBytes (i + 1) c)) (room - pos) (sym (w .fits) ∙ f))));
+    size = λ t. absurd (false≢true (sym f ∙ t));
+    front = λ t. absurd (false≢true (sym f ∙ t));
+  }
+
+  module _ (t : x .fits ≡ true) where
+    -- where it does, it ends within the room
+    pub line-in : pos + x .size ≤ room
+    line-in = omega (arith, p, w .size t, leb-true (length (lineBytes (i + 1) c)) (room - pos) (sym (w .fits) ∙ t))
+
+    -- as far as can be counted
+    pub line-fits : room ≤ length old → length old < 2 ^ 64 → Fits w64 (pos + x .size)
+    line-fits r b = record { fits = omega (arith, line-in) }
+
+    -- and stands after those before it
+    pub line-turn : room ≤ length old → Writing cs old (putMid pos (length out - pos) out last) (pos + x .size) (i + 1)
+    line-turn r = writing-turn cs old out pos i c g e (omega (arith, line-in, w .size t)) (x .size) (w .size t) last (w .front t)
+
 module _ (cs : List (Change Rec)) (old out : List ℕ) (pos i : ℕ) (g : Writing cs old out pos i) (h : length cs ≤ i) where
   -- at the end all are counted
   pub writing-count : pos ≡ length (texts cs)
@@ -111,6 +140,10 @@ module _ (cs : List (Change Rec)) (old out : List ℕ) (pos i : ℕ) (g : Writin
   pub writing-done : out ≡ inFront (texts cs) old
   writing-done = rw (take-all i cs h) at (g .front)
 
+  -- within the room
+  pub all-put : (room : ℕ) → pos ≤ room → PutIfFits (texts cs) room old (record { fits = true; size = pos }) out
+  all-put room p = record { fits = sym (le-leb (length (texts cs)) room (omega (arith, p, writing-count))); size = λ t. writing-count; front = λ t. writing-done }
+
 -- ---- a holding
 
 drop-inserts : (i : ℕ) (st : List Rec) → drop i (asInserts st) ≡ asInserts (drop i st)
@@ -118,20 +151,23 @@ drop-inserts zero st = refl
 drop-inserts (suc i) [] = refl
 drop-inserts (suc i) (r ∷ st) = drop-inserts i st
 
-length-inserts : (st : List Rec) → length (asInserts st) ≡ length st
-length-inserts [] = refl
-length-inserts (r ∷ st) = ap suc (length-inserts st)
-
 module _ (h f a : List ℕ) (n i : ℕ) (l : n ≤ length a) where
   -- the next line is the record of entry i
   pub insert-next : i < n → drop i (asInserts (says h f a n)) ≡ record { op = ins; rec = recordOf h f (getD a i 0) } ∷ drop (suc i) (asInserts (says h f a n))
   insert-next g = drop-inserts i (says h f a n) ∙ rw (says-at h f a n l i g, drop-inserts (suc i) (says h f a n))
 
+  -- where all have room, the next line has, so it is written
+  pub insert-fits : (old out : List ℕ) (pos : ℕ) (g : Writing (asInserts (says h f a n)) old out pos i) → i < n → length (texts (asInserts (says h f a n))) ≤ length old
+      → leb (length (lineBytes (i + 1) (record { op = ins; rec = recordOf h f (getD a i 0) }))) (length out - pos) ≡ true
+  insert-fits old out pos g b m =
+      le-leb (length (lineBytes (i + 1) (record { op = ins; rec = recordOf h f (getD a i 0) }))) (length out - pos)
+      (omega (arith, writing-most (asInserts (says h f a n)) old out pos i _ g (insert-next b), g .same))
+
   -- there are as many as entries
   pub inserts-end : n ≤ i → length (asInserts (says h f a n)) ≤ i
-  inserts-end g = omega (arith, length-inserts (says h f a n), length-says h f a n l)
+  inserts-end g = omega (arith, inserts-length (says h f a n), length-says h f a n l)
 
-pub ruleset holding = (needs, writing-start, writing-room, writing-fits, writing-turn, writing-count, writing-done, insert-next, inserts-end)
+pub ruleset holding = (needs, writing-start, writing-count, writing-done, inserts-end)
 
 -- ---- steps back
 
@@ -156,4 +192,4 @@ module _ (h f steps before : List ℕ) where
   pub back-end : (n i : ℕ) → n ≤ i → length (stepsBack h f steps before n) ≤ i
   back-end n i g = omega (arith, length-back h f steps before n)
 
-pub ruleset backwards = (needs, writing-start, writing-room, writing-fits, writing-turn, writing-count, writing-done, back-next, back-end)
+pub ruleset backwards = (needs, writing-start, back-end)

@@ -3,16 +3,18 @@ ghost use mathlib.Core.Path.{_≡_};
 ghost use Prim.Native.Nat.{_≤_};
 ghost use lib.ListN.{length};
 ghost use Rattle.theory.specs.Step.{inv};
-ghost use Rattle.text.specs.Front.{inFront};
 ghost use Rattle.volume.specs.Meant.{changeMeant};
 ghost use Rattle.entries.specs.Entries.{recOf, lineAt, recordOf};
 ghost use Rattle.places.specs.Changes.{opAt};
 ghost use Rattle.writer.specs.Lines.{lineBytes};
+ghost use Rattle.writer.specs.Room.{PutIfFits};
 use crate::changes::inverse;
 use crate::lines::put_line;
+use crate::room::Fitted;
 use entries::record::record_content;
 use entries::record::record_kind;
 use text::lines::line_end;
+use text::numbers::width;
 use volume::lines::Change;
 use volume::lines::change_of;
 
@@ -27,17 +29,32 @@ fn line_text(bytes: &[u8], at: usize) -> &[u8]
     &bytes[at..end]
 }
 
-// The record of the line that starts at `at`.
-fn put_record(out: &mut [u8], bytes: &[u8], at: usize, change: Change, number: u64) -> usize
-    requires { ⌜ length (lineBytes number (record { op = changeMeant change; rec = recOf (lineAt (now bytes) at) })) ≤ length (now out) ⌝ }
-    ensures { λ r. ⌜ (r ≡ length (lineBytes number (record { op = changeMeant change; rec = recOf (lineAt (now (bytes .entry)) at) })))
-        × (now (out .exit) ≡ inFront (lineBytes number (record { op = changeMeant change; rec = recOf (lineAt (now (bytes .entry)) at) })) (now (out .entry))) ⌝ }
+// The line of the record whose line starts at `at`, where it fits `room` bytes.
+fn put_record(
+    out: &mut [u8],
+    bytes: &[u8],
+    at: usize,
+    change: Change,
+    number: u64,
+    room: usize,
+) -> Fitted
+    requires { ⌜ room ≤ length (now out) ⌝ }
+    ensures { λ r. ⌜ PutIfFits (lineBytes number (record { op = changeMeant change; rec = recOf (lineAt (now (bytes .entry)) at) })) room (now (out .entry)) r (now (out .exit)) ⌝ }
 {
+    let content = record_content(bytes, at);
+    let digits = width(number);
+    if room < 10 + digits + content.len() {
+        return Fitted {
+            fits: false,
+            size: 0,
+        };
+    }
     let kind = record_kind(bytes, at);
-    put_line(&mut *out, kind, change, number, record_content(bytes, at))
+    let size = put_line(&mut *out, kind, change, number, content);
+    Fitted { fits: true, size }
 }
 
-// The record of an entry.
+// The line of an entry's record, where it fits `room` bytes.
 pub fn put_entry(
     out: &mut [u8],
     holding: &[u8],
@@ -45,16 +62,16 @@ pub fn put_entry(
     entry: u64,
     change: Change,
     number: u64,
-) -> usize
-    requires { ⌜ length (lineBytes number (record { op = changeMeant change; rec = recordOf (now holding) (now file) entry })) ≤ length (now out) ⌝ }
-    ensures { λ r. ⌜ (r ≡ length (lineBytes number (record { op = changeMeant change; rec = recordOf (now (holding .entry)) (now (file .entry)) entry })))
-        × (now (out .exit) ≡ inFront (lineBytes number (record { op = changeMeant change; rec = recordOf (now (holding .entry)) (now (file .entry)) entry })) (now (out .entry))) ⌝ }
+    room: usize,
+) -> Fitted
+    requires { ⌜ room ≤ length (now out) ⌝ }
+    ensures { λ r. ⌜ PutIfFits (lineBytes number (record { op = changeMeant change; rec = recordOf (now (holding .entry)) (now (file .entry)) entry })) room (now (out .entry)) r (now (out .exit)) ⌝ }
 {
     let at = (entry / 2) as usize;
     if entry % 2 == 0 {
-        return put_record(&mut *out, holding, at, change, number);
+        return put_record(&mut *out, holding, at, change, number, room);
     }
-    put_record(&mut *out, file, at, change, number)
+    put_record(&mut *out, file, at, change, number, room)
 }
 
 // The change that takes a step of the file back.

@@ -9,12 +9,13 @@ hand-in-spec =
     (tie.spec
     (λ c κs. search claiming)  -- bare-length-requires
     (λ c κs. search claiming)  -- bare-length-requires-2
-    (λ c. search claiming)  -- sub-apply
-    (λ c. search claiming)  -- part-apply-start
-    (λ c. search claiming)  -- part-apply-end
-    (λ c. search claiming)  -- sub-apply-2
-    (λ c. search claiming)  -- part-apply-start-2
-    (λ c. search claiming)  -- part-apply-end-2
-    (λ c κs. search claiming)  -- apply-requires
+    (λ c. search claiming)  -- sub-load
+    (λ c. search claiming)  -- part-load-start
+    (λ c. search claiming)  -- part-load-end
+    (λ c. search claiming)  -- sub-load-2
+    (λ c. search claiming)  -- part-load-start-2
+    (λ c. search claiming)  -- part-load-end-2
+    (λ c κs. search claiming)  -- load-requires
     (λ c. search claiming)  -- same-length
+    (λ c. search claiming)  -- same-length-2
     (λ c. search claiming))  -- returns

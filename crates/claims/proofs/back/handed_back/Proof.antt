@@ -7,8 +7,7 @@ pub handed-back-spec : {M : Type 1} → statement M
 handed-back-spec =
     tie.close
     (tie.spec
-    (λ c κs. search claiming)  -- apply-requires
-    (λ c κs. search claiming)  -- undo-requires
+    (λ c κs. search claiming)  -- load-requires
     (λ c κs. search claiming)  -- hand-in-requires
     (λ c. search claiming)  -- same-length
     (λ c. search claiming)  -- same-length-2
