@@ -5,7 +5,6 @@ use mathlib.Core.List.{List, _++_, append-nil}
 use Prim.Native.Nat.{ℕ, _-_, _≤_}
 use native.Mathlib.Omega.{arith}
 use borrow.Author.Needs.{needs}
-use borrow.Author.Tests.{leb-true}
 use borrow.Rule.Slice.PartMut.{putMid}
 use lib.Dec.{leb}
 use lib.ListN.{length, take, drop, length-append, length-take, length-drop, drop-of-length-le}
@@ -16,6 +15,7 @@ use Rattle.text.specs.Front.{inFront}
 use Rattle.text.proofs.FrontLaws.{front-then}
 use Rattle.writer.specs.declared.room.Fitted.{Fitted}
 use Rattle.writer.specs.Room.{PutIfFits}
+use Rattle.writer.proofs.FitLaws.{fits-in}
 
 -- what is as long as the whole leaves nothing of it
 all-front : (w old : List ℕ) → length old ≤ length w → inFront w old ≡ w
@@ -44,7 +44,7 @@ module _ (text old new : List ℕ) (x : Fitted) (w : PutIfFits text (length old)
 
   module _ (t : x .fits ≡ true) where
     roomy : length text ≤ length old
-    roomy = leb-true (length text) (length old) (sym (w .fits) ∙ t)
+    roomy = fits-in text (length old) old new x w t
 
     -- it ends within the buffer
     pub fill-in : length new ≡ length old → x .size ≤ length new

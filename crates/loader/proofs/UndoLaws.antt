@@ -1,10 +1,9 @@
 -- The laws of the undo: its parts one after another, where they fit.
-use mathlib.Core.Path.{_≡_, sym, ap, _∙_}
-use mathlib.Core.Bool.{true, false, false≢true}
+use mathlib.Core.Path.{_≡_, refl, sym, ap, _∙_}
+use mathlib.Core.Bool.{true, false}
 use mathlib.Core.List.{List, [], _++_}
 use Prim.Native.Nat.{ℕ, _+_, _-_, _^_, _≤_, _<_}
 use native.Mathlib.Omega.{arith}
-use borrow.Author.Tests.{le-leb, lt-leb, leb-true, leb-false}
 use borrow.Rule.Slice.PartMut.{putMid}
 use mir.Syntax.{w64}
 use mir.Val.{Fits}
@@ -16,6 +15,7 @@ use Rattle.text.proofs.FrontLaws.{front-same, front-then, front-last, last-room
 use Rattle.writer.specs.declared.room.Fitted.{Fitted}
 use Rattle.writer.specs.Room.{PutIfFits}
 use Rattle.writer.specs.Runs.{backTexts}
+use Rattle.writer.proofs.FitLaws.{put-not, put-whole, fits-in, fits-not}
 use Rattle.trial.specs.Trial.{undoText}
 use Rattle.loader.specs.Lent.{Lent}
 
@@ -57,18 +57,14 @@ module _ (h f steps before : List ℕ) (n e x : ℕ) (q : x ≡ lineEnd f 0) (w 
 
   -- they alone are longer than the buffer
   pub frame-long : (old new : List ℕ) → length old < frame → PutIfFits text (length old) old (record { fits = false; size = 0 }) new
-  frame-long old new l = record { fits = sym (lt-leb (length text) (length old) (omega (arith, whole))); size = λ t. absurd (false≢true t); front = λ t. absurd (false≢true t) }
+  frame-long old new l = put-not text (length old) old new _ refl (omega (arith, whole))
 
   module _ (old : List ℕ) (l : frame ≤ length old) where
     module _ (new : List ℕ) (k : ℕ) (p : k ≡ length first) (u : new ≡ inFront first old) where
       module _ (b : Fitted) (last : List ℕ) (v : PutIfFits body (length old - frame) (take (length new - k) (drop k new)) b last) where
         -- the steps taken back don't fit it
         pub put-long : b .fits ≡ false → (z : List ℕ) → PutIfFits text (length old) old b z
-        put-long g z = record {
-          fits = g ∙ sym (lt-leb (length text) (length old) (omega (arith, whole, leb-false (length body) (length old - frame) (sym (v .fits) ∙ g))));
-          size = λ t. absurd (false≢true (sym g ∙ t));
-          front = λ t. absurd (false≢true (sym g ∙ t));
-        }
+        put-long g z = put-not text (length old) old z b g (omega (arith, whole, l, fits-not _ _ _ last b v g))
 
         module _ (t : b .fits ≡ true) where
           -- the buffer with both
@@ -76,7 +72,7 @@ module _ (h f steps before : List ℕ) (n e x : ℕ) (q : x ≡ lineEnd f 0) (w 
           mid = putMid k (length new - k) new last
 
           roomy : length text ≤ length old
-          roomy = omega (arith, whole, l, leb-true (length body) (length old - frame) (sym (v .fits) ∙ t))
+          roomy = omega (arith, whole, l, fits-in _ _ _ last b v t)
 
           two : k + b .size ≡ length (first ++ body)
           two = omega (arith, length-append first body, v .size t)
@@ -109,8 +105,6 @@ module _ (h f steps before : List ℕ) (n e x : ℕ) (q : x ≡ lineEnd f 0) (w 
             -- and are the undo
             pub put-done : (end : List ℕ) → end ≡ inFront rest (take (length mid - (k + b .size)) (drop (k + b .size) mid))
                 → PutIfFits text (length old) old (record { fits = true; size = k + b .size + j }) (putMid (k + b .size) (length mid - (k + b .size)) mid end)
-            put-done end z = record {
-              fits = sym (le-leb (length text) (length old) roomy);
-              size = λ y. omega (arith, whole, first-long, rest-long, v .size t);
-              front = λ y. front-last first body rest old new last end k (b .size) p u (v .size t) (v .front t) z ∙ ap (λ x. inFront x old) parts;
-            }
+            put-done end z =
+                put-whole text (length old) old _ (k + b .size + j) roomy (omega (arith, whole, first-long, rest-long, v .size t))
+                (front-last first body rest old new last end k (b .size) p u (v .size t) (v .front t) z ∙ ap (λ x. inFront x old) parts)

@@ -1,11 +1,10 @@
 -- The laws of the line of an entry's record.
-use mathlib.Core.Path.{_≡_, sym, ap, _∙_}
-use mathlib.Core.Bool.{true, false, false≢true}
+use mathlib.Core.Path.{_≡_, refl, sym, ap, _∙_}
+use mathlib.Core.Bool.{true, false}
 use mathlib.Core.List.{List, []}
 use Prim.Native.Nat.{ℕ, _+_, _/_, _%_, _≤_, _<_}
 use native.Mathlib.Omega.{arith}
 use borrow.Author.Needs.{needs}
-use borrow.Author.Tests.{le-leb, lt-leb}
 use lib.ListN.{length, getD}
 use Rattle.theory.specs.Step.{Op, inv}
 use Rattle.theory.specs.Decimal.{width}
@@ -19,6 +18,7 @@ use Rattle.places.specs.Changes.{opAt}
 use Rattle.writer.specs.declared.room.Fitted.{Fitted}
 use Rattle.writer.specs.Lines.{lineBytes}
 use Rattle.writer.specs.Room.{PutIfFits}
+use Rattle.writer.proofs.FitLaws.{put-not, put-whole}
 use Rattle.writer.proofs.LineLaws.{length-line}
 
 -- the text of the line at an offset
@@ -49,11 +49,7 @@ module _ (t c : List ℕ) (n room : ℕ) (o : Op) (e : c ≡ recOf t .content) w
 
   -- it doesn't fit
   pub record-long : (old new : List ℕ) → room < 10 + width n + length c → PutIfFits (lineBytes n (record { op = o; rec = recOf t })) room old (record { fits = false; size = 0 }) new
-  record-long old new h = record {
-    fits = sym (lt-leb (length (lineBytes n (record { op = o; rec = recOf t }))) room (omega (arith, line-long)));
-    size = λ f. absurd (false≢true f);
-    front = λ f. absurd (false≢true f);
-  }
+  record-long old new h = put-not (lineBytes n (record { op = o; rec = recOf t })) room old new _ refl (omega (arith, line-long))
 
   -- it does, and is written
   pub record-put : (k : Kind) (old new : List ℕ) (m : ℕ) → 10 + width n + length c ≤ room → k ≡ recOf t .kind
@@ -61,11 +57,8 @@ module _ (t c : List ℕ) (n room : ℕ) (o : Op) (e : c ≡ recOf t .content) w
       → PutIfFits (lineBytes n (record { op = o; rec = recOf t })) room old (record { fits = true; size = m }) new
   record-put k old new m h q l w =
       let r : _≡_ {A = Rec} (record { kind = k; content = c }) (recOf t) = rw (q, e) in
-      record {
-        fits = sym (le-leb (length (lineBytes n (record { op = o; rec = recOf t }))) room (omega (arith, line-long)));
-        size = λ f. l ∙ ap (λ x. length (lineBytes n (record { op = o; rec = x }))) r;
-        front = λ f. w ∙ ap (λ x. inFront (lineBytes n (record { op = o; rec = x })) old) r;
-      }
+      put-whole (lineBytes n (record { op = o; rec = recOf t })) room old new m (omega (arith, line-long))
+      (l ∙ ap (λ x. length (lineBytes n (record { op = o; rec = x }))) r) (w ∙ ap (λ x. inFront (lineBytes n (record { op = o; rec = x })) old) r)
 
 -- a step is taken back by the inverse of what its line says
 pub back-is : (f t : List ℕ) (v : ℕ) (o b : Op) → t ≡ lineAt f (v / 2) → o ≡ opOf (getD (fieldsOf t) 1 []) → b ≡ inv o → b ≡ inv (opAt f v)

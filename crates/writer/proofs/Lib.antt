@@ -1,3 +1,4 @@
+pub mod FitLaws
 pub mod LineLaws
 pub mod EntryLaws
 pub mod RunLaws

@@ -1,12 +1,12 @@
 -- The laws of lines that are written one after another.
 use mathlib.Core.Path.{_≡_, refl, sym, ap, _∙_}
-use mathlib.Core.Bool.{true, false, false≢true}
+use mathlib.Core.Bool.{true, false}
 use mathlib.Core.List.{List, [], _∷_, _++_, append-assoc}
 use Prim.Native.Nat.{ℕ, zero, suc, _+_, _-_, _^_, _≤_, _<_}
 use native.Mathlib.Nat.{add-zero}
 use native.Mathlib.Omega.{arith}
 use borrow.Author.Needs.{needs}
-use borrow.Author.Tests.{le-leb, lt-leb, leb-true, leb-false}
+use borrow.Author.Tests.{le-leb}
 use borrow.Rule.Slice.PartMut.{putMid}
 use mir.Syntax.{w64}
 use mir.Val.{Fits}
@@ -27,6 +27,7 @@ use Rattle.places.proofs.BackLaws.{length-back}
 use Rattle.writer.specs.declared.room.Fitted.{Fitted}
 use Rattle.writer.specs.Lines.{lineBytes}
 use Rattle.writer.specs.Room.{PutIfFits}
+use Rattle.writer.proofs.FitLaws.{put-not, put-whole, fits-in, fits-not}
 
 -- ---- changes, the first i of them written
 
@@ -110,18 +111,12 @@ module _ (cs : List (Change Rec)) (old out : List ℕ) (pos i : ℕ) (c : Change
     (w : PutIfFits (lineBytes (i + 1) c) (room - pos) (take (length out - pos) (drop pos out)) x last) where
   -- where it doesn't, all of them don't fit the room
   pub line-long : x .fits ≡ false → (new : List ℕ) → PutIfFits (texts cs) room old x new
-  line-long f new = record {
-    fits =
-        f
-        ∙ sym (lt-leb (length (texts cs)) room (omega (arith, p, writing-most cs old out pos i c g e, leb-false (length (lineBytes (i + 1) c)) (room - pos) (sym (w .fits) ∙ f))));
-    size = λ t. absurd (false≢true (sym f ∙ t));
-    front = λ t. absurd (false≢true (sym f ∙ t));
-  }
+  line-long f new = put-not (texts cs) room old new x f (omega (arith, p, writing-most cs old out pos i c g e, fits-not _ _ _ last x w f))
 
   module _ (t : x .fits ≡ true) where
     -- where it does, it ends within the room
     pub line-in : pos + x .size ≤ room
-    line-in = omega (arith, p, w .size t, leb-true (length (lineBytes (i + 1) c)) (room - pos) (sym (w .fits) ∙ t))
+    line-in = omega (arith, p, w .size t, fits-in _ _ _ last x w t)
 
     -- as far as can be counted
     pub line-fits : room ≤ length old → length old < 2 ^ 64 → Fits w64 (pos + x .size)
@@ -142,7 +137,7 @@ module _ (cs : List (Change Rec)) (old out : List ℕ) (pos i : ℕ) (g : Writin
 
   -- within the room
   pub all-put : (room : ℕ) → pos ≤ room → PutIfFits (texts cs) room old (record { fits = true; size = pos }) out
-  all-put room p = record { fits = sym (le-leb (length (texts cs)) room (omega (arith, p, writing-count))); size = λ t. writing-count; front = λ t. writing-done }
+  all-put room p = put-whole (texts cs) room old out pos (omega (arith, p, writing-count)) writing-count writing-done
 
 -- ---- a holding
 
