@@ -1,3 +1,5 @@
+#![tactic(auto)]
+
 // What is refused and where, and the numbers that the operations answer.
 //
 // A number more in a refusal or in an answer is one more field here and in the meaning's Answers; whoever refuses makes a fault or a

@@ -1,3 +1,5 @@
+#![tactic(auto)]
+
 // Asks what standard input says, one enquiry to a line, its words divided by commas, and prints each before its answer: the three numbers
 // and, in brackets, the part that is handed back. The files that it names stand in data/.
 //   find,KIND,NUMBER,HOLDING             the held line of a street or BLPU

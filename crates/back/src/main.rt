@@ -1,3 +1,5 @@
+#![tactic(auto)]
+
 // Six nights forward and back, the last with no body. Each file is loaded into the holding that the one before it left, and the undo that
 // the load leaves is compared with the file: only without a body it is the file itself. The undos are then handed in, last first, and each
 // holding on the way back is compared byte for byte with the one that stood there going forward. Each of these loads leaves an undo too:

@@ -1,3 +1,5 @@
+#![tactic(auto)]
+
 // The promises: a small caller for each public operation and for each function for C, with no `requires`, whose `ensures` is what is claimed
 // of the answer and of the bytes. So a contract below that says less breaks a proof here.
 //

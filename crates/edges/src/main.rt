@@ -1,3 +1,5 @@
+#![tactic(auto)]
+
 // Both sides of each edge of a file and of a holding. Standard input has titled blocks of raw bytes, a line of equals signs between
 // them; a title that begins with `holding` has a holding below it, any other a file. What is too long to store is built here.
 ghost use Rattle.std.specs.Prelude.{◌≤◌, length};

@@ -1,3 +1,5 @@
+#![tactic(auto)]
+
 // What the enquiries share: each answers three numbers and hands back a part of what it was lent, empty on a refusal.
 //
 // Each is a function that finds, and answers where the part stands in numbers (for C, which takes no part), and a thin one that hands the

@@ -1,3 +1,5 @@
+#![tactic(auto)]
+
 // What an entry says: the kind, key, references and length of the record whose line it names, read where the line stands.
 //
 // An entry is twice the offset of its line's start, even for the holding and odd for the file. A line is walked from its start, no

@@ -1,3 +1,5 @@
+#![tactic(auto)]
+
 // Giving one field of a line splits any bytes, judges no field or line ending, and hands back the field with its quotes.
 ghost use Rattle.std.specs.Prelude.{◌≡◌};
 ghost use Rattle.meaning.specs.Enquiries.{field_of};

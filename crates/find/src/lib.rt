@@ -1,3 +1,5 @@
+#![tactic(auto)]
+
 // Find hands back the held line of a street or BLPU, without CR LF, as a part of the holding.
 ghost use Rattle.std.specs.Prelude.{◌≡◌, [], ◌∷◌, ◌≤◌};
 ghost use Rattle.base.specs.Lists.{some?};

@@ -1,3 +1,5 @@
+#![tactic(auto)]
+
 // A whole holding is judged: code 14 of paper 01, at its lowest faulty line.
 //
 // `held` judges one line by itself. `scan` walks the lines once, for form, order, PRO_ORDER and number, and keeps where each starts and

@@ -1,3 +1,5 @@
+#![tactic(auto)]
+
 // The record in force if a file were taken: a part of the file or of the holding. Steps are not judged.
 ghost use Rattle.std.specs.Prelude.{◌≡◌, [], ◌∷◌};
 ghost use Rattle.meaning.specs.Table.{scottish};

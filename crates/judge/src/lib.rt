@@ -1,3 +1,5 @@
+#![tactic(auto)]
+
 // How a step is judged, before it is made: the code with which it is refused, by what it touches alone: 10 or 11, then 16, 12 and 13.
 ghost use Rattle.std.specs.Prelude.{◌≡◌, T};
 ghost use Rattle.theory.specs.Step.{ins, upd, del};

@@ -1,3 +1,5 @@
+#![tactic(auto)]
+
 // A record's key as four numbers by value, so that keys are compared without reading text twice.
 //
 // A key is its kind's number and the numbers of at most three fields, 0 where there is none; a text's number is that of its digits.

@@ -1,3 +1,5 @@
+#![tactic(auto)]
+
 // The field layout of every kind is one table, and the check of a line walks it.
 //
 // `records` is the table: for each kind its number, its fields' forms and statuses, its dates, its key and what it refers to, as

@@ -1,3 +1,5 @@
+#![tactic(auto)]
+
 // Takes change.csv into holding.csv, both in the folder that it is run in, and prints the answer and, on 0, the new holding.
 use libc::STDOUT_FILENO;
 use night::night;

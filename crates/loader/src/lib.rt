@@ -1,3 +1,5 @@
+#![tactic(auto)]
+
 // A load: a file is taken whole or it isn't taken, and a file that was taken can be handed back.
 //
 // The file is tried over the holding, and that writes nothing. Then the undo and the new holding are written, each once, front to back; or

@@ -1,3 +1,5 @@
+#![tactic(auto)]
+
 // The operations for C, declared in include/muiwash.h: what the library answers goes into a lent array, number by number.
 //
 // A lent slice is a pointer and a length in C; an array of known length is a pointer alone, so C can't lend too short a one by its length.

@@ -1,3 +1,5 @@
+#![tactic(auto)]
+
 // One night: a holding and a change file are read, and what the program prints is left in a buffer.
 //
 // Both are read by C, and no contract can say which bytes that reads: those here say only that a count fits its buffer. From there on

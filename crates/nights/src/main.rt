@@ -1,3 +1,5 @@
+#![tactic(auto)]
+
 // Example nights. Standard input names folders, each with the two files of a night and, in `printed`, what the program prints for them;
 // each is run and compared byte for byte. Cases that no file of 65,536 bytes can hold, or no buffer of as many, are built here.
 ghost use Rattle.std.specs.Prelude.{◌≡◌, ◌≤◌, length};

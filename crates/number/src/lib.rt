@@ -1,3 +1,5 @@
+#![tactic(auto)]
+
 // The forms that are made of digits, as paper 01's 'Lines and fields' has them: numbers here, dates and times in `calendar`.
 //
 // N w: 1 to w digits, leading zeros allowed and counted. N w.d: an optional minus, 1 to w digits, a point, d digits.

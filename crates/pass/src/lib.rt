@@ -1,3 +1,5 @@
+#![tactic(auto)]
+
 // A sound line is passed in one walk over its bytes.
 //
 // A leaf of `leaves` reads from an offset on and answers where a field of its form ends, or 0; what it sees is sound. `field` goes by the

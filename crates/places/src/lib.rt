@@ -1,3 +1,5 @@
+#![tactic(auto)]
+
 // The records in force as an array of places, in key order: bytes stay where they are, and a step moves entries alone.
 //
 // The array is lent, and its first `count` entries say the records. `search` finds where a key stands among them, `moves` makes room and

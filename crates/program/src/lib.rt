@@ -1,3 +1,5 @@
+#![tactic(auto)]
+
 // What the program that loads a file prints: 18, or what load answers and, on 0, the new holding.
 //
 // No contract can say which bytes a call of C reads or writes, so the work is done on slices: `print` leaves in a buffer exactly what

@@ -1,3 +1,5 @@
+#![tactic(auto)]
+
 // A reader that holds the lent file and its place hands out one line after another.
 //
 // Functions over a struct that holds a reference are walked by hand in proofs/: they are few and thin, take the reader apart and call

@@ -1,3 +1,5 @@
+#![tactic(auto)]
+
 // One step of a file over the records in force, and the run over all of them.
 //
 // The records in force are an array of places with their number and the bytes that they make as a holding, and beside it the tags of their

@@ -1,3 +1,5 @@
+#![tactic(auto)]
+
 // Bytes to lines, fields and numbers, and back: the first points of paper 01's 'Lines and fields'.
 //
 // A walk takes an offset and gives the next one; a judgement takes the part it judges. Each function is equal to one definition:

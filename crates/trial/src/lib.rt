@@ -1,3 +1,5 @@
+#![tactic(auto)]
+
 // A trial: a file is tried over a holding, with every test but that of the undo and every step, and nothing is written.
 //
 // 14, then the whole file check, then 13 for the start, then the steps. The holding and the file are only read. The state is an array of

@@ -1,3 +1,5 @@
+#![tactic(auto)]
+
 // Runs vectors from standard input, one to a line, and prints each behind its answer. `@11 04 0500` asks whether 0500 is sound as field 4
 // of kind 11, and if not at which place it is malformed; any other line that is not empty and no comment (`#`) is taken for a record and
 // answered by code, field and place.

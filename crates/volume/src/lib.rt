@@ -1,3 +1,5 @@
+#![tactic(auto)]
+
 // A whole file is judged: codes 1 to 9 of paper 01, in its order within a line, lines from the first.
 //
 // `stages` is the automaton of header, body, metadata and trailer. `lines` judges one line before its fields (1, 2, 3, 9, 4) and after

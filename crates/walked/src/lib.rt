@@ -1,3 +1,5 @@
+#![tactic(auto)]
+
 // The walk and the exact check of one line, beside each other, for a test that asks both of the same lines (tests/walk).
 ghost use Rattle.std.specs.Prelude.{◌<◌};
 ghost use Rattle.walked.specs.Passed.{SoundUpTo};

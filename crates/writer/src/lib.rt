@@ -1,3 +1,5 @@
+#![tactic(auto)]
+
 // What the loader writes: the lines of a new holding, and of an undo's body, once, front to back.
 //
 // Each line goes into the part of the output that is still free: a writer is lent the tail, writes into its front and gives the number
