@@ -7,7 +7,7 @@ use crate::codes::ALL_DONE;
 use crate::refusal::Refusal;
 
 // Code, line, field, the body lines with I, U and D, and the place.
-#[derive(Drop)]
+#[derive(Clone, Copy)]
 pub struct Answer {
     pub code: u64,
     pub line: u64,
@@ -24,7 +24,7 @@ impl Answer {
 }
 
 // Code, line, field.
-#[derive(Drop)]
+#[derive(Clone, Copy)]
 pub struct Verdict {
     pub code: u64,
     pub line: u64,

@@ -6,7 +6,7 @@ ghost use Rattle.answers.specs.Meant.{fault_of, fault_meant, no_fault_at, refusa
 use crate::codes::ALL_DONE;
 
 // A line's first fault: its code, its field and the place in that field, or three zeros.
-#[derive(Drop)]
+#[derive(Clone, Copy)]
 pub struct Fault {
     pub code: u64,
     pub field: u64,
@@ -44,7 +44,7 @@ impl Fault {
 }
 
 // Code, line, field and place of what is refused.
-#[derive(Drop)]
+#[derive(Clone, Copy)]
 pub struct Refusal {
     pub code: u64,
     pub line: u64,

@@ -9,7 +9,7 @@ use loader::load;
 use printed::bare::bare_length;
 
 // What load answered to a file, and to its undo.
-#[derive(Drop)]
+#[derive(Clone, Copy)]
 pub struct Returned {
     pub taken: Answer,
     pub back: Answer,

@@ -10,7 +10,7 @@ use answers::numbers::{Verdict, faulted, passed};
 use answers::refusal::Refusal;
 
 // The three numbers; whether the part stands in the file, its start and its size.
-#[derive(Drop)]
+#[derive(Clone, Copy)]
 pub struct Finding {
     pub answer: Verdict,
     pub infile: bool,

@@ -4,7 +4,7 @@ ghost use Rattle.enquiries.specs.Handed.{LineIs};
 use text::lines::line_end;
 
 // Where a line or a field stands, if there is one.
-#[derive(Drop)]
+#[derive(Clone, Copy)]
 pub struct Span {
     pub known: bool,
     pub start: usize,

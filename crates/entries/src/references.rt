@@ -60,7 +60,7 @@ fn reference_at(kind: Kind, bytes: &[u8], content: usize, j: usize) -> Referred
 }
 
 // A record's own key, and what its two rows of the table make it refer to.
-#[derive(Drop)]
+#[derive(Clone, Copy)]
 pub struct Named {
     pub own: Key,
     pub first: Referred,

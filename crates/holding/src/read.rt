@@ -8,7 +8,7 @@ use crate::unmet::unmet;
 use layout::limits::Holding;
 
 // A holding that was read: its lowest faulty line, or 0 and how many records it has.
-#[derive(Drop)]
+#[derive(Clone, Copy)]
 pub struct Held {
     pub line: usize,
     pub count: usize,

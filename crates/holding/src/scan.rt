@@ -26,7 +26,7 @@ use text::lines::{ends_at, plain_end};
 use text::order::Order;
 
 // What is kept of a line: its key, where it ends, and where the fields start by which it refers to others, or 0.
-#[derive(Drop)]
+#[derive(Clone, Copy)]
 pub struct Kept {
     pub key: Key,
     pub end: usize,
@@ -34,7 +34,7 @@ pub struct Kept {
 }
 
 // The next line in order: what is kept of it, or its fault.
-#[derive(Drop)]
+#[derive(Clone, Copy)]
 pub enum Next {
     Taken(Kept),
     Faulty,

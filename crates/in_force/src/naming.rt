@@ -14,7 +14,7 @@ use text::lines::line_end;
 use volume::lines::{Change, change_of};
 
 // What lines say of a key: nothing, or by the last that names it that its record is deleted, or stands on that line.
-#[derive(Drop)]
+#[derive(Clone, Copy)]
 pub enum Naming {
     Unnamed,
     Deleted,

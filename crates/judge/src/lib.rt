@@ -25,21 +25,21 @@ use text::numbers::width;
 const AROUND: usize = 10;
 
 // The records in force, and the bytes of the holding as written.
-#[derive(Drop)]
+#[derive(Clone, Copy)]
 pub struct State {
     pub count: usize,
     pub size: usize,
 }
 
 // Where a record's key stands in force or would stand.
-#[derive(Drop)]
+#[derive(Clone, Copy)]
 pub struct Found {
     pub place: usize,
     pub stands: bool,
 }
 
 // The code, the place of the key, and where the code is 0 the bytes after the step.
-#[derive(Drop)]
+#[derive(Clone, Copy)]
 pub struct Judged {
     pub code: u64,
     pub place: usize,

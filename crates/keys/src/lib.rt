@@ -15,7 +15,7 @@ use text::order::{Order, numbers};
 pub mod numbers; // the number of a field
 
 // A key: the number of its kind, and those of its fields.
-#[derive(Drop)]
+#[derive(Clone, Copy)]
 pub struct Key {
     pub kind: u64,
     pub first: u64,
@@ -24,7 +24,7 @@ pub struct Key {
 }
 
 // What a row of the table makes a record refer to.
-#[derive(Drop)]
+#[derive(Clone, Copy)]
 pub enum Referred {
     To(Key),
     Nothing,

@@ -1,5 +1,5 @@
 // The kinds of record that a holding has: they are the body lines of a file.
-#[derive(Drop)]
+#[derive(Clone, Copy)]
 pub enum HeldKind {
     Street,
     StreetXref,
@@ -9,7 +9,7 @@ pub enum HeldKind {
 }
 
 // The records that the loader knows: those that are held, and three that are a line of every file.
-#[derive(Drop)]
+#[derive(Clone, Copy)]
 pub enum Kind {
     Header,
     Held(HeldKind),
@@ -18,7 +18,7 @@ pub enum Kind {
 }
 
 // A kind, if there is one.
-#[derive(Drop)]
+#[derive(Clone, Copy)]
 pub enum KindFound {
     Known(Kind),
     Unknown,

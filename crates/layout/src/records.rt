@@ -4,7 +4,7 @@ ghost use Rattle.std.specs.Prelude.{◌≡◌};
 
 // What a kind is: its number, how many fields it has, the places of START_DATE and END_DATE, of the fields of its key, the numbers of
 // the kinds it refers to, and the places of the fields by which it does. Places count from 1; 0 is none.
-#[derive(Drop)]
+#[derive(Clone, Copy)]
 pub struct Layout {
     pub number: u64,
     pub count: usize,

@@ -2,7 +2,7 @@
 ghost use Rattle.std.specs.Prelude.{◌≤◌, length};
 
 // Whether a file could be read to its end or to the buffer's, and how many bytes of it stand in the buffer.
-#[derive(Drop)]
+#[derive(Clone, Copy)]
 pub struct Input {
     pub readable: bool,
     pub size: usize,

@@ -12,7 +12,7 @@ use keys::Key;
 use layout::rules::layout;
 
 // The tags of what a record refers to, in the order of the table's rows.
-#[derive(Drop)]
+#[derive(Clone, Copy)]
 pub struct RefTags {
     pub first: u64,
     pub second: u64,

@@ -10,7 +10,7 @@ use layout::kinds::{HeldKind, Kind, KindFound};
 use layout::records::{AppXref, Blpu, Header, Lpi, Metadata, Street, StreetXref, Trailer};
 
 // A line that was passed: its kind, and where it ends.
-#[derive(Drop)]
+#[derive(Clone, Copy)]
 pub enum Found {
     Line(Kind, usize),
     Nothing,

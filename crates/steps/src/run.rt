@@ -14,7 +14,7 @@ use volume::lines::known;
 
 // The code and line of the first step that is refused, or two zeros and the state after the last; how many steps were made, and
 // where the line after them starts.
-#[derive(Drop)]
+#[derive(Clone, Copy)]
 pub struct Ran {
     pub code: u64,
     pub line: usize,

@@ -21,7 +21,7 @@ use places::moves::{close, open};
 use volume::lines::{Change, Line};
 
 // The code, or 0, the state after the step, and the entry that stood at the key, or the step's own where none did.
-#[derive(Drop)]
+#[derive(Clone, Copy)]
 pub struct Stepped {
     pub code: u64,
     pub state: State,

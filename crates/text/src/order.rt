@@ -5,7 +5,7 @@ ghost use Rattle.theory.specs.Lex.{cmp_n, lex};
 ghost use Rattle.text.specs.Order.{tri_of};
 
 // How the first of two stands to the second.
-#[derive(Drop)]
+#[derive(Clone, Copy)]
 pub enum Order {
     Before,
     Same,

@@ -23,7 +23,7 @@ use volume::check::check_file;
 
 // The numbers; where they are of a file that is taken, how many records are in force after it, how many steps it made, and where
 // its body ends.
-#[derive(Drop)]
+#[derive(Clone, Copy)]
 pub struct Trial {
     pub answer: Answer,
     pub count: usize,

@@ -34,7 +34,7 @@ use text::order::is_same;
 const NUMBER: usize = 3;
 
 // What a body line does to its record.
-#[derive(Drop)]
+#[derive(Clone, Copy)]
 pub enum Change {
     Insert,
     Update,
@@ -42,14 +42,14 @@ pub enum Change {
 }
 
 // A body line as it is known: an insert, update or delete of one held kind.
-#[derive(Drop)]
+#[derive(Clone, Copy)]
 pub struct Line {
     pub kind: HeldKind,
     pub change: Change,
 }
 
 // A line before its fields are judged: its kind and the stage after it, or its first fault.
-#[derive(Drop)]
+#[derive(Clone, Copy)]
 pub enum Opened {
     Good(Kind, Stage),
     Bad(Fault),

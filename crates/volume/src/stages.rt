@@ -8,7 +8,7 @@ ghost use Rattle.volume.specs.Meant.{stage_meant, stage_found};
 use layout::kinds::Kind;
 
 // Where a line may stand.
-#[derive(Drop)]
+#[derive(Clone, Copy)]
 pub enum Stage {
     AtStart,
     InBody,
@@ -17,7 +17,7 @@ pub enum Stage {
 }
 
 // A stage, if there is one.
-#[derive(Drop)]
+#[derive(Clone, Copy)]
 pub enum StageFound {
     At(Stage),
     Nowhere,

@@ -13,7 +13,7 @@ use crate::stages::Stage;
 use layout::kinds::Kind;
 
 // The stage and number of the next line, and the body lines before it, with I, U and D.
-#[derive(Drop)]
+#[derive(Clone, Copy)]
 pub struct Walk {
     pub stage: Stage,
     pub line: usize,
