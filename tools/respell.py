@@ -20,7 +20,7 @@ BY_HAND = {"short": "IsShort"}
 QUIET = re.compile(r'"(?:[^"\\\n]|\\.)*"')
 USE = re.compile(r"^(?:pub )?use ([^\s;{]+?)(?:\.\{([^}]*)\})?(?: as (\S+))?$", re.M)
 DATA = re.compile(r"^( *)(?:pub )?data [^\n]*where\n((?:\1 +[^\n]*\n|\s*\n)*)", re.M)
-DECLARED = re.compile(r"^ *(?:(?:unfoldable|abbrev|pub|ruleset) )*([^\s(){}.;,@\"«»:]+)(?: [({][^\n]*?[)}])* (?::(?!=)|=) ", re.M)
+DECLARED = re.compile(r"^ *(?:(?:unfoldable|abbrev|pub|ruleset) )*([^\s(){}.;,@\"«»:]+)(?: [({][^\n]*?[)}])* (?::(?!=)|=)(?: |$)", re.M)
 RULESET = re.compile(r"^ *(?:pub )?ruleset (?:pub )?(\S+)", re.M)
 
 
@@ -75,7 +75,8 @@ def lent(text):
 
 
 def is_walk(path):
-    return path.endswith("/Proof.antt")
+    """Whether names behind a dot, and goals, are Rattle's own there."""
+    return path.endswith(("/Proof.antt", "/Answers.antt", "/Invariants.antt")) and "/specs/" not in path
 
 
 def table():
@@ -85,7 +86,7 @@ def table():
         if not p.startswith("./crates/"):
             continue
         t = read(p)
-        here.update(declared(t))
+        here.update(n for n in declared(t) if not (is_walk(p) and re.search(rf"(?m)^(?:abbrev )?pub {re.escape(n)} : (?:goal|tie)\.", t)))
         for n in lent(t):
             kit[n].add(p)
         if not is_walk(p):

@@ -21,18 +21,18 @@ at_end_lem s i h = drop_of_length-le s h
 -- ---- the walk that tests each element: b is the test of the element at i, as the code has it
 
 -- an element that fails ends the walk
-pub all-stop :
+pub all_stop :
     (p : ℕ → Bool) (s : List ℕ) (i : ℕ) (x b : Bool) → all p (drop i s) ≡ x → i < length s → b ≡ p (get_or s i 0) → b ≡ false → false ≡ x
-all-stop p s i x b e h q t = rw (at_cons s i h, sym q ∙ t) at e
+all_stop p s i x b e h q t = rw (at_cons s i h, sym q ∙ t) at e
 
 -- one that passes leaves those after it
-pub all-turn :
+pub all_turn :
     (p : ℕ → Bool) (s : List ℕ) (i : ℕ) (x b : Bool) →
     all p (drop i s) ≡ x → i < length s → b ≡ p (get_or s i 0) → b ≡ true → all p (drop (i + 1) s) ≡ x
-all-turn p s i x b e h q t = rw (at_cons s i h, sym q ∙ t) at e
+all_turn p s i x b e h q t = rw (at_cons s i h, sym q ∙ t) at e
 
 -- at the end all have passed
 pub all_done_lem : (p : ℕ → Bool) (s : List ℕ) (i : ℕ) (x : Bool) → all p (drop i s) ≡ x → length s ≤ i → true ≡ x
 all_done_lem p s i x e h = rw (at_end_lem s i h) at e
 
-pub ruleset each = (rules, not-true, not-false, all-stop, all-turn, all_done_lem)
+pub ruleset each = (rules, not-true, not-false, all_stop, all_turn, all_done_lem)

@@ -45,10 +45,10 @@ LoadAsBefore old file room undo_room r out undo =
     → (r ≡ answer_of (load_file before old file room undo_room).answer) × (out ≡ (load_file before old file room undo_room).output)
     × (undo ≡ (load_file before old file room undo_room).undo)
 
-pub load-before :
+pub load_before :
     (old file : List ℕ) (room undo_room : ℕ) (r : Answer) (out undo : List ℕ) → Outcome old file room undo_room r out undo
     → LoadAsBefore old file room undo_room r out undo
-load-before old file room undo_room r out undo o a b =
+load_before old file room undo_room r out undo o a b =
     let e = sym (load_as_before old file room undo_room a b) in
     (o.0 ∙ ap (λ x. answer_of x.answer) e, o.1 ∙ ap (λ x. x.output) e, o.2 ∙ ap (λ x. x.undo) e)
 
@@ -65,10 +65,10 @@ find_before s r kind n answer o a = subst (λ f. Handed f s r answer) (sym (find
 abbrev pub ForceAsBefore : Bor (List ℕ) → Bor (List ℕ) → Bor (List ℕ) → ℕ → ℕ → List ℕ → Type 0
 ForceAsBefore s t r kind n answer = T (ascii s.now) → T (ascii t.now) → HandedOf (in_force before s.now t.now kind n) s t r answer
 
-pub force-before :
+pub force_before :
     (s t r : Bor (List ℕ)) (kind n : ℕ) (answer : List ℕ) → HandedOf (in_force scottish s.now t.now kind n) s t r answer
     → ForceAsBefore s t r kind n answer
-force-before s t r kind n answer o a b = subst (λ f. HandedOf f s t r answer) (sym (in_force_as_before s.now t.now kind n a b)) o
+force_before s t r kind n answer o a b = subst (λ f. HandedOf f s t r answer) (sym (in_force_as_before s.now t.now kind n a b)) o
 
 -- for C the numbers, and where the part stands
 abbrev pub FindInCAsBefore : List ℕ → ℕ → ℕ → List ℕ → Type 0
@@ -81,10 +81,10 @@ find_in_c_before old kind n answer o a = o ∙ ap part_list (sym (find_as_before
 abbrev pub ForceInCAsBefore : List ℕ → List ℕ → ℕ → ℕ → List ℕ → Type 0
 ForceInCAsBefore old file kind n answer = T (ascii old) → T (ascii file) → answer ≡ sided_list (in_force before old file kind n)
 
-pub force-in-c-before :
+pub force_in_c_before :
     (old file : List ℕ) (kind n : ℕ) (answer : List ℕ) → answer ≡ sided_list (in_force scottish old file kind n)
     → ForceInCAsBefore old file kind n answer
-force-in-c-before old file kind n answer o a b = o ∙ ap sided_list (sym (in_force_as_before old file kind n a b))
+force_in_c_before old file kind n answer o a b = o ∙ ap sided_list (sym (in_force_as_before old file kind n a b))
 
 -- ---- the program
 
@@ -100,9 +100,9 @@ input_ascii : (read : Bool) (b : List ℕ) → T (ascii b) → T (ascii (get_or 
 input_ascii true b a = a
 input_ascii false b a = tt
 
-pub print-before :
+pub print_before :
     (held : Bool) (holding : List ℕ) (sent : Bool) (change buffer : List ℕ) (n : ℕ) (printed : List ℕ)
     → PrintOutcome held holding sent change buffer n printed → PrintAsBefore held holding sent change buffer n printed
-print-before held holding sent change buffer n printed o a b =
+print_before held holding sent change buffer n printed o a b =
     let e = sym (print_as_before (input_of held holding) (input_of sent change) (input_ascii held holding a) (input_ascii sent change b)) in
     (o.0 ∙ ap length e, o.1 ∙ ap (λ x. in_front x buffer) e)

@@ -12,7 +12,7 @@ use Rattle.answers.specs.Meant.{answer_of, verdict_of, answer_list, verdict_list
 use Rattle.answers.specs.declared.numbers.Answer.{Answer}
 use Rattle.answers.specs.declared.numbers.Verdict.{Verdict}
 use Rattle.muiwash.specs.Numbers.{part_list, sided_list, Loads}
-use Rattle.claims.specs.AsBefore.{FindInCAsBefore, find_in_c_before, ForceInCAsBefore, force-in-c-before}
+use Rattle.claims.specs.AsBefore.{FindInCAsBefore, find_in_c_before, ForceInCAsBefore, force_in_c_before}
 use Rattle.claims.specs.CheckClaims.{FileClaims, file_claims, HoldingClaims, holding_claims}
 use Rattle.claims.specs.LoadClaims.{LoadClaims, load_claims}
 
@@ -95,7 +95,7 @@ force_in_c old file kind n answer o = record {
   found = in_force scottish old file kind n;
   numbers = o;
   why = force_answers scottish scottish_regular old file kind n;
-  as_before = force-in-c-before old file kind n answer o;
+  as_before = force_in_c_before old file kind n answer o;
 }
 
 -- five numbers of one field of a line

@@ -24,7 +24,7 @@ use Rattle.loader.specs.Outcome.{Outcome}
 use Rattle.claims.specs.Demand1.{Nothing, InTable, load_refused, load_numbers}
 use Rattle.claims.specs.CheckClaims.{FiveClaims, file_claims}
 use Rattle.claims.specs.Demand2.{taken_if, taken_only, new_holding, counted, undo_left}
-use Rattle.claims.specs.AsBefore.{LoadAsBefore, load-before}
+use Rattle.claims.specs.AsBefore.{LoadAsBefore, load_before}
 
 -- ---- why a load is refused, of the numbers answered, with `room` bytes for the holding
 
@@ -134,5 +134,5 @@ module _ (old file : List ℕ) (room undo_room : ℕ) (r : Answer) (out undo : L
     };
     room_enough = never_13;
     undo_room_enough = never_17;
-    as_before = load-before old file room undo_room r out undo o;
+    as_before = load_before old file room undo_room r out undo o;
   }

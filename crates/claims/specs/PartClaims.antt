@@ -16,7 +16,7 @@ use Rattle.meaning.specs.Codes.{no_such_part}
 use Rattle.answers.specs.Meant.{three_list}
 use Rattle.enquiries.specs.Handed.{Handed, HandedOf}
 use Rattle.claims.specs.Demand1.{Told, find_numbers, in_force_numbers, field_numbers}
-use Rattle.claims.specs.AsBefore.{FindAsBefore, find_before, ForceAsBefore, force-before}
+use Rattle.claims.specs.AsBefore.{FindAsBefore, find_before, ForceAsBefore, force_before}
 
 -- ---- find
 
@@ -72,7 +72,7 @@ force_claims s t r kind n answer o = record {
   found = in_force scottish s.now t.now kind n;
   handed = o;
   why = force_answers scottish scottish_regular s.now t.now kind n;
-  as_before = force-before s t r kind n answer o;
+  as_before = force_before s t r kind n answer o;
 }
 
 -- ---- one field of a line

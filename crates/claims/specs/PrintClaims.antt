@@ -17,7 +17,7 @@ use Rattle.laws.specs.WhyPrint.{prints_18, prints_refused, prints_taken}
 use Rattle.laws.specs.Scottish.{scottish_regular}
 use Rattle.text.specs.Front.{in_front}
 use Rattle.program.specs.Outcome.{input_of, PrintOutcome}
-use Rattle.claims.specs.AsBefore.{PrintAsBefore, print-before}
+use Rattle.claims.specs.AsBefore.{PrintAsBefore, print_before}
 
 -- a text stands in the front of the buffer, n is its length, and the rest of the buffer is as it was
 abbrev pub Prints : List ℕ → List ℕ → ℕ → List ℕ → Type 0
@@ -73,5 +73,5 @@ module _ (held : Bool) (holding : List ℕ) (sent : Bool) (change buffer : List 
         let w = ap (λ x. x.answer) (taken_long scottish scottish_regular program_room program_room holding change _ t l) in
         prints_usable _ e (λ d. prints_refused scottish holding change d (λ z. omega (arith, z, ap (λ x. x.code) w)) ∙ ap print_numbers w) o;
     takes = λ e a u. prints_usable _ e (λ d. prints_taken scottish scottish_regular holding change d a u) o;
-    as_before = print-before held holding sent change buffer n printed o;
+    as_before = print_before held holding sent change buffer n printed o;
   }

@@ -37,7 +37,7 @@ use Rattle.layout.specs.Rows.{bare}
 use Rattle.layout.specs.Check.{lowest_bad, first_of, kind_dates, Parted, told}
 use Rattle.layout.proofs.CheckLaws.{forms_is, bad_coded, fault_is, early_there, early_room}
 use Rattle.holding.specs.Held.{held_kind_as, held_as, record_as}
-use Rattle.holding.proofs.RunningLaws.{order-digits}
+use Rattle.holding.proofs.RunningLaws.{order_digits}
 
 -- ---- the line's own number
 
@@ -124,7 +124,7 @@ module _ (k : Kind) (t a : List ℕ) (u : Parted k t a) where
       let j : same (get_or (fields_of t) 1 []) (34 ∷ 73 ∷ 34 ∷ []) ≡ true = rw (← r) (sym s ∙ v) in
       rw (sym p ∙ y, sound_noted w (sym q ∙ z), j, ← x) (l i)
 
-pub ruleset notes = (rules, not-true, not-false, early_there, early_room, order-digits, noted_held)
+pub ruleset notes = (rules, not-true, not-false, early_there, early_room, order_digits, noted_held)
 
 -- ---- a line
 

@@ -21,7 +21,7 @@ use Rattle.laws.specs.Kinds.{every}
 use Rattle.laws.specs.Digits.{dec_value}
 use Rattle.layout.specs.Rows.{bare, row_of}
 use Rattle.layout.specs.Check.{lowest_bad}
-use Rattle.layout.proofs.CheckLaws.{low-sound}
+use Rattle.layout.proofs.CheckLaws.{low_sound}
 
 -- a test that is not passed says nothing
 pub no_pass : (b : Bool) → false ≡ true → b ≡ true
@@ -79,13 +79,13 @@ unfolding kinds role fields is_held row_of
 third k = every (λ k. numbered (is_held (role k)) k) tt k
 
 -- so PRO_ORDER of a held line is digits
-pub order-digits :
+pub order_digits :
     (k : Kind) (t f : List ℕ) (b : Bool) → b ≡ is_held (role k) → b ≡ true → none ≡ lowest_bad 1 (map bare (fields k)) (fields_of t) → 2 < length (fields_of t) → f ≡ get_or (fields_of t) 2 []
     → T (all is_digit f)
 unfolding row_of
-order-digits k t f b p y z g e =
+order_digits k t f b p y z g e =
     let h : T (numbered true k) = rw (sym p ∙ y) at (third k) in
     let l = ltb→lt 2 (length (map bare (fields k))) (and_l (ltb 2 (length (map bare (fields k)))) _ h) in
-    rw e (digital_all (row_of k 2).0 (row_of k 2).1 (get_or (fields_of t) 2 []) (and_r (ltb 2 (length (map bare (fields k)))) _ h) (low-sound 1 (map bare (fields k)) (fields_of t) 2 z l g))
+    rw e (digital_all (row_of k 2).0 (row_of k 2).1 (get_or (fields_of t) 2 []) (and_r (ltb 2 (length (map bare (fields k)))) _ h) (low_sound 1 (map bare (fields k)) (fields_of t) 2 z l g))
 
 pub ruleset runs = (rules, running)

@@ -23,7 +23,7 @@ use Rattle.laws.specs.ContentLaws.{Ruled, bytes_front, bytes_ruled}
 use Rattle.laws.specs.Ascii.{is_ascii, ascii, ascii_most, ascii_past}
 use Rattle.laws.specs.CharacterLaws.{key_letter_lem, characters_ruled}
 use Rattle.laws.specs.EnoughTexts.{filled_text, text_at}
-use Rattle.laws.specs.EnoughKeys.{key_letter, key-carry}
+use Rattle.laws.specs.EnoughKeys.{key_letter, key_carry}
 use Rattle.laws.specs.Enough.{full, sound_at, enough}
 use Rattle.laws.specs.ScottishPlaces.{row_at, all_at}
 
@@ -107,20 +107,20 @@ others_form xref_type o t f = refl
 others_form file_type o t f = refl
 others_form (key_text letter) o t f =
     let e = letter_same letter t in
-    same_test _ _ (key-carry by_bytes by_characters bytes_ruled characters_ruled letter (subst T e) f)
-    (key-carry by_characters by_bytes characters_ruled bytes_ruled letter (subst T (sym e)) f)
+    same_test _ _ (key_carry by_bytes by_characters bytes_ruled characters_ruled letter (subst T e) f)
+    (key_carry by_characters by_bytes characters_ruled bytes_ruled letter (subst T (sym e)) f)
 
 -- both rules find the same fields sound
-pub others-sound :
+pub others_sound :
     (m : Form) (filled : Bool) → T (not (is_free_text m)) → T (names_ascii m) → (f : List ℕ) → sound_as by_bytes m filled f ≡ sound_as by_characters m filled f
 unfolding sound_as
-others-sound m filled o t f = rw (others_form m o t f)
+others_sound m filled o t f = rw (others_form m o t f)
 
 -- and give the same place
-pub others-place :
+pub others_place :
     (m : Form) (filled : Bool) → T (not (is_free_text m)) → T (names_ascii m) → (f : List ℕ) → place_as by_bytes m filled f ≡ place_as by_characters m filled f
 unfolding place_as
-others-place m filled o t f = ap (λ sound. place sound (empty_of m ∷ samples m) f) (fun_ext (others-sound m filled o t))
+others_place m filled o t f = ap (λ sound. place sound (empty_of m ∷ samples m) f) (fun_ext (others_sound m filled o t))
 
 -- ---- texts of ASCII
 
@@ -175,39 +175,39 @@ fewer rule ruled front w filled p a = same_test (begins sound (none ∷ samples 
         enough rule ruled (text w) filled p r.0 r.1
 
 -- tests that agree on ASCII agree on what begins, where the samples are ASCII
-begins-same :
+begins_same :
     (a b : List ℕ → Bool) → ((f : List ℕ) → T (ascii f) → a f ≡ b f)
     → (ss : List (List ℕ)) (p : List ℕ) → T (all ascii ss) → T (ascii p) → begins a ss p ≡ begins b ss p
 unfolding begins goes_on
-begins-same a b e [] p s t = refl
-begins-same a b e (v ∷ ss) p s t = rw (goes v (and_l (ascii v) (all ascii ss) s), begins-same a b e ss p (and_r (ascii v) (all ascii ss) s) t)
+begins_same a b e [] p s t = refl
+begins_same a b e (v ∷ ss) p s t = rw (goes v (and_l (ascii v) (all ascii ss) s), begins_same a b e ss p (and_r (ascii v) (all ascii ss) s) t)
   where
     goes : (v : List ℕ) → T (ascii v) → goes_on a p v ≡ goes_on b p v
     goes [] u = e p t
     goes (x ∷ v) u = rw (e (p ++ (x ∷ v)) (all_append is_ascii p (x ∷ v) t u), goes v (and_r (is_ascii x) (ascii v) u))
 
 -- and so on how far ASCII goes on
-reach-same :
+reach_same :
     (a b : List ℕ → Bool) → ((p : List ℕ) → T (ascii p) → a p ≡ b p) → (f p : List ℕ) → T (ascii f) → T (ascii p) → reach a p f ≡ reach b p f
 unfolding reach
-reach-same a b e [] p t u = refl
-reach-same a b e (x ∷ f) p t u =
+reach_same a b e [] p t u = refl
+reach_same a b e (x ∷ f) p t u =
     let k = all_append is_ascii p (x ∷ []) u (and_in (is_ascii x) true (and_l (is_ascii x) (ascii f) t) tt) in
-    rw (e (p ++ (x ∷ [])) k, reach-same a b e f (p ++ (x ∷ [])) (and_r (is_ascii x) (ascii f) t) k)
+    rw (e (p ++ (x ∷ [])) k, reach_same a b e f (p ++ (x ∷ [])) (and_r (is_ascii x) (ascii f) t) k)
 
-text-begins :
+text_begins :
     (w : ℕ) (filled : Bool) (p : List ℕ) → T (ascii p)
     → begins (sound_as by_bytes (text w) filled) (empty_of (text w) ∷ samples (text w)) p
     ≡ begins (sound_as by_characters (text w) filled) (empty_of (text w) ∷ samples (text w)) p
 unfolding bytes is_textual is_ascii
-text-begins w filled p a =
+text_begins w filled p a =
     fewer by_bytes bytes_ruled (λ w q u a. bytes_front w q u) w filled p a
-    ∙ begins-same (sound_as by_bytes (text w) filled) (sound_as by_characters (text w) filled) (text_sound w filled) (_ ∷ map quoted (bytes "a" ∷ [])) p tt a
+    ∙ begins_same (sound_as by_bytes (text w) filled) (sound_as by_characters (text w) filled) (text_sound w filled) (_ ∷ map quoted (bytes "a" ∷ [])) p tt a
     ∙ sym (fewer by_characters characters_ruled characters_front w filled p a)
 
 text_place : (w : ℕ) (filled : Bool) (f : List ℕ) → T (ascii f) → place_as by_bytes (text w) filled f ≡ place_as by_characters (text w) filled f
 unfolding place_as place
-text_place w filled f a = rw (text_sound w filled f a, reach-same _ _ (text-begins w filled) f [] a tt)
+text_place w filled f a = rw (text_sound w filled f a, reach_same _ _ (text_begins w filled) f [] a tt)
 
 -- ---- every form, of ASCII
 
@@ -229,13 +229,13 @@ text_or_other P a b (key_text letter) = b (key_text letter) tt
 pub ascii_sound : (m : Form) (filled : Bool) → T (names_ascii m) → (f : List ℕ) → T (ascii f) → sound_as by_bytes m filled f ≡ sound_as by_characters m filled f
 ascii_sound m filled t f a =
     text_or_other (λ m. T (names_ascii m) → sound_as by_bytes m filled f ≡ sound_as by_characters m filled f)
-    (λ w t. text_sound w filled f a) (λ m o t. others-sound m filled o t f) m t
+    (λ w t. text_sound w filled f a) (λ m o t. others_sound m filled o t f) m t
 
 -- and give the same place
 pub ascii_place : (m : Form) (filled : Bool) → T (names_ascii m) → (f : List ℕ) → T (ascii f) → place_as by_bytes m filled f ≡ place_as by_characters m filled f
 ascii_place m filled t f a =
     text_or_other (λ m. T (names_ascii m) → place_as by_bytes m filled f ≡ place_as by_characters m filled f)
-    (λ w t. text_place w filled f a) (λ m o t. others-place m filled o t f) m t
+    (λ w t. text_place w filled f a) (λ m o t. others_place m filled o t f) m t
 
 -- ---- the rows of the table
 
@@ -256,12 +256,12 @@ unfolding row_names_ascii
 ascii_row k i h = all_at row_names_ascii (fields k) i h (ascii_rows k)
 
 -- codes, keys, CHANGE_TYPE, numbers and dates, whatever their bytes, are as they were before
-pub scottish-others :
+pub scottish_others :
     (k : Kind) (i : ℕ) → i < length (fields k) → T (not (is_free_text (row_at k i).form)) → (f : List ℕ) → SameField before scottish (row_at k i) f
 unfolding sound_field place_in
-scottish-others k i h o f =
+scottish_others k i h o f =
     let d = row_at k i in
-    (others-sound d.form d.filled o (ascii_row k i h) f, others-place d.form d.filled o (ascii_row k i h) f)
+    (others_sound d.form d.filled o (ascii_row k i h) f, others_place d.form d.filled o (ascii_row k i h) f)
 
 -- and so is every field of ASCII
 pub scottish_ascii : (k : Kind) (i : ℕ) → i < length (fields k) → (f : List ℕ) → T (ascii f) → SameField before scottish (row_at k i) f

@@ -9,9 +9,9 @@ use Rattle.meaning.specs.Forms.{is_digit, is_digits, is_text_byte, by_characters
 use Rattle.meaning.specs.Place.{begins, sample_characters}
 use Rattle.meaning.specs.Computes.{computed}
 use Rattle.laws.specs.Digits.{digit_high}
-use Rattle.laws.specs.PlaceLaws.{begins-carry, Enough}
+use Rattle.laws.specs.PlaceLaws.{begins_carry, Enough}
 use Rattle.laws.specs.EnoughNumbers.{digits_length, digits_each}
-use Rattle.laws.specs.ContentLaws.{Ruled, key-bytes, key_size}
+use Rattle.laws.specs.ContentLaws.{Ruled, key_bytes, key_size}
 use Rattle.laws.specs.Ascii.{is_ascii, ascii, digit_ascii, ascii_most, ascii_past}
 
 -- what follows from a row, where the byte is in its first range, is so of the row that the byte begins
@@ -86,29 +86,29 @@ carried :
     → ((t : List ℕ) → at_most w owed (x ∷ t) ≡ (step && at_most v owing t)) → T (begins (text_from v owing) sample_characters q) → T (begins (text_from w owed) sample_characters (x ∷ q))
 unfolding text_from
 carried w v owed owing step x q b s e t =
-    begins-carry (text_from v owing) (text_from w owed) q (x ∷ q)
+    begins_carry (text_from v owing) (text_from w owed) q (x ∷ q)
     (λ h k. and_in (is_text_byte x && all is_text_byte (q ++ h)) (at_most w owed (x ∷ (q ++ h)))
     (and_in (is_text_byte x) (all is_text_byte (q ++ h)) b (and_l (all is_text_byte (q ++ h)) (at_most v owing (q ++ h)) k))
     (rw (e (q ++ h)) (and_in step (at_most v owing (q ++ h)) s (and_r (all is_text_byte (q ++ h)) (at_most v owing (q ++ h)) k)))) sample_characters t
 
 -- what begins at most w characters goes on with the end of a sample character, where what is wanted can be had
-begun-goes :
+begun_goes :
     (w : ℕ) (owed : List Range) (q r : List ℕ) → T (had owed && ends_had owed) → T (all is_text_byte q) → T (at_most w owed (q ++ r))
     → T (begins (text_from w owed) sample_characters q)
 unfolding text_from had ends_had at_most
-begun-goes w owed [] r h b t =
-    begins-carry (text_from 0 owed) (text_from w owed) [] []
+begun_goes w owed [] r h b t =
+    begins_carry (text_from 0 owed) (text_from w owed) [] []
     (λ e k. and_in (all is_text_byte e) (at_most w owed e) (and_l (all is_text_byte e) (at_most 0 owed e) k)
     (wider w owed e (and_r (all is_text_byte e) (at_most 0 owed e) k))) sample_characters (and_l (had owed) (ends_had owed) h)
-begun-goes w (c ∷ cs) (x ∷ q) r h b t =
+begun_goes w (c ∷ cs) (x ∷ q) r h b t =
     carried w w (c ∷ cs) cs (is_in c x) x q (and_l (is_text_byte x) (all is_text_byte q) b) (and_l (is_in c x) (at_most w cs (q ++ r)) t) (λ t. refl)
-    (begun-goes w cs q r (and_r (had (c ∷ cs)) (ends_had (c ∷ cs)) h) (and_r (is_text_byte x) (all is_text_byte q) b) (and_r (is_in c x) (at_most w cs (q ++ r)) t))
-begun-goes zero [] (x ∷ q) r h b t = absurd t
-begun-goes (suc w) [] (x ∷ q) r h b t =
+    (begun_goes w cs q r (and_r (had (c ∷ cs)) (ends_had (c ∷ cs)) h) (and_r (is_text_byte x) (all is_text_byte q) b) (and_r (is_in c x) (at_most w cs (q ++ r)) t))
+begun_goes zero [] (x ∷ q) r h b t = absurd t
+begun_goes (suc w) [] (x ∷ q) r h b t =
     let cs = follows characters x in
     let s = and_l (starts characters x) (at_most w cs (q ++ r)) t in
     carried (suc w) w [] cs (starts characters x) x q (and_l (is_text_byte x) (all is_text_byte q) b) s (λ t. refl)
-    (begun-goes w cs q r (row_of (λ rs. T (had rs && ends_had rs)) ends_had characters x rows_had (λ c rs k i. k) s) (and_r (is_text_byte x) (all is_text_byte q) b)
+    (begun_goes w cs q r (row_of (λ rs. T (had rs && ends_had rs)) ends_had characters x rows_had (λ c rs k i. k) s) (and_r (is_text_byte x) (all is_text_byte q) b)
     (and_r (starts characters x) (at_most w cs (q ++ r)) t))
 
 characters_goes : (w : ℕ) → Enough (by_characters w) sample_characters
@@ -116,7 +116,7 @@ unfolding by_characters text_from
 characters_goes w q r t =
     let b = all is_text_byte (q ++ r) in
     let m = at_most w [] (q ++ r) in
-    begun-goes w [] q r none_had (append_all is_text_byte q r (and_l b m t)).0 (and_r b m t)
+    begun_goes w [] q r none_had (append_all is_text_byte q r (and_l b m t)).0 (and_r b m t)
 
 -- ---- where something may stand, the letter a may
 
@@ -165,16 +165,16 @@ key_characters letter c d dc dd l =
     let back : T (ascii d) = all_map is_digit is_ascii digit_ascii d (digits_each 9 d dd) in
     rw (ascii_most 14 (c ++ (letter ∷ d)) (all_append is_ascii c (letter ∷ d) front (and_in (is_ascii letter) (ascii d) l back))) (key_size letter c d dc dd)
 
-characters-keyed :
+characters_keyed :
     (letter : ℕ) (a b c d : List ℕ) → T (is_digits 4 a) → T (is_digits 9 b) → T (is_digits 4 c) → T (is_digits 9 d)
     → T (by_characters 14 (a ++ (letter ∷ b))) → T (by_characters 14 (c ++ (letter ∷ d)))
 unfolding by_characters
-characters-keyed letter a b c d da db dc dd t =
+characters_keyed letter a b c d da db dc dd t =
     let e = all is_text_byte (a ++ (letter ∷ b)) in
     let m = at_most 14 [] (a ++ (letter ∷ b)) in
-    and_in (all is_text_byte (c ++ (letter ∷ d))) (at_most 14 [] (c ++ (letter ∷ d))) (key-bytes letter a b c d dc dd (and_l e m t))
+    and_in (all is_text_byte (c ++ (letter ∷ d))) (at_most 14 [] (c ++ (letter ∷ d))) (key_bytes letter a b c d dc dd (and_l e m t))
     (key_characters letter c d dc dd (key_letter_lem letter a b da db (and_r e m t)))
 
 -- it is so
 pub characters_ruled : Ruled by_characters
-characters_ruled = record { goes = characters_goes; one = characters_one; keyed = characters-keyed }
+characters_ruled = record { goes = characters_goes; one = characters_one; keyed = characters_keyed }

@@ -60,9 +60,9 @@ digit_text x t =
     (and_in (not (eqb x 34)) (not (eqb x 127)) (not_T (eqb x 34) (λ e. omega (arith, eqb→eq x 34 e, digit_low x t))) (not_T (eqb x 127) (λ e. omega (arith, eqb→eq x 127 e, digit_high x t))))
 
 -- where they may stand in a text, they may with other digits
-pub key-bytes :
+pub key_bytes :
     (letter : ℕ) (a b c d : List ℕ) → T (is_digits 4 c) → T (is_digits 9 d) → T (all is_text_byte (a ++ (letter ∷ b))) → T (all is_text_byte (c ++ (letter ∷ d)))
-key-bytes letter a b c d dc dd t =
+key_bytes letter a b c d dc dd t =
     all_append is_text_byte c (letter ∷ d) (all_map is_digit is_text_byte digit_text c (digits_each 4 c dc))
     (and_in (is_text_byte letter) (all is_text_byte d) (and_l (is_text_byte letter) (all is_text_byte b) (append_all is_text_byte a (letter ∷ b) t).1)
     (all_map is_digit is_text_byte digit_text d (digits_each 9 d dd)))
@@ -90,14 +90,14 @@ unfolding by_bytes is_text_byte
 bytes_one w x u t =
     and_in (leb 1 w) true (le→leb 1 w (omega (arith, leb→le (length (x ∷ u)) w (and_l (leb (length (x ∷ u)) w) (all is_text_byte (x ∷ u)) t)))) tt
 
-bytes-keyed :
+bytes_keyed :
     (letter : ℕ) (a b c d : List ℕ) → T (is_digits 4 a) → T (is_digits 9 b) → T (is_digits 4 c) → T (is_digits 9 d)
     → T (by_bytes 14 (a ++ (letter ∷ b))) → T (by_bytes 14 (c ++ (letter ∷ d)))
 unfolding by_bytes
-bytes-keyed letter a b c d da db dc dd t =
+bytes_keyed letter a b c d da db dc dd t =
     and_in (leb (length (c ++ (letter ∷ d))) 14) _ (key_size letter c d dc dd)
-    (key-bytes letter a b c d dc dd (and_r (leb (length (a ++ (letter ∷ b))) 14) (all is_text_byte (a ++ (letter ∷ b))) t))
+    (key_bytes letter a b c d dc dd (and_r (leb (length (a ++ (letter ∷ b))) 14) (all is_text_byte (a ++ (letter ∷ b))) t))
 
 -- it is so
 pub bytes_ruled : Ruled by_bytes
-bytes_ruled = record { goes = bytes_goes; one = bytes_one; keyed = bytes-keyed }
+bytes_ruled = record { goes = bytes_goes; one = bytes_one; keyed = bytes_keyed }

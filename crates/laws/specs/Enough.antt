@@ -8,7 +8,7 @@ use Rattle.base.specs.Tests.{and_in, and_l, and_r, T_false}
 use Rattle.base.specs.ListLaws.{same_eq}
 use Rattle.meaning.specs.Forms.{Form, number, at_least1, decimal, date, time, text, change_type, xref_type, file_type, key_text, is_number, is_digits, unsigned, is_decimal, is_date, is_time, TextRule, change_types, xref_types, file_types, is_text, one_of, is_key, has_form, is_textual, empty_of, is_empty, sound_as}
 use Rattle.meaning.specs.Place.{begins, samples}
-use Rattle.laws.specs.PlaceLaws.{begins_sample, begins_later, begins-carry, EnoughAt, Enough}
+use Rattle.laws.specs.PlaceLaws.{begins_sample, begins_later, begins_carry, EnoughAt, Enough}
 use Rattle.laws.specs.EnoughNumbers.{enough_number, at_least, enough_at_least, enough_decimal}
 use Rattle.laws.specs.EnoughDates.{enough_time, enough_date}
 use Rattle.laws.specs.EnoughTexts.{enough_one, filled_text, enough_text}
@@ -32,7 +32,7 @@ module _ (rule : TextRule) where
       go true e u = begins_sample (sound_as rule m filled) p r (empty_of m) ss (same_eq (p ++ r) (empty_of m) (rw e tt)) t
       go false e u =
           begins_later (sound_as rule m filled) p (empty_of m) ss
-          (begins-carry (full m) (sound_as rule m filled) p p (λ h v. sound_full (p ++ h) v) ss (g r (and_in (has_form rule m (p ++ r)) _ u (rw e tt))))
+          (begins_carry (full m) (sound_as rule m filled) p p (λ h v. sound_full (p ++ h) v) ss (g r (and_in (has_form rule m (p ++ r)) _ u (rw e tt))))
 
   enough_sound : (m : Form) (filled : Bool) → Enough (full m) (samples m) → Enough (sound_as rule m filled) (empty_of m ∷ samples m)
   enough_sound m filled g p = sound_at m filled (samples m) p (g p)
@@ -42,7 +42,7 @@ module _ (rule : TextRule) where
   unfolding full is_empty
   enough_form m filled n g =
       enough_sound m filled
-      (λ p r t. begins-carry (has_form rule m) (full m) p p (λ e u. has (p ++ e) u) (samples m) (g p r (and_l (has_form rule m (p ++ r)) (not (is_empty m (p ++ r))) t)))
+      (λ p r t. begins_carry (has_form rule m) (full m) p p (λ e u. has (p ++ e) u) (samples m) (g p r (and_l (has_form rule m (p ++ r)) (not (is_empty m (p ++ r))) t)))
     where
       has : (f : List ℕ) → T (has_form rule m f) → T (full m f)
       has f u = and_in (has_form rule m f) (not (is_empty m f)) u (not_T (is_empty m f) (λ e. n (rw (same_eq f (empty_of m) e) at u)))

@@ -28,10 +28,10 @@ spelled (suc n) [] h = absurd (omega arith)
 spelled (suc n) (x ∷ f) h = ap (λ l. x ∷ l) (spelled n f (omega arith))
 
 -- where every sound field is k bytes, it is enough to look at the first n of k bytes spelled out
-enough-long :
+enough_long :
     (sound : List ℕ → Bool) (ss : List (List ℕ)) (k : ℕ) → ((f : List ℕ) → T (sound f) → length f ≡ k)
     → ((n : ℕ) (f : List ℕ) → n ≤ k → T (sound (spell k f)) → T (begins sound ss (take n (spell k f)))) → Enough sound ss
-enough-long sound ss k l g p r t =
+enough_long sound ss k l g p r t =
     let e = spelled k (p ++ r) (l (p ++ r) t) in
     let u : T (begins sound ss (take (length p) (spell k (p ++ r)))) = g (length p) (p ++ r) (omega (arith, l (p ++ r) t, length-append p r)) (rw e t) in
     rw (e, take-append_seam p r) at u
@@ -123,7 +123,7 @@ time_fill (suc (suc (suc (suc (suc (suc (suc n))))))) a b c d e g h k = absurd (
 pub enough_time : Enough is_time (samples time)
 unfolding samples spell
 enough_time =
-    enough-long is_time (bytes "000000" ∷ []) 6 time_length
+    enough_long is_time (bytes "000000" ∷ []) 6 time_length
     (λ n f h t. begins_first is_time (take n (spell 6 f)) (bytes "000000") [] n (time_fill n _ _ _ _ _ _ h (time_out _ _ _ _ _ _ t)))
 
 -- ---- CCYY-MM-DD
@@ -285,5 +285,5 @@ date_fill n a b c d h i k l m q = go n m
 pub enough_date : Enough is_date (samples date)
 unfolding samples spell
 enough_date =
-    enough-long is_date (bytes "9999-11-11" ∷ bytes "9999-11-30" ∷ []) 10 date_length
+    enough_long is_date (bytes "9999-11-11" ∷ bytes "9999-11-30" ∷ []) 10 date_length
     (λ n f h t. let o = date_out _ _ _ _ _ _ _ _ _ _ t in rw (o.dash, o.dash') (date_fill n _ _ _ _ _ _ _ _ h o.digits))

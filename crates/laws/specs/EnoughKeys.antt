@@ -177,9 +177,9 @@ module _ (rule : TextRule) where
         (fits_key letter (p ++ drop (length p) (key_sample letter)) k.0 (fits_fill (key_shape letter) p r (key_sample letter) k.1 (sample_fits letter)))
 
 -- where one rule allows the letter as another does, its keys are the other's
-pub key-carry :
+pub key_carry :
     (one two : TextRule) → Ruled one → Ruled two → (letter : ℕ) → (T (key_letter one letter) → T (key_letter two letter)) → (f : List ℕ)
     → T (is_key one letter f) → T (is_key two letter f)
-key-carry one two r s letter l f t =
+key_carry one two r s letter l f t =
     let k = key_fits one r letter f t in
     fits_key two s letter f (l k.0) k.1

@@ -10,7 +10,7 @@ use Rattle.base.specs.ListLaws.{all_append, append_all, all_drop}
 use Rattle.theory.specs.Decimal.{value, value_f}
 use Rattle.meaning.specs.Forms.{number, at_least1, decimal, is_digit, is_number, is_digits, unsigned, is_decimal}
 use Rattle.meaning.specs.Place.{begins, samples}
-use Rattle.laws.specs.PlaceLaws.{begins_first, begins_now, begins-carry, Enough}
+use Rattle.laws.specs.PlaceLaws.{begins_first, begins_now, begins_carry, Enough}
 
 -- ---- lists
 
@@ -208,5 +208,5 @@ enough_decimal w d [] r t = first r t
 enough_decimal w d (x ∷ q) r t = go (eqb x 45) refl t
   where
     go : (b : Bool) → eqb x 45 ≡ b → T (pointed w d (pick b (q ++ r) (x ∷ (q ++ r)))) → T (begins (is_decimal w d) (point_sample d ∷ []) (x ∷ q))
-    go true e u = begins-carry (pointed w d) (is_decimal w d) q (x ∷ q) (λ g v. rw e v) (point_sample d ∷ []) (enough_pointed w d q r u)
-    go false e u = begins-carry (pointed w d) (is_decimal w d) (x ∷ q) (x ∷ q) (λ g v. rw e v) (point_sample d ∷ []) (enough_pointed w d (x ∷ q) r u)
+    go true e u = begins_carry (pointed w d) (is_decimal w d) q (x ∷ q) (λ g v. rw e v) (point_sample d ∷ []) (enough_pointed w d q r u)
+    go false e u = begins_carry (pointed w d) (is_decimal w d) (x ∷ q) (x ∷ q) (λ g v. rw e v) (point_sample d ∷ []) (enough_pointed w d (x ∷ q) r u)

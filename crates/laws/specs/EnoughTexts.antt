@@ -9,7 +9,7 @@ use Rattle.base.specs.Tests.{and_in, and_l, and_r, or_r, or_out}
 use Rattle.base.specs.ListLaws.{same_eq}
 use Rattle.meaning.specs.Forms.{text, quoted, inside, TextRule, is_text, one_of}
 use Rattle.meaning.specs.Place.{begins, sample_characters, samples}
-use Rattle.laws.specs.PlaceLaws.{begins_first, begins_sample, begins_now, begins_later, begins-quoted, EnoughAt, Enough}
+use Rattle.laws.specs.PlaceLaws.{begins_first, begins_sample, begins_now, begins_later, begins_quoted, EnoughAt, Enough}
 use Rattle.laws.specs.EnoughNumbers.{no_bytes}
 use Rattle.laws.specs.ContentLaws.{text_in_lem, text_quoted, text_content, Ruled}
 
@@ -110,7 +110,7 @@ module _ (rule : TextRule) where
         go (y ∷ []) g e t (inr v) = begins_first (filled_text w) (y ∷ []) s ss 1 (rw (ap (λ l. get_or l 0 0) e) (filled_in_lem w 97 [] one))
         go (y ∷ (x ∷ q)) g e t (inr v) =
             rw (ap (λ l. get_or l 0 0) e)
-            (begins-quoted (rule w) (filled_text w) (x ∷ q) (34 ∷ (x ∷ q)) (after x q) (bytes "a" ∷ ls) (g v.0 (rw v.1 at o.sound)))
+            (begins_quoted (rule w) (filled_text w) (x ∷ q) (34 ∷ (x ∷ q)) (after x q) (bytes "a" ∷ ls) (g v.0 (rw v.1 at o.sound)))
 
     -- so the samples are enough
     pub enough_text : (w : ℕ) → Enough (filled_text w) (samples (text w))

@@ -63,13 +63,13 @@ module _ (sound : List ℕ → Bool) where
   begins_rest p (s ∷ ss) t = either (goes_on sound p s) (begins sound ss p) (goes_rest p s) (begins_rest p ss) t
 
 -- what goes on after q for one test goes on after p for another
-pub begins-carry :
+pub begins_carry :
     (a b : List ℕ → Bool) (q p : List ℕ) → ((e : List ℕ) → T (a (q ++ e)) → T (b (p ++ e))) → (ss : List (List ℕ)) → T (begins a ss q) → T (begins b ss p)
 unfolding begins goes_on
-begins-carry a b q p w [] t = absurd t
-begins-carry a b q p w (s ∷ ss) t =
+begins_carry a b q p w [] t = absurd t
+begins_carry a b q p w (s ∷ ss) t =
     or_out (goes_on a q s) (begins a ss q) (begins b (s ∷ ss) p) (λ u. or_l (goes_on b p s) (begins b ss p) (goes s u))
-    (λ u. or_r (goes_on b p s) (begins b ss p) (begins-carry a b q p w ss u)) t
+    (λ u. or_r (goes_on b p s) (begins b ss p) (begins_carry a b q p w ss u)) t
   where
     goes : (s : List ℕ) → T (goes_on a q s) → T (goes_on b p s)
     goes [] u = rw append-nil at (w [] (rw append-nil u))
@@ -78,15 +78,15 @@ begins-carry a b q p w (s ∷ ss) t =
         (λ v. or_r (b (p ++ (x ∷ s))) (goes_on b p s) (goes s v)) u
 
 -- what goes on after q for one test goes on after p, and then with a quote, for another
-pub begins-quoted :
+pub begins_quoted :
     (a b : List ℕ → Bool) (q p : List ℕ) → ((e : List ℕ) → T (a (q ++ e)) → T (b (p ++ (e ++ (34 ∷ []))))) → (ss : List (List ℕ))
     → T (begins a ss q) → T (begins b (map quoted ss) p)
 unfolding begins goes_on
-begins-quoted a b q p w [] t = absurd t
-begins-quoted a b q p w (s ∷ ss) t =
+begins_quoted a b q p w [] t = absurd t
+begins_quoted a b q p w (s ∷ ss) t =
     or_out (goes_on a q s) (begins a ss q) (begins b (map quoted (s ∷ ss)) p)
     (λ u. or_l (goes_on b p (quoted s)) (begins b (map quoted ss) p) (or_r (b (p ++ quoted s)) (goes_on b p (s ++ (34 ∷ []))) (goes s u)))
-    (λ u. or_r (goes_on b p (quoted s)) (begins b (map quoted ss) p) (begins-quoted a b q p w ss u)) t
+    (λ u. or_r (goes_on b p (quoted s)) (begins b (map quoted ss) p) (begins_quoted a b q p w ss u)) t
   where
     goes : (s : List ℕ) → T (goes_on a q s) → T (goes_on b p (s ++ (34 ∷ [])))
     goes [] u = goes_drop b p (34 ∷ []) 0 (w [] (rw append-nil u))

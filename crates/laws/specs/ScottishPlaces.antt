@@ -34,21 +34,21 @@ can_begin : TextRule → Field → Bool
 can_begin rule d = begins_as rule d.form d.filled []
 
 -- where that is so of every row of the table, the place that the definition gives is right
-placed-under :
+placed_under :
     (rule : TextRule) → Ruled rule → ((k : Kind) → T (all (can_begin rule) (fields k))) → (k : Kind) (i : ℕ) → i < length (fields k)
     → (f : List ℕ) → Placed (sound_as rule (row_at k i).form (row_at k i).filled) f (place_as rule (row_at k i).form (row_at k i).filled f)
 unfolding can_begin
-placed-under rule ruled able k i h = place_right rule ruled (row_at k i).form (row_at k i).filled (all_at (can_begin rule) (fields k) i h (able k))
+placed_under rule ruled able k i h = place_right rule ruled (row_at k i).form (row_at k i).filled (all_at (can_begin rule) (fields k) i h (able k))
 
 -- it is so of characters
 pub scottish_placed : (k : Kind) (i : ℕ) → i < length (fields k) → (f : List ℕ) → Placed (sound_field scottish (row_at k i)) f (place_in scottish (row_at k i) f)
 unfolding computed begins_as can_begin
-scottish_placed = placed-under by_characters characters_ruled (λ k. every (λ k. all (can_begin by_characters) (fields k)) tt k)
+scottish_placed = placed_under by_characters characters_ruled (λ k. every (λ k. all (can_begin by_characters) (fields k)) tt k)
 
 -- and of bytes: 'before' means the place that request 01 asks for, with bytes counted
 pub before_placed : (k : Kind) (i : ℕ) → i < length (fields k) → (f : List ℕ) → Placed (sound_field before (row_at k i)) f (place_in before (row_at k i) f)
 unfolding computed begins_as can_begin by_bytes
-before_placed = placed-under by_bytes bytes_ruled (λ k. every (λ k. all (can_begin by_bytes) (fields k)) tt k)
+before_placed = placed_under by_bytes bytes_ruled (λ k. every (λ k. all (can_begin by_bytes) (fields k)) tt k)
 
 -- and no other number is
 pub scottish_only : (k : Kind) (i : ℕ) → i < length (fields k) → (f : List ℕ) (p : ℕ) → Placed (sound_field scottish (row_at k i)) f p → p ≡ place_in scottish (row_at k i) f

@@ -12,7 +12,7 @@ use lib.Seq.{take_at, take_all}
 use Rattle.base.specs.Lists.{bytes}
 use Rattle.base.proofs.Walk.{at_cons, at_end_lem}
 use Rattle.text.specs.Front.{in_front}
-use Rattle.text.proofs.FrontLaws.{front_same, front-then, front_room}
+use Rattle.text.proofs.FrontLaws.{front_same, front_then, front_room}
 use Rattle.meaning.specs.Forms.{Form, quoted, is_textual, empty_of}
 use Rattle.meaning.specs.Place.{goes_on, begins, samples}
 use Rattle.form.specs.Codes.{in_quotes}
@@ -32,7 +32,7 @@ module _ (p e old new : List ℕ) (n : ℕ) (pn : n ≡ length p) (w : new ≡ i
 
   -- and both stand in front
   pub both_front : (last : List ℕ) → last ≡ in_front e (take (length new - n) (drop n new)) → put_mid n (length new - n) new last ≡ in_front (p ++ e) old
-  both_front last v = front-then p e old new last n pn w v
+  both_front last v = front_then p e old new last n pn w v
 
 -- they are as long as both
 pub both_length : (p e : List ℕ) (n m : ℕ) → n ≡ length p → m ≡ length e → n + m ≡ length (p ++ e)

@@ -252,15 +252,15 @@ module _ (kd : Kind) (t a : List ℕ) (u : Parted kd t a) (i : ℕ) (h : i ≤ 2
   early_room = omega (arith, u.room)
 
 -- where none is malformed each that is there is sound as its row has it
-pub low-sound :
+pub low_sound :
     (n : ℕ) (ds : List Row) (fs : List (List ℕ)) (i : ℕ) → none ≡ lowest_bad n ds fs → i < length ds → i < length fs
     → T (sound_as scottish.text_rule (get_or ds i no_row).0 (get_or ds i no_row).1 (get_or fs i []))
 unfolding lowest_bad
-low-sound n [] fs i z h g = absurd (omega arith)
-low-sound n (d ∷ ds) [] i z h g = absurd (omega arith)
-low-sound n (d ∷ ds) (f ∷ fs) zero z h g = (ok_ask (sound_as scottish.text_rule d.0 d.1 f) (bad_field n d f) (lowest_bad (suc n) ds fs) (sym z)).0
-low-sound n (d ∷ ds) (f ∷ fs) (suc i) z h g =
-    low-sound (suc n) ds fs i (sym (ok_ask (sound_as scottish.text_rule d.0 d.1 f) (bad_field n d f) (lowest_bad (suc n) ds fs) (sym z)).1) (omega arith) (omega arith)
+low_sound n [] fs i z h g = absurd (omega arith)
+low_sound n (d ∷ ds) [] i z h g = absurd (omega arith)
+low_sound n (d ∷ ds) (f ∷ fs) zero z h g = (ok_ask (sound_as scottish.text_rule d.0 d.1 f) (bad_field n d f) (lowest_bad (suc n) ds fs) (sym z)).0
+low_sound n (d ∷ ds) (f ∷ fs) (suc i) z h g =
+    low_sound (suc n) ds fs i (sym (ok_ask (sound_as scottish.text_rule d.0 d.1 f) (bad_field n d f) (lowest_bad (suc n) ds fs) (sym z)).1) (omega arith) (omega arith)
 
 module _ (kd : Kind) (t : List ℕ) (l : Layout) (e : l ≡ laid_out kd) where
   -- a kind with no START_DATE has nothing to be before

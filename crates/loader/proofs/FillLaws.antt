@@ -12,7 +12,7 @@ use Rattle.base.specs.Lists.{zeros}
 use Rattle.base.specs.ListLaws.{length_zeros}
 use Rattle.meaning.specs.Load.{then_zeros}
 use Rattle.text.specs.Front.{in_front}
-use Rattle.text.proofs.FrontLaws.{front-then}
+use Rattle.text.proofs.FrontLaws.{front_then}
 use Rattle.writer.specs.declared.room.Fitted.{Fitted}
 use Rattle.writer.specs.Room.{PutIfFits}
 use Rattle.writer.proofs.FitLaws.{fits_in}
@@ -30,7 +30,7 @@ fill_rest w old new last n e f h l z =
     let t : length (take (length new - n) (drop n new)) ≡ length old - length w = simp (length-take, length-drop) (omega arith) in
     let b : last ≡ zeros (length old - length w) = z ∙ ap zeros t in
     let g : last ≡ in_front (zeros (length old - length w)) (take (length new - n) (drop n new)) = b ∙ sym (all_front (zeros (length old - length w)) (take (length new - n) (drop n new)) (omega (arith, t, length_zeros (length old - length w)))) in
-    front-then w (zeros (length old - length w)) old new last n e f g
+    front_then w (zeros (length old - length w)) old new last n e f g
     ∙ all_front (w ++ zeros (length old - length w)) old (omega (arith, length-append w (zeros (length old - length w)), length_zeros (length old - length w)))
 
 pub ruleset filling = (rules, fill_rest)

@@ -11,7 +11,7 @@ use lib.ListN.{length, take, drop, length-append, length-drop}
 use lib.Seq.{length-take-le, take_all}
 use Rattle.text.specs.Front.{in_front}
 use Rattle.text.specs.Places.{line_end}
-use Rattle.text.proofs.FrontLaws.{front_same, front-then, front-last, last_room}
+use Rattle.text.proofs.FrontLaws.{front_same, front_then, front_last, last_room}
 use Rattle.writer.specs.declared.room.Fitted.{Fitted}
 use Rattle.writer.specs.Room.{PutIfFits}
 use Rattle.writer.specs.Runs.{back_texts}
@@ -86,7 +86,7 @@ module _ (h f steps before : List ℕ) (n e x : ℕ) (q : x ≡ line_end f 0) (w
                 whole,
                 first_long,
                 v.size t,
-                front_same (first ++ body) old mid (omega (arith, roomy, whole, first_long, two, v.size t)) (front-then first body old new last k p u (v.front t)),
+                front_same (first ++ body) old mid (omega (arith, roomy, whole, first_long, two, v.size t)) (front_then first body old new last k p u (v.front t)),
               )
 
           -- as far as can be counted
@@ -107,4 +107,4 @@ module _ (h f steps before : List ℕ) (n e x : ℕ) (q : x ≡ line_end f 0) (w
                 → PutIfFits text (length old) old (record { fits = true; size = k + b.size + j }) (put_mid (k + b.size) (length mid - (k + b.size)) mid end)
             put_done end z =
                 put_whole text (length old) old _ (k + b.size + j) roomy (omega (arith, whole, first_long, rest_long, v.size t))
-                (front-last first body rest old new last end k b.size p u (v.size t) (v.front t) z ∙ ap (λ x. in_front x old) parts)
+                (front_last first body rest old new last end k b.size p u (v.size t) (v.front t) z ∙ ap (λ x. in_front x old) parts)

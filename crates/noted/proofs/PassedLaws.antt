@@ -20,7 +20,7 @@ use Rattle.text.proofs.LineLaws.{ends_there}
 use Rattle.text.proofs.FieldLaws.{fields_many}
 use Rattle.layout.specs.declared.records.Layout.{Layout}
 use Rattle.layout.specs.Rows.{bare, row_of, places_of, padded, sources, laid_out}
-use Rattle.layout.proofs.CheckLaws.{fields_high, low-sound}
+use Rattle.layout.proofs.CheckLaws.{fields_high, low_sound}
 use Rattle.pass.specs.Kinds.{PassedAs}
 use Rattle.entries.specs.Entries.{rec_of, line_at}
 use Rattle.entries.specs.Fields.{after_fields}
@@ -57,7 +57,7 @@ module _ (k : Kind) (s a : List ℕ) (at e : ℕ) (p : PassedAs k s a at e) wher
   -- each is sound
   pub passed_sound : (i : ℕ) → i < length (fields k) → T (sound_as scottish.text_rule (row_of k i).0 (row_of k i).1 (get_or (fields_of (take (e - at) (drop at s))) i []))
   unfolding row_of
-  passed_sound i h = low-sound 1 (map bare (fields k)) (fields_of (take (e - at) (drop at s))) i p.line.low (rw length-map h) (rw passed_many h)
+  passed_sound i h = low_sound 1 (map bare (fields k)) (fields_of (take (e - at) (drop at s))) i p.line.low (rw length-map h) (rw passed_many h)
 
 -- ---- the places of a key, and of what is referred to
 

@@ -50,13 +50,13 @@ module _ (f : List ℕ) (h : length f ≡ 10) (y : Bool) (q : y ≡ is_digits 4 
               rw (eq-eqb (length f) 10 h, sym q ∙ t, byte_yes f 4 5 10 45 h refl refl e, sym p ∙ u, byte_yes f 7 8 10 45 h refl refl l, sym o ∙ v)
 
           -- the day that is named decides
-          pub date-done :
+          pub date_done :
               d ≡ true → (r : Bool) (a b c : ℕ) → r ≡ is_day a b c → a ≡ value (part f 0 4) → b ≡ value (part f 5 7) → c ≡ value (part f 8 10) → r ≡ is_date f
           unfolding is_date
-          date-done v r a b c k ea eb ec =
+          date_done v r a b c k ea eb ec =
               rw (eq-eqb (length f) 10 h, sym q ∙ t, byte_yes f 4 5 10 45 h refl refl e, sym p ∙ u, byte_yes f 7 8 10 45 h refl refl l, sym o ∙ v, sym ea, sym eb, sym ec) k
 
-pub ruleset dated = (not-true, not-false, date_length, date_year, date_first, date_month, date_second, date_day, date-done)
+pub ruleset dated = (not-true, not-false, date_length, date_year, date_first, date_month, date_second, date_day, date_done)
 
 -- ---- a time
 

@@ -50,10 +50,10 @@ three k r =
     plain_past (ident k) (44 ∷ r) (and_r (eqb (length (ident k)) 2) (all plain (ident k)) (two_plain k)) ∙ omega (arith, two, comma_plain r)
 
 -- so the line is longer, and its identifier is the kind's
-pub kind-line :
+pub kind_line :
     (k : Kind) (s : List ℕ) (at e : ℕ) → at + 2 < length s → kind_of scottish (upto s at (at + 2)) ≡ some k → get_or s (at + 2) 0 ≡ 44 → e ≡ plain_end s at
     → kind_of scottish (identifier (upto s at e)) ≡ some k
-kind-line k s at e h o c p =
+kind_line k s at e h o c p =
     let i : upto s at (at + 2) ≡ ident k = kind_out scottish (upto s at (at + 2)) k o in
     let n : at + (at + 2 - at) ≡ at + 2 = omega arith in
     let d : drop at s ≡ ident k ++ (44 ∷ drop (at + 2 + 1) s) = sym (take-append-drop (at + 2 - at) (drop at s)) ∙ rw (drop-drop (at + 2 - at) at s, n, i, at_cons s (at + 2) h, c) in
@@ -103,7 +103,7 @@ module _ (k : Kind) (rows : List ℕ) (e : rows ≡ codes k) where
       let q : Passed (map bare (fields k)) s a at x = rw rows_say at p in
       record {
         line = q;
-        kind = kind-line k s at x b.0 b.1 b.2 q.plain;
+        kind = kind_line k s at x b.0 b.1 b.2 q.plain;
         parted = record { many = rw length-map at q.many; noted = q.noted; room = w };
         inside = l;
       }
@@ -116,7 +116,7 @@ module _ {Named : Type 0} (meant : Named → Kind) (kind kind' : Named) (e : kin
   arm_started a w n = (omega (arith, rows_few (meant kind') rows q), kind_started (meant kind') rows q s a at n (rw e at b))
 
   -- what they pass is a line of the kind
-  pub arm-passed :
+  pub arm_passed :
       (a a' : List ℕ) (r : ℕ) → 32 ≤ length a → (length a' ≡ length a) × (0 < r → Passed (map decoded rows) s a' at r × (r < length s))
       → (length a' ≡ length a) × (0 < r → PassedAs (meant kind) s a' at r)
-  arm-passed a a' r w p = (p.0, λ l. rw e (kind_passed (meant kind') rows q s a' at r (rw e at b) (omega (arith, p.0)) (p.1 l).1 (p.1 l).0))
+  arm_passed a a' r w p = (p.0, λ l. rw e (kind_passed (meant kind') rows q s a' at r (rw e at b) (omega (arith, p.0)) (p.1 l).1 (p.1 l).0))

@@ -33,9 +33,9 @@ pub past_not : {test : List ℕ → Bool} {s : List ℕ} {at : ℕ} → Past tes
 past_not l = absurd (omega arith)
 
 -- what is tested where it stands
-pub past-yes :
+pub past_yes :
     (test : List ℕ → Bool) (s : List ℕ) (at r : ℕ) (b : Bool) → at ≤ r → r < length s → b ≡ test (upto s at r) → b ≡ true → Past test s at r
-past-yes test s at r b h l e t _ = record { forward = h; inside = l; holds = sym e ∙ t }
+past_yes test s at r b h l e t _ = record { forward = h; inside = l; holds = sym e ∙ t }
 
 -- so many bytes, where what was tested of them says that they are so
 pub past_some : (test : List ℕ → Bool) (s : List ℕ) (at n : ℕ) → at + n < length s → test (take n (drop at s)) ≡ true → Past test s at (at + n)
@@ -60,10 +60,10 @@ pub one_seen : (test : List ℕ → Bool) (s : List ℕ) (at x : ℕ) → at + 1
 one_seen test s at x l e t _ = record { forward = omega arith; inside = l; holds = rw (upto_one s at (omega arith), e) t }
 
 -- one within quotes
-pub quoted-seen :
+pub quoted_seen :
     (test : List ℕ → Bool) (s : List ℕ) (at x : ℕ) → at + 3 < length s → get_or s at 0 ≡ 34 → get_or s (at + 2) 0 ≡ 34 → get_or s (at + 1) 0 ≡ x
     → test (quoted (x ∷ [])) ≡ true → Past test s at (at + 3)
-quoted-seen test s at x l e g k t _ =
+quoted_seen test s at x l e g k t _ =
     let z : at + 1 + 1 ≡ at + 2 = omega arith in
     let y : at + 2 + 1 ≡ at + 3 = omega arith in
     record {
@@ -75,20 +75,20 @@ quoted-seen test s at x l e g k t _ =
 -- ---- numbers
 
 -- 1 to w digits
-pub number-yes :
+pub number_yes :
     (s : List ℕ) (at r w : ℕ) → at ≤ r → r < length s → T (all is_digit (upto s at r)) → (r ≡ at → ⊥) → r - at ≤ w
     → Past (has_form by_characters (number w)) s at r
 unfolding has_form is_number
-number-yes s at r w h l d n k _ =
+number_yes s at r w h l d n k _ =
     let e = upto_length s at r (omega arith) in
     record { forward = h; inside = l; holds = rw (e, le-leb 1 (r - at) (omega arith), le-leb (r - at) w k) (T_true (all is_digit (upto s at r)) d) }
 
 -- that are worth 1 or more
-pub least-yes :
+pub least_yes :
     (s : List ℕ) (at r w : ℕ) (b : Bool) → Past (has_form by_characters (number w)) s at r → b ≡ leb 1 (value (upto s at r)) → b ≡ true
     → Past (has_form by_characters (at_least1 w)) s at r
 unfolding has_form
-least-yes s at r w b p e t = past_as (has_form by_characters (number w)) (has_form by_characters (at_least1 w)) s at r (λ h. rw h (sym e ∙ t)) p
+least_yes s at r w b p e t = past_as (has_form by_characters (number w)) (has_form by_characters (at_least1 w)) s at r (λ h. rw h (sym e ∙ t)) p
 
 -- ---- decimals
 
@@ -114,11 +114,11 @@ unfolding has_form is_number
 number_digits w f h = and_r (leb (length f) w) (all is_digit f) (and_r (leb 1 (length f)) (leb (length f) w && all is_digit f) (rw h tt))
 
 -- a number, a point and d digits, after a minus or none
-decimal-is :
+decimal_is :
     (w d : ℕ) (f x y : List ℕ) → unsigned f ≡ x ++ (46 ∷ y) → has_form by_characters (number w) x ≡ true → is_digits d y ≡ true
     → has_form by_characters (decimal w d) f ≡ true
 unfolding has_form is_decimal
-decimal-is w d f x y u n k = let g = number_digits w x n in rw (u, point_before x y g, point_after x y g, n) k
+decimal_is w d f x y u n k = let g = number_digits w x n in rw (u, point_before x y g, point_after x y g, n) k
 
 -- a minus in front is left out
 unsigned_is :
@@ -132,11 +132,11 @@ unsigned_is s at r m h e l = rw (upto_first s at r (omega arith) h) (go (eqb (ge
     go false z = let y : at + 0 ≡ at = omega arith in rw (z, y) (sym (upto_first s at r (omega arith) h))
 
 -- digits, a point and d digits after an optional minus
-pub decimal-yes :
+pub decimal_yes :
     (s : List ℕ) (at m p w d : ℕ) (b : Bool) → at < length s → m ≡ pick (eqb (get_or s at 0) 45) 1 0
     → Past (has_form by_characters (number w)) s (at + m) p → (p ≡ 0 → ⊥) → get_or s p 0 ≡ 46 → p + 1 + d < length s
     → b ≡ is_digits d (upto s (p + 1) (p + 1 + d)) → b ≡ true → Past (has_form by_characters (decimal w d)) s at (p + 1 + d)
-decimal-yes s at m p w d b h e n z c k q t _ =
+decimal_yes s at m p w d b h e n z c k q t _ =
     let g = n (omega arith) in
     let v = g.forward in
     let join : upto s (at + m) (p + 1 + d) ≡ upto s (at + m) p ++ (46 ∷ upto s (p + 1) (p + 1 + d)) =
@@ -145,17 +145,17 @@ decimal-yes s at m p w d b h e n z c k q t _ =
       forward = omega arith;
       inside = k;
       holds =
-          decimal-is w d (upto s at (p + 1 + d)) (upto s (at + m) p) (upto s (p + 1) (p + 1 + d)) (unsigned_is s at (p + 1 + d) m h e (omega arith) ∙ join) g.holds (sym q ∙ t);
+          decimal_is w d (upto s at (p + 1 + d)) (upto s (at + m) p) (upto s (p + 1) (p + 1 + d)) (unsigned_is s at (p + 1 + d) m h e (omega arith) ∙ join) g.holds (sym q ∙ t);
     }
 
 -- ---- texts
 
 -- two quotes, where nothing need be there
-pub text-empty :
+pub text_empty :
     (s : List ℕ) (at w : ℕ) (filled : Bool) → at + 2 < length s → get_or s at 0 ≡ 34 → get_or s (at + 1) 0 ≡ 34 → filled ≡ false
     → Past (sound_as by_characters (text w) filled) s at (at + 1 + 1)
 unfolding sound_as is_empty is_textual same
-text-empty s at w filled h e q f _ =
+text_empty s at w filled h e q f _ =
     record {
       forward = omega arith;
       inside = omega arith;
@@ -163,11 +163,11 @@ text-empty s at w filled h e q f _ =
     }
 
 -- a text that does not begin with two quotes is sound
-pub text-other :
+pub text_other :
     (s : List ℕ) (at r w : ℕ) (filled : Bool) → (get_or s (at + 1) 0 ≡ 34 → ⊥) → Past (has_form by_characters (text w)) s at r
     → Past (sound_as by_characters (text w) filled) s at r
 unfolding sound_as is_empty is_textual
-text-other s at r w filled n p l =
+text_other s at r w filled n p l =
     let g = p l in
     record { forward = g.forward; inside = g.inside; holds = go g (same (upto s at r) (34 ∷ 34 ∷ [])) refl }
   where
@@ -232,17 +232,17 @@ form_sound m filled f n h = go (same f (empty_of m)) refl
     go false e = h
 
 -- the leaf of the row's form saw it
-pub filled-as :
+pub filled_as :
     (m n : Form) (row : ℕ) (s : List ℕ) (at r : ℕ) → n ≡ form_decoded row → n ≡ m → T (not (is_free_text m)) → Past (has_form by_characters m) s at r
     → Past (sound_by row) s at r
-filled-as m n row s at r e q t p =
+filled_as m n row s at r e q t p =
     past_as (has_form by_characters m) (sound_by row) s at r (λ h. rw (← e, q) (form_sound m (filled_decoded row) (upto s at r) t h)) p
 
 -- the leaf of texts did
-pub text-as :
+pub text_as :
     (w : ℕ) (n : Form) (b : Bool) (row : ℕ) (s : List ℕ) (at r : ℕ) → n ≡ form_decoded row → n ≡ text w → b ≡ filled_decoded row
     → Past (sound_as by_characters (text w) b) s at r → Past (sound_by row) s at r
-text-as w n b row s at r e q f p = past_as (sound_as by_characters (text w) b) (sound_by row) s at r (λ h. rw (← e, q, ← f) h) p
+text_as w n b row s at r e q f p = past_as (sound_as by_characters (text w) b) (sound_by row) s at r (λ h. rw (← e, q, ← f) h) p
 
 -- the decimals that a form has
 decimals : Form → ℕ

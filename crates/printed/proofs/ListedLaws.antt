@@ -13,7 +13,7 @@ use Rattle.theory.specs.DecimalLaws.{length_dec}
 use Rattle.meaning.specs.Answers.{Numbers}
 use Rattle.meaning.specs.Program.{comma_separated, print_numbers}
 use Rattle.text.specs.Front.{in_front}
-use Rattle.text.proofs.FrontLaws.{front_same, front-then, front_room, front-last, last_room}
+use Rattle.text.proofs.FrontLaws.{front_same, front_then, front_room, front_last, last_room}
 use Rattle.text.proofs.NumberLaws.{width_most}
 use Rattle.printed.specs.Printed.{number_then, three_then}
 
@@ -50,7 +50,7 @@ module _ (x : ℕ) (h : Fits w64 x) (mark old : List ℕ) (room : 20 + length ma
       -- with the mark both are there
       pub number_done : (last : List ℕ) → last ≡ in_front mark (take (length new - n) (drop n new)) → put_mid n (length new - n) new last ≡ in_front (number_then x mark) old
       unfolding number_then
-      number_done last w = front-then (dec x) mark old new last n (p ∙ sym (length_dec x)) q w
+      number_done last w = front_then (dec x) mark old new last n (p ∙ sym (length_dec x)) q w
 
 pub ruleset numbered = (rules, number_room, number_within, number_count, number_most, number_fits, mark_room, number_done)
 
@@ -79,7 +79,7 @@ module _ (a b c : ℕ) (mark old new : List ℕ) (n : ℕ) (room : 62 + length m
         → end ≡ in_front (number_then c mark) (take (length (put_mid n (length new - n) new last) - (n + m)) (drop (n + m) (put_mid n (length new - n) new last)))
         → put_mid (n + m) (length (put_mid n (length new - n) new last) - (n + m)) (put_mid n (length new - n) new last) end ≡ in_front (three_then a b c mark) old
     unfolding three_then
-    three_done end w = front-last (number_then a (44 ∷ [])) (number_then b (44 ∷ [])) (number_then c mark) old new last end n m p q r u w
+    three_done end w = front_last (number_then a (44 ∷ [])) (number_then b (44 ∷ [])) (number_then c mark) old new last end n m p q r u w
 
 pub ruleset threefold = (rules, second_room, third_room, three_count, three_done)
 
@@ -120,6 +120,6 @@ module _ (a : Numbers) (old new : List ℕ) (n : ℕ) (room : 148 ≤ length old
     pub listed_done : (end : List ℕ)
         → end ≡ in_front (placed a) (take (length (put_mid n (length new - n) new last) - (n + m)) (drop (n + m) (put_mid n (length new - n) new last)))
         → put_mid (n + m) (length (put_mid n (length new - n) new last) - (n + m)) (put_mid n (length new - n) new last) end ≡ in_front (print_numbers a) old
-    listed_done end w = front-last (told a) (counted a) (placed a) old new last end n m p q r u w ∙ ap (λ t. in_front t old) (parts a)
+    listed_done end w = front_last (told a) (counted a) (placed a) old new last end n m p q r u w ∙ ap (λ t. in_front t old) (parts a)
 
 pub ruleset listed = (rules, listed_count, counts_room, place_room, listed_done)

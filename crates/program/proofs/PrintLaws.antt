@@ -19,7 +19,7 @@ use Rattle.meaning.specs.Answers.{Answer, alone, refused_with}
 use Rattle.laws.specs.Takes.{TookSays, took_takes}
 use Rattle.laws.specs.Scottish.{scottish_regular}
 use Rattle.text.specs.Front.{in_front}
-use Rattle.text.proofs.FrontLaws.{front-then}
+use Rattle.text.proofs.FrontLaws.{front_then}
 use Rattle.answers.specs.Meant.{answer_of, refusal_of, refusal_meant, numbers_meant}
 use Rattle.answers.specs.declared.numbers.Answer.{Answer as Numbers}
 use Rattle.meaning.specs.Codes.{undo_too_long, input_unusable}
@@ -75,7 +75,7 @@ module _ (old b : List ℕ) (a : Numbers) (out undo : List ℕ) (o : Outcome old
     -- with the new holding all is there
     pub print_done : (free new last : List ℕ) → new ≡ in_front (print_numbers (numbers_meant a)) free → last ≡ in_front (take (size - 0) (drop 0 out)) (take (length new - n) (drop n new))
         → put_mid n (length new - n) new last ≡ in_front (print_load (load scottish 65536 65536 old b)) free
-    print_done free new last e w = front-then (print_numbers (numbers_meant a)) (take (size - 0) (drop 0 out)) free new last n p e w ∙ ap (λ t. in_front t free) print_parts
+    print_done free new last e w = front_then (print_numbers (numbers_meant a)) (take (size - 0) (drop 0 out)) free new last n p e w ∙ ap (λ t. in_front t free) print_parts
 
 -- ---- 18, then the load
 

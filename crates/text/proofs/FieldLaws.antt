@@ -120,11 +120,11 @@ unfolding field_count odd_quotes fields_of
 count_start l = rw zero-add
 
 -- a separator is one more
-pub count-sep :
+pub count_sep :
     (l : List ℕ) (q : Bool) (m i x : ℕ) (b : Bool) →
     count_at l q m i ≡ x → i < length l → b ≡ is_sep q (get_or l i 0) → b ≡ true → count_at l q (m + 1) (i + 1) ≡ x
 unfolding quote_after fields_from add_byte
-count-sep l q m i x b e h p t =
+count_sep l q m i x b e h p t =
     let s : is_sep q (get_or l i 0) ≡ true = sym p ∙ t in
     let e' : found (turned q (get_or l i 0)) ≡ x = rw (at_cons l i h, s) at e in
     ap (λ (k : ℕ). pick (quote_after q (drop (i + 1) l)) 0 k) (omega arith) ∙ (rw (sep_stays q (get_or l i 0) s) at e')
@@ -133,11 +133,11 @@ count-sep l q m i x b e h p t =
     found q' = pick (quote_after q' (drop (i + 1) l)) 0 (m + suc (length (fields_from q' (drop (i + 1) l))))
 
 -- another byte is not
-pub count-other :
+pub count_other :
     (l : List ℕ) (q : Bool) (m i x : ℕ) (b q' : Bool) →
     count_at l q m i ≡ x → i < length l → b ≡ is_sep q (get_or l i 0) → b ≡ false → q' ≡ turned q (get_or l i 0) → count_at l q' m (i + 1) ≡ x
 unfolding quote_after fields_from add_byte
-count-other l q m i x b q' e h p t k =
+count_other l q m i x b q' e h p t k =
     let s : is_sep q (get_or l i 0) ≡ false = sym p ∙ t in
     rw k (go (fields_from (turned q (get_or l i 0)) (drop (i + 1) l)) (fields_some (turned q (get_or l i 0)) (drop (i + 1) l)) (rw (at_cons l i h, s) at e))
   where
@@ -193,22 +193,22 @@ unfolding field_len
 end_stop l q i x b e h p t = sym (add-zero i) ∙ (rw (at_cons l i h, sym p ∙ t) at e)
 
 -- another byte is passed
-pub end-turn :
+pub end_turn :
     (l : List ℕ) (q : Bool) (i x : ℕ) (b q' : Bool) →
     end_at l q i ≡ x → i < length l → b ≡ is_sep q (get_or l i 0) → b ≡ false → q' ≡ turned q (get_or l i 0) → end_at l q' (i + 1) ≡ x
 unfolding field_len
-end-turn l q i x b q' e h p t k = rw k (omega (arith, rw (at_cons l i h, sym p ∙ t) at e))
+end_turn l q i x b q' e h p t k = rw k (omega (arith, rw (at_cons l i h, sym p ∙ t) at e))
 
 -- so is a byte above the comma
 pub end_high : (l : List ℕ) (q : Bool) (i x : ℕ) → end_at l q i ≡ x → i < length l → 44 < get_or l i 0 → end_at l q (i + 1) ≡ x
-end_high l q i x e h g = end-turn l q i x false q e h (sym (high_sep q (get_or l i 0) g)) refl (sym (high_stays q (get_or l i 0) g))
+end_high l q i x e h g = end_turn l q i x false q e h (sym (high_sep q (get_or l i 0) g)) refl (sym (high_stays q (get_or l i 0) g))
 
 -- so does the line's end
 pub end_done : (l : List ℕ) (q : Bool) (i x : ℕ) → end_at l q i ≡ x → length l ≤ i → i ≡ x
 unfolding field_len
 end_done l q i x e h = sym (add-zero i) ∙ (rw (at_end_lem l i h) at e)
 
-pub ruleset ending = (rules, end_stop, end-turn, end_high, end_done)
+pub ruleset ending = (rules, end_stop, end_turn, end_high, end_done)
 
 -- ---- the fields of the meaning
 

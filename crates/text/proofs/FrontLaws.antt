@@ -32,11 +32,11 @@ front_same w old new l e = ap length e ∙ length-append w (drop (length w) old)
 -- ---- writers one after another
 
 -- a tail that was lent from the end of a on came back with b in its front
-pub front-then :
+pub front_then :
     (a b old new last : List ℕ) (n : ℕ) →
     n ≡ length a → new ≡ in_front a old → last ≡ in_front b (take (length new - n) (drop n new)) → put_mid n (length new - n) new last ≡ in_front (a ++ b) old
 unfolding in_front
-front-then a b old new last n p q w =
+front_then a b old new last n p q w =
     let tail : drop n new ≡ drop (length a) old = rw (q, p) (drop_at a (drop (length a) old) (length a) refl) in
     let front : take n new ≡ a = rw (q, p) (take_at a (drop (length a) old) (length a) refl) in
     let whole : take (length new - n) (drop n new) ≡ drop n new = take_all (length new - n) (drop n new) (rw (length-drop n new) (omega arith)) in
@@ -52,15 +52,15 @@ front_room w old new n m p e l =
 module _ (a b c old new last end : List ℕ) (n m : ℕ) (p : n ≡ length a) (q : new ≡ in_front a old) (r : m ≡ length b)
     (u : last ≡ in_front b (take (length new - n) (drop n new))) where
   -- three writers, each lent the tail that the one before it left
-  pub front-last :
+  pub front_last :
       end ≡ in_front c (take (length (put_mid n (length new - n) new last) - (n + m)) (drop (n + m) (put_mid n (length new - n) new last)))
       → put_mid (n + m) (length (put_mid n (length new - n) new last) - (n + m)) (put_mid n (length new - n) new last) end ≡ in_front (a ++ (b ++ c)) old
-  front-last w =
+  front_last w =
       let l : n + m ≡ length (a ++ b) = omega (arith, length-append a b) in
-      front-then (a ++ b) c old (put_mid n (length new - n) new last) end (n + m) l (front-then a b old new last n p q u) w ∙ rw append_assoc
+      front_then (a ++ b) c old (put_mid n (length new - n) new last) end (n + m) l (front_then a b old new last n p q u) w ∙ rw append_assoc
 
   -- the third has the room that the first two leave
   pub last_room : (k : ℕ) → n + m + k ≤ length old → k ≤ length (take (length (put_mid n (length new - n) new last) - (n + m)) (drop (n + m) (put_mid n (length new - n) new last)))
   last_room k h =
       let l : n + m ≡ length (a ++ b) = omega (arith, length-append a b) in
-      front_room (a ++ b) old (put_mid n (length new - n) new last) (n + m) k l (front-then a b old new last n p q u) h
+      front_room (a ++ b) old (put_mid n (length new - n) new last) (n + m) k l (front_then a b old new last n p q u) h

@@ -22,16 +22,16 @@ set_same new i v n e = rw length-set e
 -- ---- the walk of a copy, i bytes on
 
 -- one byte more
-pub copy-turn :
+pub copy_turn :
     (s old new : List ℕ) (i : ℕ) → new ≡ in_front (take i s) old → i < length s → length s ≤ length old → set new i (get_or s i 0) ≡ in_front (take (i + 1) s) old
-copy-turn s old new i e h k =
+copy_turn s old new i e h k =
     rw (add-one i, take-suc s i 0 h) (front_more (take i s) old new i (get_or s i 0) (length-take-le i s (omega arith)) (omega arith) e)
 
 -- all are there
 pub copy_done : (s old new : List ℕ) (i : ℕ) → new ≡ in_front (take i s) old → length s ≤ i → new ≡ in_front s old
 copy_done s old new i e h = rw (take_all i s h) at e
 
-pub ruleset copying = (rules, front_none, set_same, copy-turn, copy_done)
+pub ruleset copying = (rules, front_none, set_same, copy_turn, copy_done)
 
 -- ---- the walk of digits from the last, with i digits left to write
 
@@ -45,12 +45,12 @@ unfolding digits_at in_front dec
 digit_start n w old e = rw (length_dec n, e)
 
 -- one more is written
-pub digit-turn :
+pub digit_turn :
     (out x : List ℕ) (left i w n l : ℕ) → digits_at out left i ≡ x → 0 < i → i ≤ w → w ≡ width n → width n ≤ l → length out ≡ l
     → digits_at (set out (i - 1) (48 + left % 10)) (left / 10) (i - 1) ≡ x
 unfolding digits_at
-digit-turn out x left zero w n l e h k m q r = absurd (omega arith)
-digit-turn out x left (suc i) w n l e h k m q r = rw (less, rest, ← append_snoc (digits i (left / 10)) v (drop (suc i) out)) e
+digit_turn out x left zero w n l e h k m q r = absurd (omega arith)
+digit_turn out x left (suc i) w n l e h k m q r = rw (less, rest, ← append_snoc (digits i (left / 10)) v (drop (suc i) out)) e
   where
     v : ℕ
     v = 48 + left % 10
@@ -69,7 +69,7 @@ unfolding digits_at
 digit_done out x left zero e h = e
 digit_done out x left (suc i) e h = absurd (omega arith)
 
-pub ruleset numbering = (rules, set_same, digit_start, digit-turn, digit_done)
+pub ruleset numbering = (rules, set_same, digit_start, digit_turn, digit_done)
 
 -- ---- the walk of zeros, i zeros on
 

@@ -15,7 +15,7 @@ use Rattle.base.specs.Lists.{pick}
 use Rattle.base.proofs.Walk.{at_cons, at_end_lem}
 use Rattle.meaning.specs.Lines.{is_sep, turned, add_byte, fields_from, fields_of}
 use Rattle.text.specs.Places.{field_count, field_len, field_end, ends_from, field_ends, Notes}
-use Rattle.text.proofs.FieldLaws.{sep_outside, sep_stays, high_sep, high_stays, fields_some, fields_at, count_at, count_start, count-sep, count-other, count_open, count_shut}
+use Rattle.text.proofs.FieldLaws.{sep_outside, sep_stays, high_sep, high_stays, fields_some, fields_at, count_at, count_start, count_sep, count_other, count_open, count_shut}
 
 -- ---- as many ends as fields
 
@@ -53,7 +53,7 @@ unfolding ends_from
 split_other t a q m i b q' s h p f k =
     let z : is_sep q (get_or t i 0) ≡ false = sym p ∙ f in
     let n : suc i ≡ i + 1 = omega arith in
-    record { counted = count-other t q m i _ b q' s.counted h p f k; left = s.left ∙ rw (at_cons t i h, z, k, n); noted = s.noted }
+    record { counted = count_other t q m i _ b q' s.counted h p f k; left = s.left ∙ rw (at_cons t i h, z, k, n); noted = s.noted }
 
 -- one above the comma, at once
 pub split_high : (t a : List ℕ) (q : Bool) (m i : ℕ) → Splitting t a q m i → i < length t → 44 < get_or t i 0 → Splitting t a q m (i + 1)
@@ -86,7 +86,7 @@ split_sep t a c q m i b s h p f e =
     let here : drop m (field_ends t) ≡ i ∷ ends_from (turned q (get_or t i 0)) (suc i) (drop (i + 1) t) = s.left ∙ rw (at_cons t i h, z) in
     let n : suc i ≡ i + 1 = omega arith in
     record {
-      counted = count-sep t q m i _ b s.counted h p f;
+      counted = count_sep t q m i _ b s.counted h p f;
       left = sym (drop-drop 1 m (field_ends t)) ∙ ap (drop 1) here ∙ rw (sep_stays q (get_or t i 0) z, n);
       noted = rw e (noted_next t a m i _ here s.noted);
     }

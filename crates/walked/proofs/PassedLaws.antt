@@ -19,7 +19,7 @@ pub passed_sound : (k : Kind) (s a : List ℕ) (at r : ℕ) → PassedAs k s a a
 passed_sound k s a at r p = record { kind = k; known = p.kind; formed = p.line.low }
 
 -- and so is one in which the exact check finds no field malformed
-pub judged-sound :
+pub judged_sound :
     (k : Kind) (s : List ℕ) (at r : ℕ) (f : Fault) → some k ≡ kind_of scottish (identifier (upto s at r)) → f ≡ told (lowest_bad 1 (map bare (fields k)) (fields_of (upto s at r))) → f.code ≡ 0
     → SoundUpTo s at r
-judged-sound k s at r f e q z = record { kind = k; known = sym e; formed = sym (bad_coded 1 (map bare (fields k)) (fields_of (upto s at r)) (ap (λ x. x.code) (sym q) ∙ z)) }
+judged_sound k s at r f e q z = record { kind = k; known = sym e; formed = sym (bad_coded 1 (map bare (fields k)) (fields_of (upto s at r)) (ap (λ x. x.code) (sym q) ∙ z)) }

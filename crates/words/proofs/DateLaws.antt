@@ -14,7 +14,7 @@ use Rattle.base.specs.Tests.{and_in, and_l, and_r, or_not}
 use Rattle.theory.specs.Decimal.{value, value_f}
 use Rattle.meaning.specs.Forms.{is_digit, is_digits, is_leap, days_in, is_day, is_date}
 use Rattle.words.specs.Words.{word, is_byte, rep, marks, Century}
-use Rattle.words.proofs.LaneLaws.{marks-lane, below, below_one, next, eight, eight-at}
+use Rattle.words.proofs.LaneLaws.{marks_lane, below, below_one, next, eight, eight_at}
 
 -- ---- bytes as a pattern of digits and minuses asks
 
@@ -100,7 +100,7 @@ quiets (p ∷ ps) [] l t e = absurd (omega arith)
 quiets (p ∷ ps) (b ∷ bs) l t e =
     let h = ltb→lt b 256 (and_l (is_byte b) (all is_byte bs) t) in
     let f : marks (length ps) (word bs) (each like ps) (each over ps) * 256 + marks 1 b (like p) (over p) ≡ 0 =
-    sym (marks-lane (length ps) (word bs) (each like ps) (each over ps) b (like p) (over p) h (like_byte p) (over_byte p))
+    sym (marks_lane (length ps) (word bs) (each like ps) (each over ps) b (like p) (over p) h (like_byte p) (over_byte p))
     ∙ e
     in
     let one = quiet p b h (omega arith) in
@@ -290,11 +290,11 @@ module _ (b0 b1 b2 b3 b4 b5 b6 b7 : ℕ) (t : Quiet (b0 ∷ b1 ∷ b2 ∷ b3 ∷
           (sym (day_of_lem (b0 - 48) (b1 - 48) (b3 - 48) (b4 - 48) (b6 - 48) (b7 - 48) smalls g) ∙ ap (day_of g) (sym spread_is) ∙ day)
 
 -- what holds of any eight holds of a list of eight
-by-eight :
+by_eight :
     (P : List ℕ → Type 0) → ((b0 b1 b2 b3 b4 b5 b6 b7 : ℕ) → P (b0 ∷ b1 ∷ b2 ∷ b3 ∷ b4 ∷ b5 ∷ b6 ∷ b7 ∷ []))
     → (bs : List ℕ) → length bs ≡ 8 → P bs
-by-eight P f bs n =
-    let e = sym (eight-at bs 0 (omega arith)) ∙ take_all 8 bs (omega arith) in
+by_eight P f bs n =
+    let e = sym (eight_at bs 0 (omega arith)) ∙ take_all 8 bs (omega arith) in
     subst P e (f (get_or bs 0 0) (get_or bs 1 0) (get_or bs 2 0) (get_or bs 3 0) (get_or bs 4 0) (get_or bs 5 0) (get_or bs 6 0) (get_or bs 7 0))
 
 -- ---- the ten bytes of a slice
@@ -316,14 +316,14 @@ module _
 
     -- what was read is small
     pub small_at : digits_of w ≤ 0x0909090909090909
-    small_at = rw e (by-eight (λ l. Quiet l → digits_of (word l) ≤ 0x0909090909090909) few (take 8 (drop (at + 2) s)) eight_still still)
+    small_at = rw e (by_eight (λ l. Quiet l → digits_of (word l) ≤ 0x0909090909090909) few (take 8 (drop (at + 2) s)) eight_still still)
 
     -- a real day is a date
-    pub dated-at :
+    pub dated_at :
         (g : ℕ) → Century (get_or s at 0) (get_or s (at + 1) 0) g → day_of g (digits_of w) ≡ true → is_date (take 10 (drop at s)) ≡ true
-    dated-at g c day =
+    dated_at g c day =
         ap is_date whole
-        ∙ by-eight (λ l. Quiet l → day_of g (digits_of (word l)) ≡ true → is_date (get_or s at 0 ∷ get_or s (at + 1) 0 ∷ l) ≡ true)
+        ∙ by_eight (λ l. Quiet l → day_of g (digits_of (word l)) ≡ true → is_date (get_or s at 0 ∷ get_or s (at + 1) 0 ∷ l) ≡ true)
         (λ b0 b1 b2 b3 b4 b5 b6 b7 u. dated b0 b1 b2 b3 b4 b5 b6 b7 u (get_or s at 0) (get_or s (at + 1) 0) g c)
         (take 8 (drop (at + 2) s)) eight_still still (subst (λ x. day_of g (digits_of x) ≡ true) e day)
       where

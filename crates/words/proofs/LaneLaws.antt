@@ -26,11 +26,11 @@ sums : (x y u v : ℕ) → x * 256 + u + (y * 256 + v) ≡ (x + y) * 256 + (u + 
 sums x y u v = omega arith
 
 -- the marks of the lowest byte and of the rest
-pub marks-lane :
+pub marks_lane :
     (n w like over b p r : ℕ) → b < 256 → p < 256 → 127 + r < 256
     → marks (suc n) (w * 256 + b) (like * 256 + p) (over * 256 + r) ≡ marks n w like over * 256 + marks 1 b p r
 unfolding marks rep
-marks-lane n w like over b p r hb hp hr =
+marks_lane n w like over b p r hb hp hr =
     rw (
       xor_block 8 w like b p hb hp,
       and_block 8 (bit_xor w like) (rep n 127) (bit_xor b p) 127 hx (omega arith),
@@ -198,15 +198,15 @@ digit_marked bs = marks (length bs) (word bs) (rep (length bs) 48) (rep (length 
 digit_lanes : (b : ℕ) (r : List ℕ) → b < 256 → digit_marked (b ∷ r) ≡ digit_marked r * 256 + pick (is_digit b) 0 128
 unfolding digit_marked rep word
 digit_lanes b r h =
-    marks-lane (length r) (word r) (rep (length r) 48) (rep (length r) 118) b 48 118 h (omega arith) (omega arith)
+    marks_lane (length r) (word r) (rep (length r) 48) (rep (length r) 118) b 48 118 h (omega arith) (omega arith)
     ∙ ap (λ x. digit_marked r * 256 + x) (mark_digit b h)
 
 -- of eight bytes
-pub digits-eight :
+pub digits_eight :
     (bs : List ℕ) (w m : ℕ) → length bs ≡ 8 → T (all is_byte bs) → w ≡ word bs → m ≡ marks 8 w 0x3030303030303030 0x7676767676767676
     → count_trailing_zeros 64 m / 8 ≡ run is_digit bs
 unfolding digit_marked rep
-digits-eight bs w m l t e f = marks_eight is_digit digit_marked digit_lanes bs m l t (f ∙ rw (e, l))
+digits_eight bs w m l t e f = marks_eight is_digit digit_marked digit_lanes bs m l t (f ∙ rw (e, l))
 
 -- ---- a text's bytes of ASCII
 
@@ -220,11 +220,11 @@ unfolding ascii_marked word
 ascii_lanes b r h = ascii_lane (length r) (word r) b h ∙ ap (λ x. ascii_marked r * 256 + x) (mark_ascii b h)
 
 -- of eight bytes
-pub ascii-eight :
+pub ascii_eight :
     (bs : List ℕ) (w m : ℕ) → length bs ≡ 8 → T (all is_byte bs) → w ≡ word bs → m ≡ ascii_marks 8 w
     → count_trailing_zeros 64 m / 8 ≡ run is_ascii_text bs
 unfolding ascii_marked
-ascii-eight bs w m l t e f = marks_eight is_ascii_text ascii_marked ascii_lanes bs m l t (f ∙ rw (e, l))
+ascii_eight bs w m l t e f = marks_eight is_ascii_text ascii_marked ascii_lanes bs m l t (f ∙ rw (e, l))
 
 -- ---- the lowest mark
 
@@ -269,27 +269,27 @@ cells_at (suc n) s i k h =
     next s (i + k) (i + (k + 1)) n (omega arith) (omega arith) ∙ ap (λ l. get_or s (i + k) 0 ∷ l) (cells_at n s i (k + 1) (omega arith))
 
 -- the eight, one by one
-pub eight-at :
+pub eight_at :
     (s : List ℕ) (i : ℕ) → i + 8 ≤ length s
     → take 8 (drop i s)
     ≡ get_or s i 0 ∷ get_or s (i + 1) 0 ∷ get_or s (i + 2) 0 ∷ get_or s (i + 3) 0 ∷ get_or s (i + 4) 0
     ∷ get_or s (i + 5) 0 ∷ get_or s (i + 6) 0 ∷ get_or s (i + 7) 0 ∷ []
 unfolding cells
-eight-at s i h = next s i (i + 1) 7 refl (omega arith) ∙ ap (λ l. get_or s i 0 ∷ l) (cells_at 7 s i 1 (omega arith))
+eight_at s i h = next s i (i + 1) 7 refl (omega arith) ∙ ap (λ l. get_or s i 0 ∷ l) (cells_at 7 s i 1 (omega arith))
 
 -- one more byte
 byte_cons : (b : ℕ) (r : List ℕ) → b ≤ 255 → T (all is_byte r) → T (all is_byte (b ∷ r))
 byte_cons b r h t = and_in (is_byte b) (all is_byte r) (lt→ltb b 256 (omega arith)) t
 
 -- as one number
-pub word-eight :
+pub word_eight :
     (s : List ℕ) (i a b c d e f g h r : ℕ) → i + 8 ≤ length s → (a ≡ get_or s i 0) × (a ≤ 255) → (b ≡ get_or s (i + 1) 0) × (b ≤ 255)
     → (c ≡ get_or s (i + 2) 0) × (c ≤ 255) → (d ≡ get_or s (i + 3) 0) × (d ≤ 255) → (e ≡ get_or s (i + 4) 0) × (e ≤ 255)
     → (f ≡ get_or s (i + 5) 0) × (f ≤ 255) → (g ≡ get_or s (i + 6) 0) × (g ≤ 255) → (h ≡ get_or s (i + 7) 0) × (h ≤ 255)
     → r ≡ word (a ∷ b ∷ c ∷ d ∷ e ∷ f ∷ g ∷ h ∷ [])
     → (r ≡ word (take 8 (drop i s))) × T (all is_byte (take 8 (drop i s)))
-word-eight s i a b c d e f g h r l a' b' c' d' e' f' g' h' q =
-    rw (eight-at s i l, ← a'.0, ← b'.0, ← c'.0, ← d'.0, ← e'.0, ← f'.0, ← g'.0, ← h'.0) (q, bytes)
+word_eight s i a b c d e f g h r l a' b' c' d' e' f' g' h' q =
+    rw (eight_at s i l, ← a'.0, ← b'.0, ← c'.0, ← d'.0, ← e'.0, ← f'.0, ← g'.0, ← h'.0) (q, bytes)
   where
     bytes : T (all is_byte (a ∷ b ∷ c ∷ d ∷ e ∷ f ∷ g ∷ h ∷ []))
     bytes =

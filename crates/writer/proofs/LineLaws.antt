@@ -16,7 +16,7 @@ use Rattle.meaning.specs.Records.{letter, change_text}
 use Rattle.laws.specs.Kinds.{every}
 use Rattle.laws.specs.Room.{ident_long, letter_long}
 use Rattle.text.specs.Front.{in_front}
-use Rattle.text.proofs.FrontLaws.{front-then, front_room, front-last, last_room}
+use Rattle.text.proofs.FrontLaws.{front_then, front_room, front_last, last_room}
 use Rattle.layout.specs.declared.records.Layout.{Layout}
 use Rattle.layout.specs.Rows.{laid_out}
 use Rattle.writer.specs.Lines.{line_front, line_back, line_bytes}
@@ -80,7 +80,7 @@ module _ (k : Kind) (o : Op) (x n : ℕ) (old new : List ℕ) (p : n ≡ 2) (q :
   -- after it the line stands up to its number
   pub front_done : (last : List ℕ) → 34 ∷ (x ∷ (34 ∷ [])) ≡ letter o → last ≡ in_front (44 ∷ (34 ∷ (x ∷ (34 ∷ (44 ∷ []))))) (take (length new - n) (drop n new)) → put_mid n (length new - n) new last ≡ in_front (line_front k o) old
   unfolding line_front
-  front_done last g w = front-then (ident k) (44 ∷ (34 ∷ (x ∷ (34 ∷ (44 ∷ []))))) old new last n (p ∙ sym (ident_long k)) q w ∙ rw (← g)
+  front_done last g w = front_then (ident k) (44 ∷ (34 ∷ (x ∷ (34 ∷ (44 ∷ []))))) old new last n (p ∙ sym (ident_long k)) q w ∙ rw (← g)
 
 pub ruleset front = (rules, letter_room, front_done)
 
@@ -100,7 +100,7 @@ module _ (content old new last : List ℕ) (n m : ℕ) (h : 3 + length content �
     pub back_done : (end : List ℕ) → end ≡ in_front (13 ∷ (10 ∷ [])) (take (length (put_mid n (length new - n) new last) - (n + m)) (drop (n + m) (put_mid n (length new - n) new last)))
         → put_mid (n + m) (length (put_mid n (length new - n) new last) - (n + m)) (put_mid n (length new - n) new last) end ≡ in_front (line_back content) old
     unfolding line_back
-    back_done end w = front-last (44 ∷ []) content (13 ∷ (10 ∷ [])) old new last end n m p q r u w
+    back_done end w = front_last (44 ∷ []) content (13 ∷ (10 ∷ [])) old new last end n m p q r u w
 
 pub ruleset back = (rules, content_room, end_room, back_done)
 
@@ -126,6 +126,6 @@ module _ (k : Kind) (o : Op) (x : ℕ) (content old new last : List ℕ) (n m : 
     -- with it the line is written
     pub line_done : (end : List ℕ) → end ≡ in_front (line_back content) (take (length (put_mid n (length new - n) new last) - (n + m)) (drop (n + m) (put_mid n (length new - n) new last)))
         → put_mid (n + m) (length (put_mid n (length new - n) new last) - (n + m)) (put_mid n (length new - n) new last) end ≡ in_front (line_bytes x (record { op = o; rec = record { kind = k; content = content } })) old
-    line_done end w = front-last (line_front k o) (dec x) (line_back content) old new last end n m seven q (r ∙ sym (length_dec x)) u w ∙ ap (λ t. in_front t old) (line_parts x k o content)
+    line_done end w = front_last (line_front k o) (dec x) (line_back content) old new last end n m seven q (r ∙ sym (length_dec x)) u w ∙ ap (λ t. in_front t old) (line_parts x k o content)
 
 pub ruleset line = (rules, number_room, back_room, line_count, line_done)

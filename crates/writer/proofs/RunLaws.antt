@@ -18,7 +18,7 @@ use Rattle.theory.specs.Run.{as_inserts}
 use Rattle.meaning.specs.Records.{Rec, change_text, change_texts, joined}
 use Rattle.laws.specs.Room.{inserts_length}
 use Rattle.text.specs.Front.{in_front}
-use Rattle.text.proofs.FrontLaws.{front_none, front_same, front-then}
+use Rattle.text.proofs.FrontLaws.{front_none, front_same, front_then}
 use Rattle.entries.specs.Entries.{record_of}
 use Rattle.places.specs.Places.{says}
 use Rattle.places.specs.Changes.{op_at, steps_back}
@@ -97,7 +97,7 @@ module _ (cs : List (Change Rec)) (old out : List ℕ) (pos i : ℕ) (c : Change
     -- and stands after those before it
     pub writing_turn : (last : List ℕ) → last ≡ in_front (line_bytes (i + 1) c) (take (length out - pos) (drop pos out)) → Writing cs old (put_mid pos (length out - pos) out last) (pos + r) (i + 1)
     writing_turn last u =
-        let d : put_mid pos (length out - pos) out last ≡ in_front (texts (take (i + 1) cs)) old = rw more (front-then (texts (take i cs)) (line_bytes (i + 1) c) old out last pos g.place g.front u) in
+        let d : put_mid pos (length out - pos) out last ≡ in_front (texts (take (i + 1) cs)) old = rw more (front_then (texts (take i cs)) (line_bytes (i + 1) c) old out last pos g.place g.front u) in
         let p : pos + r ≡ length (texts (take (i + 1) cs)) = omega (arith, ap length more, length-append (texts (take i cs)) (line_bytes (i + 1) c), g.place) in
         record {
           place = p;

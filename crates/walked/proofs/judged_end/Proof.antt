@@ -2,7 +2,7 @@
 use borrow.Author.Rules.{rules}
 use native.Mathlib.Omega.{arith}
 use Rattle.layout.proofs.CheckLaws.{right_count}
-use Rattle.walked.proofs.PassedLaws.{judged-sound}
+use Rattle.walked.proofs.PassedLaws.{judged_sound}
 use Rattle.walked.proofs.judged_end.Statement.{statement}
 use Rattle.walked.proofs.judged_end.Tie as tie
 
@@ -30,4 +30,4 @@ judged_end_spec =
     let n = c.before.before.before.before.before.split.ensures in
     record { many = right_count _ _ _ c.before.before.before.layout.ensures _ n.0 c.before.if3.false; noted = n.1; room = omega (arith, n.2) })  -- lowest-malformed-requires
     (λ c h. absurd (omega arith))  -- returns-5
-    (λ c h. judged-sound _ c.before.before.before.before.before.before.before.before.before.before.before.before.before.before.before.before.before.before.before.before.args.s.now c.before.before.before.before.before.before.before.before.before.before.before.before.before.before.before.before.before.before.before.before.args.at _ _ (rw c.before.before.before.before.before.before.before.before.before.before.before.kind.given.1 at c.before.before.before.before.before.before.before.before.before.before.before.before.before.kind_at.ensures) c.before.before.lowest-malformed.ensures c.if4.false))  -- returns-6
+    (λ c h. judged_sound _ c.before.before.before.before.before.before.before.before.before.before.before.before.before.before.before.before.before.before.before.before.args.s.now c.before.before.before.before.before.before.before.before.before.before.before.before.before.before.before.before.before.before.before.before.args.at _ _ (rw c.before.before.before.before.before.before.before.before.before.before.before.kind.given.1 at c.before.before.before.before.before.before.before.before.before.before.before.before.before.kind_at.ensures) c.before.before.lowest-malformed.ensures c.if4.false))  -- returns-6

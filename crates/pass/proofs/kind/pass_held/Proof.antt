@@ -5,7 +5,7 @@ use Rattle.layout.specs.declared.kinds.HeldKind.TheVariants.{Street, StreetXref,
 use Rattle.meaning.specs.Table.{fields}
 use Rattle.layout.specs.Meant.{held_meant}
 use Rattle.layout.proofs.TableLaws.{codes, encoded, form_encoded}
-use Rattle.pass.proofs.KindLaws.{arm_started, arm-passed}
+use Rattle.pass.proofs.KindLaws.{arm_started, arm_passed}
 use Rattle.pass.proofs.kind.pass_held.Statement.{statement}
 use Rattle.pass.proofs.kind.pass_held.Tie as tie
 
@@ -30,12 +30,12 @@ pass_held_spec =
     (λ c. search rules)  -- slice-aggregate-pass-line-5
     (λ c κs. let p = c.before.before.before.before.before.before.requires in arm_started held_meant _ _ c.before.before.enum-told5.given.1 (codes (held_meant Lpi)) _ _ refl p.0 _ p.1 p.2)  -- pass-line-requires-5
     (λ c. search rules)  -- same-length
-    (λ c. let p = c.before.before.before.before.before.before.before.before.before.requires in arm-passed held_meant _ _ c.before.before.before.before.before.enum_told.given.1 (codes (held_meant Street)) _ _ refl p.0 c.before.before.before.before.before.before.before.before.before.args.ends.now _ _ p.1 c.before.before.pass-line.ensures)  -- returns
+    (λ c. let p = c.before.before.before.before.before.before.before.before.before.requires in arm_passed held_meant _ _ c.before.before.before.before.before.enum_told.given.1 (codes (held_meant Street)) _ _ refl p.0 c.before.before.before.before.before.before.before.before.before.args.ends.now _ _ p.1 c.before.before.pass-line.ensures)  -- returns
     (λ c. search rules)  -- same-length-2
-    (λ c. let p = c.before.before.before.before.before.before.before.before.before.requires in arm-passed held_meant _ _ c.before.before.before.before.before.enum-told2.given.1 (codes (held_meant StreetXref)) _ _ refl p.0 c.before.before.before.before.before.before.before.before.before.args.ends.now _ _ p.1 c.before.before.pass-line2.ensures)  -- returns-2
+    (λ c. let p = c.before.before.before.before.before.before.before.before.before.requires in arm_passed held_meant _ _ c.before.before.before.before.before.enum-told2.given.1 (codes (held_meant StreetXref)) _ _ refl p.0 c.before.before.before.before.before.before.before.before.before.args.ends.now _ _ p.1 c.before.before.pass-line2.ensures)  -- returns-2
     (λ c. search rules)  -- same-length-3
-    (λ c. let p = c.before.before.before.before.before.before.before.before.before.requires in arm-passed held_meant _ _ c.before.before.before.before.before.enum-told3.given.1 (codes (held_meant Blpu)) _ _ refl p.0 c.before.before.before.before.before.before.before.before.before.args.ends.now _ _ p.1 c.before.before.pass-line3.ensures)  -- returns-3
+    (λ c. let p = c.before.before.before.before.before.before.before.before.before.requires in arm_passed held_meant _ _ c.before.before.before.before.before.enum-told3.given.1 (codes (held_meant Blpu)) _ _ refl p.0 c.before.before.before.before.before.before.before.before.before.args.ends.now _ _ p.1 c.before.before.pass-line3.ensures)  -- returns-3
     (λ c. search rules)  -- same-length-4
-    (λ c. let p = c.before.before.before.before.before.before.before.before.before.requires in arm-passed held_meant _ _ c.before.before.before.before.before.enum-told4.given.1 (codes (held_meant AppXref)) _ _ refl p.0 c.before.before.before.before.before.before.before.before.before.args.ends.now _ _ p.1 c.before.before.pass-line4.ensures)  -- returns-4
+    (λ c. let p = c.before.before.before.before.before.before.before.before.before.requires in arm_passed held_meant _ _ c.before.before.before.before.before.enum-told4.given.1 (codes (held_meant AppXref)) _ _ refl p.0 c.before.before.before.before.before.before.before.before.before.args.ends.now _ _ p.1 c.before.before.pass-line4.ensures)  -- returns-4
     (λ c. search rules)  -- same-length-5
-    (λ c. let p = c.before.before.before.before.before.before.before.before.before.requires in arm-passed held_meant _ _ c.before.before.before.before.before.enum-told5.given.1 (codes (held_meant Lpi)) _ _ refl p.0 c.before.before.before.before.before.before.before.before.before.args.ends.now _ _ p.1 c.before.before.pass-line5.ensures))  -- returns-5
+    (λ c. let p = c.before.before.before.before.before.before.before.before.before.requires in arm_passed held_meant _ _ c.before.before.before.before.before.enum-told5.given.1 (codes (held_meant Lpi)) _ _ refl p.0 c.before.before.before.before.before.before.before.before.before.args.ends.now _ _ p.1 c.before.before.pass-line5.ensures))  -- returns-5

@@ -1,5 +1,5 @@
 -- `pass::leaves::past_at_least_1` meets its contract.
-use Rattle.pass.proofs.LeafLaws.{past_not, least-yes}
+use Rattle.pass.proofs.LeafLaws.{past_not, least_yes}
 use borrow.Author.Rules.{rules}
 use native.Mathlib.Omega.{arith}
 use Rattle.pass.proofs.leaves.past_at_least_1.Statement.{statement}
@@ -15,5 +15,5 @@ past_at_least_1_spec =
     (λ c. let g = c.before.past-number.ensures.0 (omega arith) in omega arith)  -- part-is-worth-1-start
     (λ c. let g = c.before.past-number.ensures.0 (omega arith) in omega arith)  -- part-is-worth-1-end
     (λ c κs. search rules)  -- is-worth-1-requires
-    (λ c. least-yes _ _ _ _ _ c.before.before.before.before.past-number.ensures.0 c.before.is-worth-1.ensures c.if2.true)  -- returns-2
+    (λ c. least_yes _ _ _ _ _ c.before.before.before.before.past-number.ensures.0 c.before.is-worth-1.ensures c.if2.true)  -- returns-2
     (λ c. past_not))  -- returns-3

@@ -1,5 +1,5 @@
 -- `pass::leaves::past_decimal` meets its contract.
-use Rattle.pass.proofs.LeafLaws.{past_not, decimal-yes}
+use Rattle.pass.proofs.LeafLaws.{past_not, decimal_yes}
 use borrow.Author.Rules.{rules}
 use native.Mathlib.Omega.{arith}
 use Rattle.pass.proofs.leaves.past_decimal.Statement.{statement}
@@ -25,5 +25,5 @@ past_decimal_spec =
     (λ c. let m = c.before.before.before.before.before.before.before.minus.ensures.0 in
     let n = c.before.before.before.before.before.before.past-number.ensures.0 in
     let z = c.before.before.before.before.before.if1.false in
-    decimal-yes _ _ _ _ _ _ _ (omega arith) m n z c.before.before.before.if2.false (omega arith) c.before.has-digits.ensures c.if3.true)  -- returns-3
+    decimal_yes _ _ _ _ _ _ _ (omega arith) m n z c.before.before.before.if2.false (omega arith) c.before.has-digits.ensures c.if3.true)  -- returns-3
     (λ c. past_not))  -- returns-4

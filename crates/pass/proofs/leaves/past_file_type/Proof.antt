@@ -1,7 +1,7 @@
 -- `pass::leaves::past_file_type` meets its contract.
 use Prim.Native.Nat.{◌+◌}
 use Rattle.meaning.specs.Forms.{file_type, has_form, by_characters}
-use Rattle.pass.proofs.LeafLaws.{past_not, past-yes}
+use Rattle.pass.proofs.LeafLaws.{past_not, past_yes}
 use borrow.Author.Rules.{rules}
 use native.Mathlib.Omega.{arith}
 use Rattle.pass.proofs.leaves.past_file_type.Statement.{statement}
@@ -18,5 +18,5 @@ past_file_type_spec =
     (λ c. search rules)  -- part-is-file-type-end
     (λ c κs. search rules)  -- is-file-type-requires
     (λ c. let g = c.before.before.before.before.args in
-    past-yes (has_form by_characters (file_type)) g.s.now g.at (g.at + 3) _ (omega arith) (omega arith) c.before.is-file-type.ensures c.if1.true)  -- returns
+    past_yes (has_form by_characters (file_type)) g.s.now g.at (g.at + 3) _ (omega arith) (omega arith) c.before.is-file-type.ensures c.if1.true)  -- returns
     (λ c. past_not))  -- returns-2

@@ -1,5 +1,5 @@
 -- `pass::leaves::past_number` meets its contract.
-use Rattle.pass.proofs.LeafLaws.{past_not, number-yes}
+use Rattle.pass.proofs.LeafLaws.{past_not, number_yes}
 use borrow.Author.Rules.{rules}
 use native.Mathlib.Omega.{arith}
 use Rattle.pass.proofs.leaves.past_number.Statement.{statement}
@@ -14,4 +14,4 @@ past_number_spec =
     (λ c. search rules)  -- sub-if2
     (λ c. (past_not, omega arith))  -- returns-2
     (λ c. let d = c.before.before.past-digits.ensures in
-    (number-yes _ _ _ _ d.0 (omega arith) d.2 c.before.if1.false c.if2.false, d.1)))  -- returns-3
+    (number_yes _ _ _ _ d.0 (omega arith) d.2 c.before.if1.false c.if2.false, d.1)))  -- returns-3

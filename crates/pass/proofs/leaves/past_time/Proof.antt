@@ -1,7 +1,7 @@
 -- `pass::leaves::past_time` meets its contract.
 use Prim.Native.Nat.{◌+◌}
 use Rattle.meaning.specs.Forms.{time, has_form, by_characters}
-use Rattle.pass.proofs.LeafLaws.{past_not, past-yes}
+use Rattle.pass.proofs.LeafLaws.{past_not, past_yes}
 use borrow.Author.Rules.{rules}
 use native.Mathlib.Omega.{arith}
 use Rattle.pass.proofs.leaves.past_time.Statement.{statement}
@@ -18,5 +18,5 @@ past_time_spec =
     (λ c. search rules)  -- part-is-time-end
     (λ c κs. search rules)  -- is-time-requires
     (λ c. let g = c.before.before.before.before.args in
-    past-yes (has_form by_characters (time)) g.s.now g.at (g.at + 6) _ (omega arith) (omega arith) c.before.is-time.ensures c.if1.true)  -- returns
+    past_yes (has_form by_characters (time)) g.s.now g.at (g.at + 6) _ (omega arith) (omega arith) c.before.is-time.ensures c.if1.true)  -- returns
     (λ c. past_not))  -- returns-2

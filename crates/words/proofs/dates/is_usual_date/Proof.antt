@@ -4,7 +4,7 @@ use mathlib.Core.Bool.{true, false}
 use Prim.Native.Nat.{ℕ, ◌<◌}
 use native.Mathlib.Omega.{arith}
 use borrow.Author.Rules.{rules}
-use Rattle.words.proofs.DateLaws.{real_early, dated-at, small_at}
+use Rattle.words.proofs.DateLaws.{real_early, dated_at, small_at}
 use Rattle.words.proofs.dates.is_usual_date.Statement.{statement}
 use Rattle.words.proofs.dates.is_usual_date.Tie as tie
 
@@ -49,7 +49,7 @@ is_usual_date_spec =
     let g = read.before.before.century in
     let n : 0 < g.result = omega (arith, read.before.if1.false) in
     let h = g.ensures.1 n in
-    dated-at start.args.s.now start.args.at read.word_at.result m.result start.requires
+    dated_at start.args.s.now start.args.at read.word_at.result m.result start.requires
     read.word_at.ensures.0 read.word_at.ensures.1 m.ensures c.before.before.before.before.if2.false g.result h
     (real_early _ _ _ (omega (arith, h.late)) c.before.before.before.if3.false c.before.before.if4.false
     c.before.if5.false c.if6.true))  -- returns-6
@@ -62,6 +62,6 @@ is_usual_date_spec =
     let m = c.before.before.before.before.before.before.marked in
     let g = read.before.before.century in
     let n : 0 < g.result = omega (arith, read.before.if1.false) in
-    dated-at start.args.s.now start.args.at read.word_at.result m.result start.requires
+    dated_at start.args.s.now start.args.at read.word_at.result m.result start.requires
     read.word_at.ensures.0 read.word_at.ensures.1 m.ensures c.before.before.before.before.before.if2.false
     g.result (g.ensures.1 n) (sym c.is-day.ensures ∙ e)))  -- returns-7

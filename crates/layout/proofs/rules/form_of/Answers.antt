@@ -1,0 +1,65 @@
+-- `layout::rules::form_of` meets its contract.
+use borrow.Author.Rules.{rules}
+use borrow.Author.Tests.{ne_eqb}
+use Rattle.layout.specs.Rows.{form_decoded}
+use Rattle.layout.proofs.rules.form_of.Goals as goal
+
+pub overflow_cast-width : goal.overflow_cast-width
+unfolding form_decoded
+overflow_cast-width c = search rules
+
+pub overflow_cast-decimals : goal.overflow_cast-decimals
+unfolding form_decoded
+overflow_cast-decimals c = search rules
+
+pub overflow_cast-result : goal.overflow_cast-result
+unfolding form_decoded
+overflow_cast-result c = search rules
+
+pub overflow_cast-result-in_default : goal.overflow_cast-result-in_default
+unfolding form_decoded
+overflow_cast-result-in_default c = search rules
+
+pub returns-in-0 : goal.returns-in-0
+unfolding form_decoded
+returns-in-0 c = rw c.in-0.is
+
+pub returns-in-1 : goal.returns-in-1
+unfolding form_decoded
+returns-in-1 c = rw c.in-1.is
+
+pub returns-in-2 : goal.returns-in-2
+unfolding form_decoded
+returns-in-2 c = rw c.in-2.is
+
+pub returns-in-3 : goal.returns-in-3
+unfolding form_decoded
+returns-in-3 c = rw c.in-3.is
+
+pub returns-in-4 : goal.returns-in-4
+unfolding form_decoded
+returns-in-4 c = rw c.in-4.is
+
+pub returns-in-5 : goal.returns-in-5
+unfolding form_decoded
+returns-in-5 c = rw c.in-5.is
+
+pub returns-in-6 : goal.returns-in-6
+unfolding form_decoded
+returns-in-6 c = rw c.in-6.is
+
+pub returns-in-7 : goal.returns-in-7
+unfolding form_decoded
+returns-in-7 c = rw c.in-7.is
+
+pub returns-in-8 : goal.returns-in-8
+unfolding form_decoded
+returns-in-8 c = rw c.in-8.is
+
+pub returns-in-9 : goal.returns-in-9
+unfolding form_decoded
+returns-in-9 c = rw c.in-9.is
+
+pub returns-in_default : goal.returns-in_default
+unfolding form_decoded
+returns-in_default c = let r = c.in_default.rest in simp (ne_eqb _ _ r.1, ne_eqb _ _ r.0.1, ne_eqb _ _ r.0.0.1, ne_eqb _ _ r.0.0.0.1, ne_eqb _ _ r.0.0.0.0.1, ne_eqb _ _ r.0.0.0.0.0.1, ne_eqb _ _ r.0.0.0.0.0.0.1, ne_eqb _ _ r.0.0.0.0.0.0.0.1, ne_eqb _ _ r.0.0.0.0.0.0.0.0.1, ne_eqb _ _ r.0.0.0.0.0.0.0.0.0.1)

@@ -1,0 +1,132 @@
+-- `steps::step::step` meets its contract.
+use mathlib.Core.Path.{ap, ◌∙◌}
+use mathlib.Core.Logic.{⊎_elim}
+use Rattle.base.specs.Lists.{bytes, zeros}
+use Rattle.theory.specs.Decimal.{value, value_f}
+use Rattle.meaning.specs.Kinds.{ident}
+use Rattle.meaning.specs.Format.{field_number}
+use Rattle.meaning.specs.Table.{fields, key_names, refers_to}
+use Rattle.layout.specs.Rows.{laid_out, places_of, padded, targets, sources}
+use Rattle.keys.specs.Numbers.{key_list}
+use Rattle.steps.proofs.StepLaws.{stepping, line_fine, line_key}
+use Rattle.steps.proofs.step.step.Goals as goal
+
+pub overflow_mul-entry : goal.overflow_mul-entry
+unfolding laid_out places_of padded targets sources ident fields key_names refers_to field_number bytes zeros value value_f
+overflow_mul-entry c = search stepping
+
+pub overflow_add-entry : goal.overflow_add-entry
+unfolding laid_out places_of padded targets sources ident fields key_names refers_to field_number bytes zeros value value_f
+overflow_add-entry c = search stepping
+
+pub enum_told-1 : goal.enum_told-1
+unfolding laid_out places_of padded targets sources ident fields key_names refers_to field_number bytes zeros value value_f
+enum_told-1 c = search stepping
+
+pub line_key-key-requires : goal.line_key-key-requires
+unfolding laid_out places_of padded targets sources ident fields key_names refers_to field_number bytes zeros value value_f
+line_key-key-requires c = (search stepping, rw c.in-Street.is, search stepping)
+
+pub enum_told-in-StreetXref : goal.enum_told-in-StreetXref
+unfolding laid_out places_of padded targets sources ident fields key_names refers_to field_number bytes zeros value value_f
+enum_told-in-StreetXref c = search stepping
+
+pub line_key-key-requires-in-StreetXref : goal.line_key-key-requires-in-StreetXref
+unfolding laid_out places_of padded targets sources ident fields key_names refers_to field_number bytes zeros value value_f
+line_key-key-requires-in-StreetXref c = (search stepping, rw c.in-StreetXref.is, search stepping)
+
+pub enum_told-in-Blpu : goal.enum_told-in-Blpu
+unfolding laid_out places_of padded targets sources ident fields key_names refers_to field_number bytes zeros value value_f
+enum_told-in-Blpu c = search stepping
+
+pub line_key-key-requires-in-Blpu : goal.line_key-key-requires-in-Blpu
+unfolding laid_out places_of padded targets sources ident fields key_names refers_to field_number bytes zeros value value_f
+line_key-key-requires-in-Blpu c = (search stepping, rw c.in-Blpu.is, search stepping)
+
+pub enum_told-in-AppXref : goal.enum_told-in-AppXref
+unfolding laid_out places_of padded targets sources ident fields key_names refers_to field_number bytes zeros value value_f
+enum_told-in-AppXref c = search stepping
+
+pub line_key-key-requires-in-AppXref : goal.line_key-key-requires-in-AppXref
+unfolding laid_out places_of padded targets sources ident fields key_names refers_to field_number bytes zeros value value_f
+line_key-key-requires-in-AppXref c = (search stepping, rw c.in-AppXref.is, search stepping)
+
+pub enum_told-in-Lpi : goal.enum_told-in-Lpi
+unfolding laid_out places_of padded targets sources ident fields key_names refers_to field_number bytes zeros value value_f
+enum_told-in-Lpi c = search stepping
+
+pub line_key-key-requires-in-Lpi : goal.line_key-key-requires-in-Lpi
+unfolding laid_out places_of padded targets sources ident fields key_names refers_to field_number bytes zeros value value_f
+line_key-key-requires-in-Lpi c = (search stepping, rw c.in-Lpi.is, search stepping)
+
+pub enum_told-in-Insert : goal.enum_told-in-Insert
+unfolding laid_out places_of padded targets sources ident fields key_names refers_to field_number bytes zeros value value_f
+enum_told-in-Insert c = search stepping
+
+pub insert-requires : goal.insert-requires
+unfolding laid_out places_of padded targets sources ident fields key_names refers_to field_number bytes zeros value value_f
+insert-requires c = let q = c.requires in let k = ⊎_elim (λ w. ap key_list w.3 ∙ w.2.ensures) (⊎_elim (λ w. ap key_list w.3 ∙ w.2.ensures) (⊎_elim (λ w. ap key_list w.3 ∙ w.2.ensures) (⊎_elim (λ w. ap key_list w.3 ∙ w.2.ensures) (λ w. ap key_list w.3 ∙ w.2.ensures)))) c.match-kind.branch in (q.0, line_fine _ _ _ _ q.1, line_key _ _ _ _ q.1 _ k)
+
+pub enum_told-in-Update : goal.enum_told-in-Update
+unfolding laid_out places_of padded targets sources ident fields key_names refers_to field_number bytes zeros value value_f
+enum_told-in-Update c = search stepping
+
+pub update-requires : goal.update-requires
+unfolding laid_out places_of padded targets sources ident fields key_names refers_to field_number bytes zeros value value_f
+update-requires c = let q = c.requires in let k = ⊎_elim (λ w. ap key_list w.3 ∙ w.2.ensures) (⊎_elim (λ w. ap key_list w.3 ∙ w.2.ensures) (⊎_elim (λ w. ap key_list w.3 ∙ w.2.ensures) (⊎_elim (λ w. ap key_list w.3 ∙ w.2.ensures) (λ w. ap key_list w.3 ∙ w.2.ensures)))) c.match-kind.branch in (q.0, line_fine _ _ _ _ q.1, line_key _ _ _ _ q.1 _ k)
+
+pub enum_told-in-Delete : goal.enum_told-in-Delete
+unfolding laid_out places_of padded targets sources ident fields key_names refers_to field_number bytes zeros value value_f
+enum_told-in-Delete c = search stepping
+
+pub delete-requires : goal.delete-requires
+unfolding laid_out places_of padded targets sources ident fields key_names refers_to field_number bytes zeros value value_f
+delete-requires c = let q = c.requires in let k = ⊎_elim (λ w. ap key_list w.3 ∙ w.2.ensures) (⊎_elim (λ w. ap key_list w.3 ∙ w.2.ensures) (⊎_elim (λ w. ap key_list w.3 ∙ w.2.ensures) (⊎_elim (λ w. ap key_list w.3 ∙ w.2.ensures) (λ w. ap key_list w.3 ∙ w.2.ensures)))) c.match-kind.branch in (q.0, line_fine _ _ _ _ q.1, line_key _ _ _ _ q.1 _ k)
+
+pub shape_of-places-in-Insert : goal.shape_of-places-in-Insert
+unfolding laid_out places_of padded targets sources ident fields key_names refers_to field_number bytes zeros value value_f
+shape_of-places-in-Insert c = search stepping
+
+pub shape_of-tags-in-Insert : goal.shape_of-tags-in-Insert
+unfolding laid_out places_of padded targets sources ident fields key_names refers_to field_number bytes zeros value value_f
+shape_of-tags-in-Insert c = search stepping
+
+pub shape_of-counts-in-Insert : goal.shape_of-counts-in-Insert
+unfolding laid_out places_of padded targets sources ident fields key_names refers_to field_number bytes zeros value value_f
+shape_of-counts-in-Insert c = search stepping
+
+pub returns-in-Insert : goal.returns-in-Insert
+unfolding laid_out places_of padded targets sources ident fields key_names refers_to field_number bytes zeros value value_f
+returns-in-Insert c = search stepping
+
+pub shape_of-places-in-Update : goal.shape_of-places-in-Update
+unfolding laid_out places_of padded targets sources ident fields key_names refers_to field_number bytes zeros value value_f
+shape_of-places-in-Update c = search stepping
+
+pub shape_of-tags-in-Update : goal.shape_of-tags-in-Update
+unfolding laid_out places_of padded targets sources ident fields key_names refers_to field_number bytes zeros value value_f
+shape_of-tags-in-Update c = search stepping
+
+pub shape_of-counts-in-Update : goal.shape_of-counts-in-Update
+unfolding laid_out places_of padded targets sources ident fields key_names refers_to field_number bytes zeros value value_f
+shape_of-counts-in-Update c = search stepping
+
+pub returns-in-Update : goal.returns-in-Update
+unfolding laid_out places_of padded targets sources ident fields key_names refers_to field_number bytes zeros value value_f
+returns-in-Update c = search stepping
+
+pub shape_of-places-in-Delete : goal.shape_of-places-in-Delete
+unfolding laid_out places_of padded targets sources ident fields key_names refers_to field_number bytes zeros value value_f
+shape_of-places-in-Delete c = search stepping
+
+pub shape_of-tags-in-Delete : goal.shape_of-tags-in-Delete
+unfolding laid_out places_of padded targets sources ident fields key_names refers_to field_number bytes zeros value value_f
+shape_of-tags-in-Delete c = search stepping
+
+pub shape_of-counts-in-Delete : goal.shape_of-counts-in-Delete
+unfolding laid_out places_of padded targets sources ident fields key_names refers_to field_number bytes zeros value value_f
+shape_of-counts-in-Delete c = search stepping
+
+pub returns-in-Delete : goal.returns-in-Delete
+unfolding laid_out places_of padded targets sources ident fields key_names refers_to field_number bytes zeros value value_f
+returns-in-Delete c = search stepping
