@@ -1,6 +1,5 @@
 -- `layout::check::lowest_malformed` meets its contract.
 use borrow.Author.Rules.{rules}
-use borrow.Author.Tests.{not-false}
 use Rattle.layout.proofs.PassLaws.{passing, pass_within, pass_turn}
 use Rattle.layout.proofs.check.lowest_malformed.Goals as goal
 
@@ -44,7 +43,7 @@ pub loop-k-smaller : goal.loop-k-smaller
 loop-k-smaller c = search passing
 
 pub loop-k-preserved : goal.loop-k-preserved
-loop-k-preserved c = (pass_turn _ _ _ _ _ _ c.loop-k.invariant.0 c.loop-k-test.true _ c.sound_at.ensures (not-false _ c.if-not-sound_at.false), search rules)
+loop-k-preserved c = (pass_turn _ _ _ _ _ _ c.loop-k.invariant.0 c.loop-k-test.true _ c.sound_at.ensures c.if-not-sound_at.false, search rules)
 
 pub none-requires : goal.none-requires
 none-requires c = search passing
