@@ -2,9 +2,8 @@
 
 // A reader that holds the lent file and its place hands out one line after another.
 //
-// Functions over a struct that holds a reference are walked by hand in proofs/: they are few and thin, take the reader apart and call
-// `line_from` or `past_line`, which are covered. Whoever needs no reader calls those; `handed_at` and `past_at` go by way of one, and have
-// plain parameters, so that their callers need no walk.
+// Functions over a reader are few and thin: they take it apart and call `line_from` or `past_line`. Whoever needs no reader calls those;
+// `handed_at` and `past_at` go by way of one, and have plain parameters.
 ghost use Rattle.std.specs.Prelude.{◌≡◌, drop};
 ghost use Rattle.text.specs.Parts.{StandsIn};
 ghost use Rattle.text.specs.Places.{line_len};

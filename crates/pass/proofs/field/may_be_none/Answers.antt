@@ -1,4 +1,5 @@
 -- `pass::field::may_be_none` meets its contract.
+use mathlib.Core.Path.{◌≡◌}
 use Rattle.pass.proofs.LeafLaws.{none_sound}
 use mathlib.Core.Bool.{Bool, true, false}
 use Rattle.pass.proofs.field.may_be_none.Goals as goal

@@ -10,7 +10,7 @@ pub near_end-stop-requires : goal.near_end-stop-requires
 near_end-stop-requires c = tt
 
 pub overflow_add-i : goal.overflow_add-i
-overflow_add-i c = let p = c.requires in let g = c.well-formed in omega (arith, p.1.inside)
+overflow_add-i c = let p = c.requires in let g = c.well_formed in omega (arith, p.1.inside)
 
 pub loop-k-init : goal.loop-k-init
 loop-k-init c = (line_start _ _ _ _ c.requires.0 c.requires.1, c.requires.1.some, search rules)

@@ -17,19 +17,17 @@ pub returns-then-unlike-gt0 : goal.returns-then-unlike-gt0
 returns-then-unlike-gt0 c = unseen
 
 pub overflow_mul-pairs : goal.overflow_mul-pairs
-overflow_mul-pairs c = let start = c in
-    let w = c.word_at-w in
+overflow_mul-pairs c = let w = c.word_at-w in
     let m = c.marked-unlike in
-    let a = start.args in
-    let l = small_at a.s.now a.at w.result m.result start.requires w.ensures.0 w.ensures.1 m.ensures c.if-unlike-gt0.false in
+    let a = c.args in
+    let l = small_at a.s.now a.at w.result m.result c.requires w.ensures.0 w.ensures.1 m.ensures c.if-unlike-gt0.false in
     omega (arith, l)
 
 pub overflow_add-pairs : goal.overflow_add-pairs
-overflow_add-pairs c = let start = c in
-    let w = c.word_at-w in
+overflow_add-pairs c = let w = c.word_at-w in
     let m = c.marked-unlike in
-    let a = start.args in
-    let l = small_at a.s.now a.at w.result m.result start.requires w.ensures.0 w.ensures.1 m.ensures c.if-unlike-gt0.false in
+    let a = c.args in
+    let l = small_at a.s.now a.at w.result m.result c.requires w.ensures.0 w.ensures.1 m.ensures c.if-unlike-gt0.false in
     omega (arith, l)
 
 pub returns-then-month-lt1 : goal.returns-then-month-lt1
@@ -42,23 +40,19 @@ pub returns-then-day-lt1 : goal.returns-then-day-lt1
 returns-then-day-lt1 c = unseen
 
 pub returns-then-day-le28 : goal.returns-then-day-le28
-returns-then-day-le28 c = let read = c in
-    let start = read.before.before.before.before.before.before in
-    let m = c.marked-unlike in
-    let g = read.before.before.century in
-    let n : 0 < g.result = omega (arith, read.before.if1.false) in
+returns-then-day-le28 c = λ e. let m = c.marked-unlike in
+    let g = c.century-hundreds in
+    let n : 0 < g.result = omega (arith, c.if-hundreds-eq0.false) in
     let h = g.ensures.1 n in
-    dated_at start.args.s.now start.args.at read.word_at.result m.result start.requires
-    read.word_at.ensures.0 read.word_at.ensures.1 m.ensures c.if-unlike-gt0.false g.result h
+    dated_at c.args.s.now c.args.at c.word_at-w.result m.result c.requires
+    c.word_at-w.ensures.0 c.word_at-w.ensures.1 m.ensures c.if-unlike-gt0.false g.result h
     (real_early _ _ _ (omega (arith, h.late)) c.if-month-lt1.false c.if-month-gt12.false
     c.if-day-lt1.false c.if-day-le28.true)
 
 pub returns : goal.returns
-returns c = let read = c in
-    let start = read.before.before.before.before.before.before in
-    let m = c.marked-unlike in
-    let g = read.before.before.century in
-    let n : 0 < g.result = omega (arith, read.before.if1.false) in
-    dated_at start.args.s.now start.args.at read.word_at.result m.result start.requires
-    read.word_at.ensures.0 read.word_at.ensures.1 m.ensures c.if-unlike-gt0.false
+returns c = λ e. let m = c.marked-unlike in
+    let g = c.century-hundreds in
+    let n : 0 < g.result = omega (arith, c.if-hundreds-eq0.false) in
+    dated_at c.args.s.now c.args.at c.word_at-w.result m.result c.requires
+    c.word_at-w.ensures.0 c.word_at-w.ensures.1 m.ensures c.if-unlike-gt0.false
     g.result (g.ensures.1 n) (sym c.is_day.ensures ∙ e)
