@@ -35,4 +35,4 @@ pub overflow_cast-result : goal.overflow_cast-result
 overflow_cast-result c = search noting
 
 pub returns : goal.returns
-returns c = starts_noted _ _ _ _ _ c.requires _ c.layout-l.ensures _ _ _ c.start_noted-first.ensures c.start_noted-second.ensures c.if-first-gt65535.false refl
+returns c = λ h. starts_noted _ _ _ _ _ c.requires _ c.layout-l.ensures _ _ _ c.start_noted-first.ensures c.start_noted-second.ensures c.if-first-gt65535.false refl

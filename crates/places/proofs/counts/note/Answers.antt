@@ -1,6 +1,5 @@
 -- `places::counts::note` meets its contract.
 use Rattle.places.proofs.NoteLaws.{noting, second_open}
-use borrow.Author.Tests.{not-false}
 use Rattle.places.proofs.counts.note.Goals as goal
 
 pub references-named-requires : goal.references-named-requires
@@ -16,7 +15,7 @@ pub returns-then-not-note_one : goal.returns-then-not-note_one
 returns-then-not-note_one c = search noting
 
 pub note_one-requires-2 : goal.note_one-requires-2
-note_one-requires-2 c = let p = c.requires in (p.0, search noting, second_open _ _ _ _ c.references-named.ensures _ _ _ c.note_one.ensures (not-false _ c.if-not-note_one.false) p.2)
+note_one-requires-2 c = let p = c.requires in (p.0, search noting, second_open _ _ _ _ c.references-named.ensures _ _ _ c.note_one.ensures c.if-not-note_one.false p.2)
 
 pub shape_of-counts : goal.shape_of-counts
 shape_of-counts c = search noting

@@ -1,6 +1,5 @@
 -- `places::counts::note_tags` meets its contract.
 use Rattle.places.proofs.NoteLaws.{notetags, second_tag_open}
-use borrow.Author.Tests.{not-false}
 use Rattle.places.proofs.counts.note_tags.Goals as goal
 
 pub note_tagged-requires : goal.note_tagged-requires
@@ -13,7 +12,7 @@ pub returns-then-not-note_tagged : goal.returns-then-not-note_tagged
 returns-then-not-note_tagged c = search notetags
 
 pub note_tagged-requires-2 : goal.note_tagged-requires-2
-note_tagged-requires-2 c = let p = c.requires in (p.0, search notetags, second_tag_open _ _ _ _ p.3 p.4 p.5 _ _ _ _ c.note_tagged.ensures (not-false _ c.if-not-note_tagged.false) p.2, p.3.own, search notetags)
+note_tagged-requires-2 c = let p = c.requires in (p.0, search notetags, second_tag_open _ _ _ _ p.3 p.4 p.5 _ _ _ _ c.note_tagged.ensures c.if-not-note_tagged.false p.2, p.3.own, search notetags)
 
 pub shape_of-counts : goal.shape_of-counts
 shape_of-counts c = search notetags
