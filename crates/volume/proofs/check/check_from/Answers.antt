@@ -3,11 +3,12 @@ use borrow.Author.Rules.{rules}
 use mathlib.Core.Path.{ap, ◌∙◌}
 use mathlib.Core.Logic.{⊎_elim}
 use native.Mathlib.Omega.{arith}
-use borrow.Author.Tests.{not-true, not-false}
+use borrow.Author.Tests.{not-true}
 use Rattle.layout.proofs.PassLaws.{pass_start, pass_row, pass_few, pass_forward, pass_within, pass_stop, pass_turn, pass_done}
 use Rattle.volume.proofs.WalkLaws.{within_more}
 use Rattle.volume.proofs.FileLaws.{line_short, closed_none, read_opened, read_fields, read_malformed, read_closed, read_turn, read_kept, read_refused, read_stopped}
 use Rattle.volume.proofs.check.check_from.Goals as goal
+use Rattle.volume.proofs.check.check_from.Goals.{else-lines-test, then-lines-test+in-Bad, then-lines-test+in-Good+then-loop-k-test+then-not-sound_at, then-lines-test+in-Good+else-loop-k-test+then-bad-ne0}
 
 pub lines-init : goal.lines-init
 lines-init c = (c.requires, c.none-bad.ensures, search rules, search rules)
@@ -46,7 +47,7 @@ pub overflow_add-k : goal.overflow_add-k
 overflow_add-k c = let w = pass_few _ _ _ _ _ _ c.loop-k.invariant c.loop-k-test.true in search rules
 
 pub loop-k-preserved : goal.loop-k-preserved
-loop-k-preserved c = pass_turn _ _ _ _ _ _ c.loop-k.invariant c.loop-k-test.true _ c.sound_at.ensures (not-false _ c.if-not-sound_at.false)
+loop-k-preserved c = pass_turn _ _ _ _ _ _ c.loop-k.invariant c.loop-k-test.true _ c.sound_at.ensures c.if-not-sound_at.false
 
 pub close_line-bad-requires : goal.close_line-bad-requires
 close_line-bad-requires c = let h = c.lines.invariant.3 in (c.loop-k.invariant.parted, pass_done _ _ _ _ _ _ c.loop-k.invariant c.loop-k-test.false, (let w = c.lines.invariant.0.within.bodies in omega arith))
@@ -64,4 +65,10 @@ pub lines-preserved : goal.lines-preserved
 lines-preserved c = (read_turn _ _ _ _ c.lines-test.true c.plain_end-end.ensures.0 c.lines.invariant.0 _ c.ends_at.ensures c.open_line.result c.open_line.ensures _ _ c.in-Good.is (pass_done _ _ _ _ _ _ c.loop-k.invariant c.loop-k-test.false) c.close_line-bad.result c.close_line-bad.ensures c.if-bad-ne0.false _ c.after_line-walk.ensures c.plain_end-end.ensures.1 c.plain_end-end.ensures.2, closed_none _ _ _ _ c.close_line-bad.ensures c.if-bad-ne0.false, c.split-fields.ensures.2 ∙ c.lines.invariant.2, c.lines.invariant.3)
 
 pub returns : goal.returns
-returns c = ⊎_elim (λ w. read_stopped _ _ _ _ _ c.lines.invariant.0 w.0.left (ap (λ f. f.code) (w.1 ∙ c.lines.invariant.1)) c.stopped.ensures) (λ v. read_refused _ _ _ _ (⊎_elim (λ w. read_kept _ _ _ _ w.11 (read_opened _ _ _ _ w.0.taken w.1.ensures.0 c.lines.invariant.0 _ w.6.ensures w.7.result w.7.ensures _ w.9.given.1)) (⊎_elim (λ w. read_kept _ _ _ _ (w.18 ∙ w.17.ensures) (read_malformed _ _ _ _ w.0.taken w.1.ensures.0 c.lines.invariant.0 _ w.6.ensures w.7.result w.7.ensures _ _ w.9.given.1 _ _ _ (pass_stop _ _ _ _ _ _ w.12.inv w.13.taken _ w.15.ensures (not-true _ w.16.taken)))) (λ w. read_kept _ _ _ _ w.18 (read_closed _ _ _ _ w.0.taken w.1.ensures.0 c.lines.invariant.0 _ w.6.ensures w.7.result w.7.ensures _ _ w.9.given.1 (pass_done _ _ _ _ _ _ w.12.inv w.13.left) w.15.result w.15.ensures w.17.taken))) v) c.stopped.ensures) c.lines-test.branch
+returns c =
+    elim c.lines-test.branch [
+      else-lines-test w ↦ read_stopped _ _ _ _ _ c.lines.invariant.0 w.lines-test.false (ap (λ f. f.code) (w.bad-is ∙ c.lines.invariant.1)) c.stopped.ensures
+    | then-lines-test+in-Bad w ↦ read_refused _ _ _ _ (read_kept _ _ _ _ w.bad-is (read_opened _ _ _ _ w.lines-test.true w.plain_end-end.ensures.0 c.lines.invariant.0 _ w.ends_at.ensures w.open_line.result w.open_line.ensures _ w.in-Bad.is)) c.stopped.ensures
+    | then-lines-test+in-Good+then-loop-k-test+then-not-sound_at w ↦ read_refused _ _ _ _ (read_kept _ _ _ _ (w.bad-is ∙ w.malformed_at-bad.ensures) (read_malformed _ _ _ _ w.lines-test.true w.plain_end-end.ensures.0 c.lines.invariant.0 _ w.ends_at.ensures w.open_line.result w.open_line.ensures _ _ w.in-Good.is _ _ _ (pass_stop _ _ _ _ _ _ w.loop-k.invariant w.loop-k-test.true _ w.sound_at.ensures w.if-not-sound_at.true))) c.stopped.ensures
+    | then-lines-test+in-Good+else-loop-k-test+then-bad-ne0 w ↦ read_refused _ _ _ _ (read_kept _ _ _ _ w.bad-is (read_closed _ _ _ _ w.lines-test.true w.plain_end-end.ensures.0 c.lines.invariant.0 _ w.ends_at.ensures w.open_line.result w.open_line.ensures _ _ w.in-Good.is (pass_done _ _ _ _ _ _ w.loop-k.invariant w.loop-k-test.false) w.close_line-bad.result w.close_line-bad.ensures w.if-bad-ne0.true)) c.stopped.ensures
+    ]
