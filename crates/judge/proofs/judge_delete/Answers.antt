@@ -1,6 +1,5 @@
 -- `judge::judge_delete` meets its contract.
 use Rattle.judge.proofs.JudgeLaws.{place_in, deleting}
-use borrow.Author.Tests.{not-false}
 use borrow.Author.Rules.{rules}
 use Rattle.judge.proofs.judge_delete.Goals as goal
 
@@ -29,7 +28,7 @@ pub offset_bounds-places-i : goal.offset_bounds-places-i
 offset_bounds-places-i c = search deleting
 
 pub bounds-places-i : goal.bounds-places-i
-bounds-places-i c = let p = c.requires in let i = place_in _ _ _ _ _ _ p.0.holds _ p.1 _ p.2 _ c.find-found.ensures (not-false _ c.if-not-there.false) in search (rules, i)
+bounds-places-i c = let p = c.requires in let i = place_in _ _ _ _ _ _ p.0.holds _ p.1 _ p.2 _ c.find-found.ensures c.if-not-there.false in search (rules, i)
 
 pub entry_length-requires : goal.entry_length-requires
 entry_length-requires c = search deleting

@@ -7,13 +7,13 @@ pub is_held-requires : goal.is_held-requires
 is_held-requires c = search notes
 
 pub returns-then-not-is_held : goal.returns-then-not-is_held
-returns-then-not-is_held c = no_pass _ h
+returns-then-not-is_held c = λ h. no_pass _ h
 
 pub dates_agree-requires : goal.dates_agree-requires
 dates_agree-requires c = search notes
 
 pub returns-then-not-dates_agree : goal.returns-then-not-dates_agree
-returns-then-not-dates_agree c = no_pass _ h
+returns-then-not-dates_agree c = λ h. no_pass _ h
 
 pub noted_field-requires : goal.noted_field-requires
 noted_field-requires c = search notes
@@ -22,7 +22,7 @@ pub is_same-requires : goal.is_same-requires
 is_same-requires c = search notes
 
 pub returns-then-not-is_same : goal.returns-then-not-is_same
-returns-then-not-is_same c = no_pass _ h
+returns-then-not-is_same c = λ h. no_pass _ h
 
 pub noted_field-requires-2 : goal.noted_field-requires-2
 noted_field-requires-2 c = search notes
@@ -31,4 +31,4 @@ pub is_running-requires : goal.is_running-requires
 is_running-requires c = search notes
 
 pub returns : goal.returns
-returns c = search notes
+returns c = λ h. search notes

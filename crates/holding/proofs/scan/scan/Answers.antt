@@ -59,7 +59,7 @@ pub bounds-noted-count : goal.bounds-noted-count
 bounds-noted-count c = let i = c.loop-at.invariant in scan_room _ _ _ _ _ _ c.loop-at-test.true _ i.0 _ c.next_line.ensures.1 _ c.in-Taken.is c.loop-at.noted i.6
 
 pub overflow_add-at : goal.overflow_add-at
-overflow_add-at c = let i = c.loop-at.invariant in let g = c.well-formed in let w = scan_within _ _ _ _ _ _ c.loop-at-test.true _ i.0 _ c.next_line.ensures.1 _ c.in-Taken.is in omega (arith, w)
+overflow_add-at c = let i = c.loop-at.invariant in let g = c.well_formed in let w = scan_within _ _ _ _ _ _ c.loop-at-test.true _ i.0 _ c.next_line.ensures.1 _ c.in-Taken.is in omega (arith, w)
 
 pub loop-at-smaller : goal.loop-at-smaller
 loop-at-smaller c = let i = c.loop-at.invariant in let f = scan_forward _ _ _ _ _ _ c.loop-at-test.true _ i.0 _ c.next_line.ensures.1 _ c.in-Taken.is in let m = c.loop-at-test.true in omega (arith, f, m)

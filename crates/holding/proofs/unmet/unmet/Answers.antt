@@ -1,7 +1,6 @@
 -- `holding::unmet::unmet` meets its contract.
 use Rattle.holding.proofs.ReadLaws.{unmets, unmet_turn}
 use borrow.Author.Rules.{rules}
-use borrow.Author.Tests.{not-false}
 use Rattle.holding.proofs.unmet.unmet.Goals as goal
 
 pub clear-requires : goal.clear-requires
@@ -47,7 +46,7 @@ pub loop-i-smaller : goal.loop-i-smaller
 loop-i-smaller c = search unmets
 
 pub loop-i-preserved : goal.loop-i-preserved
-loop-i-preserved c = let p = c.requires in (unmet_turn _ _ _ _ _ _ c.loop-i.invariant.0 p.0 p.2 c.loop-i-test.true _ _ c.note_noted.ensures (not-false _ c.if-not-note_noted.false), search rules)
+loop-i-preserved c = let p = c.requires in (unmet_turn _ _ _ _ _ _ c.loop-i.invariant.0 p.0 p.2 c.loop-i-test.true _ _ c.note_noted.ensures c.if-not-note_noted.false, search rules)
 
 pub shape_of-counts : goal.shape_of-counts
 shape_of-counts c = search unmets
