@@ -1,7 +1,6 @@
 -- `find::find_line` meets its contract.
 use Rattle.find.proofs.FindLaws.{finds, enquired}
 use borrow.Author.Rules.{rules}
-use borrow.Author.Tests.{not-false}
 use Rattle.find.proofs.find_line.Goals as goal
 
 pub is_enquired-requires : goal.is_enquired-requires
@@ -44,7 +43,7 @@ pub slice_bounds-held_line-end-2 : goal.slice_bounds-held_line-end-2
 slice_bounds-held_line-end-2 c = search finds
 
 pub held_line-requires : goal.held_line-requires
-held_line-requires c = enquired _ _ _ _ _ _ _ c.is_enquired.ensures (not-false _ c.if-not-is_enquired.false) c.read_holding-held.ensures c.if-held-ne0.false (search rules)
+held_line-requires c = enquired _ _ _ _ _ _ _ c.is_enquired.ensures c.if-not-is_enquired.false c.read_holding-held.ensures c.if-held-ne0.false (search rules)
 
 pub returns : goal.returns
 returns c = search finds

@@ -2,7 +2,6 @@
 use Rattle.in_force.proofs.ForceLaws.{force, faultless, force_refused, force_last}
 use Rattle.find.proofs.FindLaws.{enquired}
 use borrow.Author.Rules.{rules}
-use borrow.Author.Tests.{not-false}
 use Rattle.in_force.proofs.line_in_force.Goals as goal
 
 pub is_enquired-requires : goal.is_enquired-requires
@@ -48,7 +47,7 @@ pub refusal-requires-then-checked-ne0 : goal.refusal-requires-then-checked-ne0
 refusal-requires-then-checked-ne0 c = search force
 
 pub returns-then-checked-ne0 : goal.returns-then-checked-ne0
-returns-then-checked-ne0 c = force_refused _ _ _ _ _ _ c.is_enquired.ensures (not-false _ c.if-not-is_enquired.false) _ _ _ _ c.read_holding-held.ensures c.if-held-ne0.false _ c.check_file-checked.ensures c.if-checked-ne0.true _ c.refusal_in.ensures c.refusal-then-checked-ne0.ensures
+returns-then-checked-ne0 c = force_refused _ _ _ _ _ _ c.is_enquired.ensures c.if-not-is_enquired.false _ _ _ _ c.read_holding-held.ensures c.if-held-ne0.false _ c.check_file-checked.ensures c.if-checked-ne0.true _ c.refusal_in.ensures c.refusal-then-checked-ne0.ensures
 
 pub slice_bounds-last_line-end : goal.slice_bounds-last_line-end
 slice_bounds-last_line-end c = search force
@@ -57,7 +56,7 @@ pub slice_bounds-last_line-end-2 : goal.slice_bounds-last_line-end-2
 slice_bounds-last_line-end-2 c = search force
 
 pub last_line-requires : goal.last_line-requires
-last_line-requires c = (enquired _ _ _ _ _ _ _ c.is_enquired.ensures (not-false _ c.if-not-is_enquired.false) c.read_holding-held.ensures c.if-held-ne0.false (search rules), faultless _ _ c.check_file-checked.ensures c.if-checked-ne0.false)
+last_line-requires c = (enquired _ _ _ _ _ _ _ c.is_enquired.ensures c.if-not-is_enquired.false c.read_holding-held.ensures c.if-held-ne0.false (search rules), faultless _ _ c.check_file-checked.ensures c.if-checked-ne0.false)
 
 pub returns : goal.returns
-returns c = force_last _ _ _ _ _ _ c.is_enquired.ensures (not-false _ c.if-not-is_enquired.false) _ _ _ _ c.read_holding-held.ensures c.if-held-ne0.false c.last_line.ensures
+returns c = force_last _ _ _ _ _ _ c.is_enquired.ensures c.if-not-is_enquired.false _ _ _ _ c.read_holding-held.ensures c.if-held-ne0.false c.last_line.ensures
