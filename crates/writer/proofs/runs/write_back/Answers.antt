@@ -3,8 +3,8 @@ use Rattle.writer.specs.Runs.{back_texts}
 use Rattle.writer.proofs.RunLaws.{backwards, writing_free, line_long, line_in, line_fits, line_turn, all_put, back_next, back_end}
 use native.Mathlib.Omega.{arith}
 use borrow.Author.Rules.{rules}
-use borrow.Author.Tests.{not-true, not-false}
 use mathlib.Core.Path.{refl}
+use borrow.Author.Tests.{not-true, not-false}
 use Rattle.writer.proofs.runs.write_back.Goals as goal
 
 pub loop-done-init : goal.loop-done-init
