@@ -8,8 +8,6 @@ use native.Mathlib.Nat.{lt_of_not-le}
 use native.Mathlib.Omega.{arith}
 use borrow.Author.Rules.{rules}
 use borrow.Author.Tests.{not-true, not-false, ne_eqb}
-use denote.Enum.Declared.{tag_of}
-use types.Run.{OneOf, miss}
 use mir.Syntax.{w64}
 use mir.Val.{Fits}
 use lib.Dec.{T}
@@ -41,7 +39,6 @@ use Rattle.layout.specs.declared.kinds.HeldKind.{HeldKind}
 use Rattle.layout.specs.declared.kinds.Kind as code
 use Rattle.layout.specs.declared.kinds.Kind.TheVariants.{Header, Held, Metadata, Trailer}
 use Rattle.layout.specs.Meant.{held_meant, kind_meant}
-use Rattle.layout.specs.contracts.kinds.Kind.{the_type}
 use Rattle.layout.proofs.KindLaws.{role_of, role_of_lem}
 use Rattle.volume.specs.declared.lines.Line as read
 use Rattle.volume.specs.Meant.{change_meant}
@@ -138,10 +135,6 @@ go_start h f a o c steps before room s e y t p k q m =
 
 -- ---- each way out
 
--- the cases of a kind, by number, that are not held
-abbrev unheld : List ℕ
-unheld = 0 ∷ (2 ∷ (3 ∷ []))
-
 module _ (h f a₀ : List ℕ) (room : ℕ) (s₀ : State) (a o t steps before : List ℕ) (s : State) (at n : ℕ) (g : Going h f a₀ room s₀ a o t steps before s at n) where
   ended : body_from (lines_of (drop at f)) ≡ [] → Runs h f a₀ a o t steps before room s₀ (record { code = 0; line = 0; state = s; steps = n; end = at })
   ended e = record {
@@ -164,15 +157,15 @@ module _ (h f a₀ : List ℕ) (room : ℕ) (s₀ : State) (a o t steps before :
     body_at c e = ap body_from (lines_at f at m) ∙ ap (λ o. pick (is_held o) (change_at f at ∷ body_from (lines_of (drop (at + (line_len (drop at f) + 2)) f))) []) (ap role (sym k) ∙ role_of_lem x c e)
 
     -- where the metadata stands it is done too
-    pub go_last : (r : Ran) → r ≡ record { code = 0; line = 0; state = s; steps = n; end = at } → OneOf unheld (tag_of the_type x) → Runs h f a₀ a o t steps before room s₀ r
+    pub go_last : (r : Ran) → r ≡ record { code = 0; line = 0; state = s; steps = n; end = at } → ((d : HeldKind) → x ≡ Held d → ⊥) → Runs h f a₀ a o t steps before room s₀ r
     unfolding is_held
-    go_last r w t = rw w (ended (last x refl t))
+    go_last r w t = rw w (ended (last x refl))
       where
-        last : (c : code.Kind) → x ≡ c → OneOf unheld (tag_of the_type c) → body_from (lines_of (drop at f)) ≡ []
-        last Header e t = body_at Header e
-        last (Held d) e t = absurd (miss unheld 1 tt t)
-        last Metadata e t = body_at Metadata e
-        last Trailer e t = body_at Trailer e
+        last : (c : code.Kind) → x ≡ c → body_from (lines_of (drop at f)) ≡ []
+        last Header e = body_at Header e
+        last (Held d) e = absurd (t d e)
+        last Metadata e = body_at Metadata e
+        last Trailer e = body_at Trailer e
 
     module _ (d : HeldKind) (u : x ≡ Held d) where
       body_here : body_from (lines_of (drop at f)) ≡ change_at f at ∷ body_from (lines_of (drop (at + (line_len (drop at f) + 2)) f))

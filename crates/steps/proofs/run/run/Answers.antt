@@ -84,10 +84,10 @@ pub returns-then-code-ne0 : goal.returns-then-code-ne0
 returns-then-code-ne0 c = let i = c.loop-at.invariant in go_stop _ _ _ _ _ _ _ _ _ _ _ _ _ i.0 c.loop-at-test.true c.record_kind.result c.record_kind.ensures _ c.in-Held.is _ _ _ _ c.step-stepped.ensures _ c.ended-then-code-ne0.ensures c.if-code-ne0.true
 
 pub overflow_mul-steps : goal.overflow_mul-steps
-overflow_mul-steps c = let i = c.loop-at.invariant in record { fits = omega (arith, i.0.ready.holds.fileShort, c.loop-at-test.true) }
+overflow_mul-steps c = let i = c.loop-at.invariant in record { fits = omega (arith, i.0.ready.holds.file_short, c.loop-at-test.true) }
 
 pub overflow_add-steps : goal.overflow_add-steps
-overflow_add-steps c = let i = c.loop-at.invariant in record { fits = omega (arith, i.0.ready.holds.fileShort, c.loop-at-test.true) }
+overflow_add-steps c = let i = c.loop-at.invariant in record { fits = omega (arith, i.0.ready.holds.file_short, c.loop-at-test.true) }
 
 pub offset_bounds-steps-made : goal.offset_bounds-steps-made
 offset_bounds-steps-made c = let i = c.loop-at.invariant in record { fits = omega (arith, i.0.few) }

@@ -1,15 +1,16 @@
 -- `steps::step::step` meets its contract.
-use mathlib.Core.Path.{ap, ◌∙◌}
-use mathlib.Core.Logic.{⊎_elim}
+use mathlib.Core.Path.{◌≡◌, ap, ◌∙◌}
 use Rattle.base.specs.Lists.{bytes, zeros}
 use Rattle.theory.specs.Decimal.{value, value_f}
 use Rattle.meaning.specs.Kinds.{ident}
 use Rattle.meaning.specs.Format.{field_number}
 use Rattle.meaning.specs.Table.{fields, key_names, refers_to}
 use Rattle.layout.specs.Rows.{laid_out, places_of, padded, targets, sources}
-use Rattle.keys.specs.Numbers.{key_list}
+use Rattle.keys.specs.Numbers.{key_list, key_numbers}
+use Rattle.entries.specs.Entries.{rec_of, line_at}
 use Rattle.steps.proofs.StepLaws.{stepping, line_fine, line_key}
 use Rattle.steps.proofs.step.step.Goals as goal
+use Rattle.steps.proofs.step.step.Goals.{in-Street, in-StreetXref, in-Blpu, in-AppXref, in-Lpi}
 
 pub overflow_mul-entry : goal.overflow_mul-entry
 unfolding laid_out places_of padded targets sources ident fields key_names refers_to field_number bytes zeros value value_f
@@ -65,7 +66,7 @@ enum_told-in-Insert c = search stepping
 
 pub insert-requires : goal.insert-requires
 unfolding laid_out places_of padded targets sources ident fields key_names refers_to field_number bytes zeros value value_f
-insert-requires c = let q = c.requires in let k = ⊎_elim (λ w. ap key_list w.3 ∙ w.2.ensures) (⊎_elim (λ w. ap key_list w.3 ∙ w.2.ensures) (⊎_elim (λ w. ap key_list w.3 ∙ w.2.ensures) (⊎_elim (λ w. ap key_list w.3 ∙ w.2.ensures) (λ w. ap key_list w.3 ∙ w.2.ensures)))) c.match-kind.branch in (q.0, line_fine _ _ _ _ q.1, line_key _ _ _ _ q.1 _ k)
+insert-requires c = let q = c.requires in let k = elim c.match-kind.branch as (λ _. key_list c.match-kind.key ≡ key_numbers (rec_of (line_at c.args.file.now c.args.at))) [ in-Street w ↦ ap key_list w.key-is ∙ w.line_key-key.ensures | in-StreetXref w ↦ ap key_list w.key-is ∙ w.line_key-key-in-StreetXref.ensures | in-Blpu w ↦ ap key_list w.key-is ∙ w.line_key-key-in-Blpu.ensures | in-AppXref w ↦ ap key_list w.key-is ∙ w.line_key-key-in-AppXref.ensures | in-Lpi w ↦ ap key_list w.key-is ∙ w.line_key-key-in-Lpi.ensures ] in (q.0, line_fine _ _ _ _ q.1, line_key _ _ _ _ q.1 _ k)
 
 pub enum_told-in-Update : goal.enum_told-in-Update
 unfolding laid_out places_of padded targets sources ident fields key_names refers_to field_number bytes zeros value value_f
@@ -73,7 +74,7 @@ enum_told-in-Update c = search stepping
 
 pub update-requires : goal.update-requires
 unfolding laid_out places_of padded targets sources ident fields key_names refers_to field_number bytes zeros value value_f
-update-requires c = let q = c.requires in let k = ⊎_elim (λ w. ap key_list w.3 ∙ w.2.ensures) (⊎_elim (λ w. ap key_list w.3 ∙ w.2.ensures) (⊎_elim (λ w. ap key_list w.3 ∙ w.2.ensures) (⊎_elim (λ w. ap key_list w.3 ∙ w.2.ensures) (λ w. ap key_list w.3 ∙ w.2.ensures)))) c.match-kind.branch in (q.0, line_fine _ _ _ _ q.1, line_key _ _ _ _ q.1 _ k)
+update-requires c = let q = c.requires in let k = elim c.match-kind.branch as (λ _. key_list c.match-kind.key ≡ key_numbers (rec_of (line_at c.args.file.now c.args.at))) [ in-Street w ↦ ap key_list w.key-is ∙ w.line_key-key.ensures | in-StreetXref w ↦ ap key_list w.key-is ∙ w.line_key-key-in-StreetXref.ensures | in-Blpu w ↦ ap key_list w.key-is ∙ w.line_key-key-in-Blpu.ensures | in-AppXref w ↦ ap key_list w.key-is ∙ w.line_key-key-in-AppXref.ensures | in-Lpi w ↦ ap key_list w.key-is ∙ w.line_key-key-in-Lpi.ensures ] in (q.0, line_fine _ _ _ _ q.1, line_key _ _ _ _ q.1 _ k)
 
 pub enum_told-in-Delete : goal.enum_told-in-Delete
 unfolding laid_out places_of padded targets sources ident fields key_names refers_to field_number bytes zeros value value_f
@@ -81,7 +82,7 @@ enum_told-in-Delete c = search stepping
 
 pub delete-requires : goal.delete-requires
 unfolding laid_out places_of padded targets sources ident fields key_names refers_to field_number bytes zeros value value_f
-delete-requires c = let q = c.requires in let k = ⊎_elim (λ w. ap key_list w.3 ∙ w.2.ensures) (⊎_elim (λ w. ap key_list w.3 ∙ w.2.ensures) (⊎_elim (λ w. ap key_list w.3 ∙ w.2.ensures) (⊎_elim (λ w. ap key_list w.3 ∙ w.2.ensures) (λ w. ap key_list w.3 ∙ w.2.ensures)))) c.match-kind.branch in (q.0, line_fine _ _ _ _ q.1, line_key _ _ _ _ q.1 _ k)
+delete-requires c = let q = c.requires in let k = elim c.match-kind.branch as (λ _. key_list c.match-kind.key ≡ key_numbers (rec_of (line_at c.args.file.now c.args.at))) [ in-Street w ↦ ap key_list w.key-is ∙ w.line_key-key.ensures | in-StreetXref w ↦ ap key_list w.key-is ∙ w.line_key-key-in-StreetXref.ensures | in-Blpu w ↦ ap key_list w.key-is ∙ w.line_key-key-in-Blpu.ensures | in-AppXref w ↦ ap key_list w.key-is ∙ w.line_key-key-in-AppXref.ensures | in-Lpi w ↦ ap key_list w.key-is ∙ w.line_key-key-in-Lpi.ensures ] in (q.0, line_fine _ _ _ _ q.1, line_key _ _ _ _ q.1 _ k)
 
 pub shape_of-places-in-Insert : goal.shape_of-places-in-Insert
 unfolding laid_out places_of padded targets sources ident fields key_names refers_to field_number bytes zeros value value_f
