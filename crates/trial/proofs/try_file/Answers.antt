@@ -15,7 +15,7 @@ pub returns-then-room-size : goal.returns-then-room-size
 returns-then-room-size c = let g = c.args in trial_refused _ _ _ _ _ _ _ _ (trial_short g.holding.now g.file.now g.room _ _ _ _ c.read_holding-held.ensures c.if-held-ne0.false _ c.check_file-answer.ensures c.if-answer-ne0.false c.if-room-size.true) (λ e. omega arith) c.stopped-then-room-size.ensures
 
 pub run-ran-requires : goal.run-ran-requires
-run-ran-requires c = let g = c.args in (trial_ready g.holding.now g.file.now g.room _ _ _ _ c.read_holding-held.ensures c.if-held-ne0.false _ c.check_file-answer.ensures c.if-answer-ne0.false c.if-room-size.false (omega (arith, c.places-1.given, c.requires.0)) (search rules) (search rules) c.requires.3 (omega (arith, c.well-formed.0.1)) (omega (arith, c.well-formed.1.0.1)), is_file_lem g.holding.now g.file.now g.room _ _ _ _ c.read_holding-held.ensures c.if-held-ne0.false _ c.check_file-answer.ensures c.if-answer-ne0.false, c.requires.1, c.requires.2)
+run-ran-requires c = let g = c.args in (trial_ready g.holding.now g.file.now g.room _ _ _ _ c.read_holding-held.ensures c.if-held-ne0.false _ c.check_file-answer.ensures c.if-answer-ne0.false c.if-room-size.false (omega (arith, c.places-1.given, c.requires.0)) (search rules) (search rules) c.requires.3 (omega (arith, c.well_formed.0.1)) (omega (arith, c.well_formed.1.0.1)), is_file_lem g.holding.now g.file.now g.room _ _ _ _ c.read_holding-held.ensures c.if-held-ne0.false _ c.check_file-answer.ensures c.if-answer-ne0.false, c.requires.1, c.requires.2)
 
 pub shape_of-places-then-ran-ne0 : goal.shape_of-places-then-ran-ne0
 shape_of-places-then-ran-ne0 c = c.places-2-1.given ∙ c.places-1.given
