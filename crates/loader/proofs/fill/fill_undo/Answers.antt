@@ -1,7 +1,7 @@
 -- `loader::fill::fill_undo` meets its contract.
 use borrow.Author.Rules.{rules}
-use borrow.Author.Tests.{not-true, not-false}
 use Rattle.loader.proofs.FillLaws.{fill_not, fill_in, fill_all}
+use borrow.Author.Tests.{not-true, not-false}
 use Rattle.loader.proofs.fill.fill_undo.Goals as goal
 
 pub returns-then-not-undo : goal.returns-then-not-undo

@@ -1,7 +1,7 @@
 -- `loader::undo::put_undo` meets its contract.
 use borrow.Author.Rules.{rules}
-use borrow.Author.Tests.{not-true, not-false}
 use Rattle.loader.proofs.UndoLaws.{frame_long_lem, put_long, put_two, put_fits, put_rest, put_all_fits, put_done}
+use borrow.Author.Tests.{not-true, not-false}
 use Rattle.loader.proofs.undo.put_undo.Goals as goal
 
 pub returns-then-out-frame : goal.returns-then-out-frame
