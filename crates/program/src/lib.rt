@@ -69,8 +69,8 @@ pub fn print(
     change: &[u8],
     printed: &mut [u8; MOST],
 ) -> usize
-    ensures upper_bound { result ≤ length printed.new }
-    ensures print_outcome { PrintOutcome held holding.now sent change.now printed.old result printed.new }
+    ensures in_buffer { result ≤ length printed.new }
+    ensures outcome { PrintOutcome held holding.now sent change.now printed.old result printed.new }
 {
     if is_unusable(held, holding) {
         return print_unusable(printed);
