@@ -1,5 +1,5 @@
 -- What an enquiry hands back, by the meaning's answer.
-use Rattle.std.specs.Prelude.{◌≡◌, true, false, ◌&&◌, List, [], ◌∷◌, ℕ, ◌-◌, ◌≤◌, leb, length, get_or, take, drop}
+use Rattle.std.specs.Prelude.{◌≡◌, true, false, ◌&&◌, List, [], ℕ, ◌-◌, ◌≤◌, leb, length, get_or, take, drop}
 use Rattle.std.specs.Borrow.{Bor}
 use Rattle.meaning.specs.Lines.{lines_of}
 use Rattle.meaning.specs.Enquiries.{Slice, first, second, Found, spanned}

@@ -3,19 +3,18 @@ use mathlib.Core.Path.{◌≡◌, refl, sym, ap, ◌∙◌}
 use mathlib.Core.Bool.{Bool, true, false}
 use mathlib.Core.Option.{Option, none, some}
 use mathlib.Core.List.{List, [], ◌∷◌, ◌++◌, map}
-use Prim.Native.Nat.{ℕ, ◌+◌, ◌-◌, ◌≤◌, ◌<◌}
+use Prim.Native.Nat.{ℕ, ◌-◌}
 use native.Mathlib.Nat.{sub-zero}
 use native.Mathlib.Omega.{arith}
 use borrow.Author.Rules.{rules}
 use borrow.Author.Tests.{not-true, not-false}
-use lib.Dec.{leb, leb→le}
 use lib.ListN.{length, get_or, take, drop}
 use Rattle.base.specs.Lists.{pick, ask, same, keep_if, bytes}
 use Rattle.theory.specs.Decimal.{dec, width}
 use Rattle.theory.specs.DecimalLaws.{length_dec}
 use Rattle.theory.specs.Step.{ins}
 use Rattle.meaning.specs.Lines.{Line, ends_well, fields_of, identifier, has_fields}
-use Rattle.meaning.specs.Kinds.{Kind, kinds, role}
+use Rattle.meaning.specs.Kinds.{Kind, role}
 use Rattle.meaning.specs.Format.{kind_of, named, field_number, start_date, end_date}
 use Rattle.meaning.specs.Table.{fields, scottish}
 use Rattle.meaning.specs.Codes.{field_count_wrong, end_before_start}
@@ -24,9 +23,7 @@ use Rattle.meaning.specs.Answers.{of_line, of_field}
 use Rattle.meaning.specs.Sound.{dates_agree, field_fault, form_fault}
 use Rattle.meaning.specs.Records.{content_of, letter}
 use Rattle.meaning.specs.Holding.{is_held, is_sound, held_test, held_kind, held_line}
-use Rattle.laws.specs.Kinds.{every}
 use Rattle.text.specs.Front.{in_front}
-use Rattle.text.proofs.FieldLaws.{fields_many}
 use Rattle.text.proofs.NumberLaws.{width_most}
 use Rattle.answers.specs.declared.refusal.Fault.{Fault}
 use Rattle.layout.specs.declared.kinds.Kind as code

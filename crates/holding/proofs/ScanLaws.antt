@@ -60,7 +60,6 @@ use Rattle.noted.specs.Noted.{RefsNoted}
 use Rattle.holding.specs.declared.scan.Kept.{Kept}
 use Rattle.holding.specs.declared.scan.Next.{Next}
 use Rattle.holding.specs.declared.scan.Next.TheVariants.{Taken, Faulty}
-use Rattle.holding.specs.declared.read.Held.{Held}
 use Rattle.holding.specs.Held.{held_as, record_as, record_up_to, next_as, key_taken, after_key, KeptOf, KeptIn, NextIs}
 use Rattle.holding.specs.Read.{fault_of, records_of, NotedAs, ReadAs}
 use Rattle.holding.proofs.HeldLaws.{held_is, held_passes}

@@ -16,7 +16,7 @@ use Rattle.theory.specs.Decimal.{value, value_f}
 use Rattle.meaning.specs.Lines.{fields_of}
 use Rattle.meaning.specs.Forms.{Form, number, at_least1, decimal, date, time, text, change_type, xref_type, file_type, key_text, quoted, inside, is_digit, is_number, is_text, is_key, one_of, is_textual, is_empty, has_form, sound_as}
 use Rattle.meaning.specs.Kinds.{Kind}
-use Rattle.meaning.specs.Table.{fields, scottish}
+use Rattle.meaning.specs.Table.{scottish}
 use Rattle.meaning.specs.Records.{content_of}
 use Rattle.laws.specs.Digits.{digit_low}
 use Rattle.layout.specs.declared.records.Layout.{Layout}
