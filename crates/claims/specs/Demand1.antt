@@ -12,13 +12,16 @@ use Rattle.meaning.specs.Codes.{field_malformed}
 use Rattle.meaning.specs.Load.{check_file, check_holding}
 use Rattle.meaning.specs.Enquiries.{Found, find, in_force, field_of}
 use Rattle.meaning.specs.Answers.{Three}
-use Rattle.laws.specs.Rows.{Row, given, pointed, check_rows, holding_rows, load_rows, find_rows, force_rows, field_rows, FoundIn, check_given, holding_given, load_given, find_given, force_given, field_given, check_pointed, load_pointed}
+use Rattle.laws.specs.Rows.{Row, given, pointed, check_rows, holding_rows, load_rows, find_rows, force_rows, field_rows, FoundIn}
+use Rattle.laws.proofs.Rows.{check_given, holding_given, load_given, find_given, force_given, field_given, check_pointed, load_pointed}
 use Rattle.laws.specs.PlaceLaws.{place_most}
-use Rattle.laws.specs.Checks.{refused_counts}
-use Rattle.laws.specs.WhyFile.{FileFails, check_why, five_field}
-use Rattle.laws.specs.WhyLoad.{Reason, reason_five, load_why}
+use Rattle.laws.proofs.Checks.{refused_counts}
+use Rattle.laws.specs.WhyFile.{FileFails}
+use Rattle.laws.proofs.WhyFile.{check_why, five_field}
+use Rattle.laws.specs.WhyLoad.{Reason}
+use Rattle.laws.proofs.WhyLoad.{reason_five, load_why}
 use Rattle.laws.specs.WhyField.{field_bytes}
-use Rattle.laws.specs.Demand2.{refused_zeros}
+use Rattle.laws.proofs.Demand2.{refused_zeros}
 use Rattle.laws.specs.Scottish.{scottish_regular}
 use Rattle.answers.specs.Meant.{answer_of, verdict_of, three_list}
 use Rattle.answers.specs.declared.numbers.Answer.{Answer}

@@ -18,10 +18,11 @@ use Rattle.laws.specs.LinesAndFields.{ends}
 use Rattle.laws.specs.LinePart.{no_line}
 use Rattle.laws.specs.HoldingReadBack.{insert_of}
 use Rattle.laws.specs.SoundHolding.{SoundHolding}
-use Rattle.laws.specs.Checks.{holding_checked}
-use Rattle.laws.specs.Takes.{new_fits}
+use Rattle.laws.proofs.Checks.{holding_checked}
+use Rattle.laws.proofs.Takes.{new_fits}
 use Rattle.laws.specs.Find.{record_line}
-use Rattle.laws.specs.Demand2.{Allowed, after_all, UndoFits, Lawful, Roomy, Whole, lawful_exactly, taken_exactly, allowed_takes, allowed_done, at_every_state, last_line, unnamed, new_sound}
+use Rattle.laws.specs.Demand2.{Allowed, after_all, UndoFits, Lawful, Roomy, Whole}
+use Rattle.laws.proofs.Demand2.{lawful_exactly, taken_exactly, allowed_takes, allowed_done, at_every_state, last_line, unnamed, new_sound}
 use Rattle.laws.specs.Scottish.{scottish_regular}
 use Rattle.answers.specs.Meant.{answer_of, verdict_of}
 use Rattle.answers.specs.declared.numbers.Answer.{Answer}

@@ -14,15 +14,17 @@ use Rattle.meaning.specs.Load.{then_zeros, check_file}
 use Rattle.meaning.specs.Answers.{taken_with}
 use Rattle.meaning.specs.Undo.{undo_bytes}
 use Rattle.meaning.specs.Codes.{holding_too_long, undo_too_long, all_done}
-use Rattle.laws.specs.SoundFile.{SoundFile, sound_read, read_sound}
+use Rattle.laws.specs.SoundFile.{SoundFile}
+use Rattle.laws.proofs.SoundFile.{sound_read, read_sound}
 use Rattle.laws.specs.FileRefusals.{among}
 use Rattle.laws.specs.SoundHolding.{SoundHolding, held_sound, held_is_sound}
-use Rattle.laws.specs.Checks.{file_checked, held_only}
-use Rattle.laws.specs.Takes.{Takes, taken, undo_takes, met_old}
-use Rattle.laws.specs.Demand2.{Allowed, after_all, UndoFits, allowed_takes, takes_more}
-use Rattle.laws.specs.Demand3.{steps_back, undo_is_lem, undo_sound, undo_checks, empty_body}
+use Rattle.laws.proofs.Checks.{file_checked, held_only}
+use Rattle.laws.proofs.Takes.{Takes, taken, undo_takes, met_old}
+use Rattle.laws.specs.Demand2.{Allowed, after_all, UndoFits}
+use Rattle.laws.proofs.Demand2.{allowed_takes, takes_more}
+use Rattle.laws.proofs.Demand3.{steps_back, undo_is_lem, undo_sound, undo_checks, empty_body}
 use Rattle.laws.specs.Room as rooms
-use Rattle.laws.specs.RoomRefusals.{room_refusals}
+use Rattle.laws.proofs.RoomRefusals.{room_refusals}
 use Rattle.laws.specs.Scottish.{scottish_regular}
 use Rattle.answers.specs.Meant.{answer_of, counts_of}
 use Rattle.answers.specs.declared.numbers.Answer.{Answer}

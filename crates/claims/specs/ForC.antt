@@ -4,9 +4,12 @@ use Rattle.meaning.specs.Table.{scottish}
 use Rattle.meaning.specs.Answers.{number_list}
 use Rattle.meaning.specs.Load.{check_file, check_holding, load_file}
 use Rattle.meaning.specs.Enquiries.{Found, find, in_force, field_of}
-use Rattle.laws.specs.WhyField.{FieldAnswers, field_answers}
-use Rattle.laws.specs.WhyFind.{FindAnswers, find_answers}
-use Rattle.laws.specs.WhyForce.{ForceAnswers, force_answers}
+use Rattle.laws.specs.WhyField.{FieldAnswers}
+use Rattle.laws.proofs.WhyField.{field_answers}
+use Rattle.laws.specs.WhyFind.{FindAnswers}
+use Rattle.laws.proofs.WhyFind.{find_answers}
+use Rattle.laws.specs.WhyForce.{ForceAnswers}
+use Rattle.laws.proofs.WhyForce.{force_answers}
 use Rattle.laws.specs.Scottish.{scottish_regular}
 use Rattle.answers.specs.Meant.{answer_of, verdict_of, answer_list, verdict_list, three_list}
 use Rattle.answers.specs.declared.numbers.Answer.{Answer}

@@ -14,9 +14,11 @@ use Rattle.meaning.specs.Codes.{field_malformed, holding_too_long, holding_unsou
 use Rattle.laws.specs.SoundHolding.{SoundHolding}
 use Rattle.laws.specs.Rows.{load_rows}
 use Rattle.laws.specs.Checks.{SomeHolding}
-use Rattle.laws.specs.Demand2.{Allowed, after_all, UndoFits, Lawful, Roomy, allowed_takes}
-use Rattle.laws.specs.Room.{undo_enough, room_enough_lem}
-use Rattle.laws.specs.WhyLoad.{reason_five, Located, Unsound, Faulty, BothSound, Reason, bad_file, load_why, why_load, load_14, load_start, load_13, roomy_13, load_17, undo_body_lem}
+use Rattle.laws.specs.Demand2.{Allowed, after_all, UndoFits, Lawful, Roomy}
+use Rattle.laws.proofs.Demand2.{allowed_takes}
+use Rattle.laws.proofs.Room.{undo_enough, room_enough_lem}
+use Rattle.laws.specs.WhyLoad.{Located, Unsound, Faulty, BothSound, Reason, bad_file}
+use Rattle.laws.proofs.WhyLoad.{reason_five, load_why, why_load, load_14, load_start, load_13, roomy_13, load_17, undo_body_lem}
 use Rattle.laws.specs.Scottish.{scottish_regular}
 use Rattle.answers.specs.Meant.{answer_of}
 use Rattle.answers.specs.declared.numbers.Answer.{Answer}

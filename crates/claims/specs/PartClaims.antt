@@ -8,9 +8,12 @@ use Rattle.meaning.specs.Enquiries.{Found, find, in_force, field_of}
 use Rattle.laws.specs.HoldingReadBack.{insert_of}
 use Rattle.laws.specs.Rows.{find_rows, force_rows, field_rows}
 use Rattle.laws.specs.Find.{FoundIt}
-use Rattle.laws.specs.WhyField.{Answers, HasField, field_bytes, FieldAnswers, given, no_field, field_answers}
-use Rattle.laws.specs.WhyFind.{FindAnswers, find_answers}
-use Rattle.laws.specs.WhyForce.{ForceAnswers, force_answers}
+use Rattle.laws.specs.WhyField.{Answers, HasField, field_bytes, FieldAnswers, given, no_field}
+use Rattle.laws.proofs.WhyField.{field_answers}
+use Rattle.laws.specs.WhyFind.{FindAnswers}
+use Rattle.laws.proofs.WhyFind.{find_answers}
+use Rattle.laws.specs.WhyForce.{ForceAnswers}
+use Rattle.laws.proofs.WhyForce.{force_answers}
 use Rattle.laws.specs.Scottish.{scottish_regular}
 use Rattle.meaning.specs.Codes.{no_such_part}
 use Rattle.answers.specs.Meant.{three_list}

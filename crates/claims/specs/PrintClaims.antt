@@ -11,9 +11,10 @@ use Rattle.meaning.specs.Answers.{alone, refused_with}
 use Rattle.meaning.specs.Load.{load_file}
 use Rattle.meaning.specs.Undo.{undo_bytes}
 use Rattle.meaning.specs.Program.{program_room, unusable, print_numbers, program}
-use Rattle.laws.specs.Takes.{taken_long}
-use Rattle.laws.specs.Demand2.{Allowed, after_all, UndoFits, allowed_takes}
-use Rattle.laws.specs.WhyPrint.{prints_18, prints_refused, prints_taken}
+use Rattle.laws.proofs.Takes.{taken_long}
+use Rattle.laws.specs.Demand2.{Allowed, after_all, UndoFits}
+use Rattle.laws.proofs.Demand2.{allowed_takes}
+use Rattle.laws.proofs.WhyPrint.{prints_18, prints_refused, prints_taken}
 use Rattle.laws.specs.Scottish.{scottish_regular}
 use Rattle.text.specs.Front.{in_front}
 use Rattle.program.specs.Outcome.{input_of, PrintOutcome}

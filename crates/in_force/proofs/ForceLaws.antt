@@ -27,9 +27,11 @@ use Rattle.meaning.specs.Load.{checked, check_file}
 use Rattle.meaning.specs.Enquiries.{Found, second, refusal, part_of, held_at, held_part, last_naming, unless_deleted, in_force_part, in_force_file, in_force_held, in_force_kind, in_force}
 use Rattle.meaning.specs.Answers.{Read, of_line, at_line, alone}
 use Rattle.laws.specs.LinesAndFields.{ends_all}
-use Rattle.laws.specs.SoundFile.{RoleLine, SaysChange, SaysChanges, SoundFile, sound_read}
-use Rattle.laws.specs.FileReadBack.{fine_c, file_says}
-use Rattle.laws.specs.Checks.{checked_file}
+use Rattle.laws.specs.SoundFile.{RoleLine, SaysChange, SaysChanges, SoundFile}
+use Rattle.laws.proofs.SoundFile.{sound_read}
+use Rattle.laws.specs.FileReadBack.{fine_c}
+use Rattle.laws.proofs.FileReadBack.{file_says}
+use Rattle.laws.proofs.Checks.{checked_file}
 use Rattle.laws.specs.Scottish.{scottish_regular}
 use Rattle.answers.specs.declared.numbers.Answer.{Answer}
 use Rattle.answers.specs.Meant.{answer_of, refusal_meant, refusal_in}

@@ -20,12 +20,14 @@ use Rattle.laws.specs.Body.{ident_in, change_read}
 use Rattle.laws.specs.LinesAndFields.{ends, ends_all}
 use Rattle.laws.specs.HoldingReadBack.{insert_of}
 use Rattle.laws.specs.SoundHolding.{SoundHolding, sound_held}
-use Rattle.laws.specs.SoundFile.{SaysChanges, sound_read}
-use Rattle.laws.specs.Checks.{held_only}
+use Rattle.laws.specs.SoundFile.{SaysChanges}
+use Rattle.laws.proofs.SoundFile.{sound_read}
+use Rattle.laws.proofs.Checks.{held_only}
 use Rattle.laws.specs.LinePart.{no_line, part_is}
 use Rattle.laws.specs.Find.{FoundIt, find_finds, finds_find}
 use Rattle.laws.specs.Demand2.{Allowed, after_all}
-use Rattle.laws.specs.InForce.{NamedSays, in_force_lem}
+use Rattle.laws.specs.InForce.{NamedSays}
+use Rattle.laws.proofs.InForce.{in_force_lem}
 use Rattle.laws.specs.Scottish.{scottish_knows, scottish_regular}
 use Rattle.answers.specs.Meant.{three_list}
 use Rattle.entries.specs.Entries.{rec_of}

@@ -16,7 +16,7 @@ use Rattle.meaning.specs.Load.{Loaded, loaded, if_undo_fits, tried, load, load_f
 use Rattle.meaning.specs.Undo.{undo_bytes}
 use Rattle.meaning.specs.Program.{print_numbers, print_load, program, program_room, unusable}
 use Rattle.meaning.specs.Answers.{Answer, alone, refused_with}
-use Rattle.laws.specs.Takes.{TookSays, took_takes}
+use Rattle.laws.proofs.Takes.{TookSays, took_takes}
 use Rattle.laws.specs.Scottish.{scottish_regular}
 use Rattle.text.specs.Front.{in_front}
 use Rattle.text.proofs.FrontLaws.{front_then}

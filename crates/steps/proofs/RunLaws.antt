@@ -29,8 +29,10 @@ use Rattle.meaning.specs.File.{Sheet, read_file, most_body}
 use Rattle.meaning.specs.Answers.{Read}
 use Rattle.meaning.specs.Steps.{step_rules, step_code, run_steps}
 use Rattle.laws.specs.LinesAndFields.{ends_all}
-use Rattle.laws.specs.FileReadBack.{fine_c, file_says}
-use Rattle.laws.specs.SoundFile.{RoleLine, SaysChange, SaysChanges, read_sound}
+use Rattle.laws.specs.FileReadBack.{fine_c}
+use Rattle.laws.proofs.FileReadBack.{file_says}
+use Rattle.laws.specs.SoundFile.{RoleLine, SaysChange, SaysChanges}
+use Rattle.laws.proofs.SoundFile.{read_sound}
 use Rattle.laws.specs.Scottish.{scottish_regular}
 use Rattle.meaning.specs.Undo.{undo_body}
 use Rattle.text.specs.Places.{line_len, line_end}

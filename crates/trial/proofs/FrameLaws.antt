@@ -11,7 +11,8 @@ use Rattle.meaning.specs.Table.{scottish}
 use Rattle.meaning.specs.Records.{Rec, change_texts, joined}
 use Rattle.meaning.specs.File.{Frame, write_file}
 use Rattle.laws.specs.LinesAndFields.{ends_all, unlines, lines_join, unlines_ends, joined_append, ends_past}
-use Rattle.laws.specs.SoundFile.{SoundFile, says_length}
+use Rattle.laws.specs.SoundFile.{SoundFile}
+use Rattle.laws.proofs.SoundFile.{says_length}
 use Rattle.text.specs.Places.{line_len, line_end}
 use Rattle.text.proofs.LineLaws.{line_len_le, lines_at}
 

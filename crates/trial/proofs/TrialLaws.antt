@@ -21,8 +21,9 @@ use Rattle.meaning.specs.Steps.{fits, run_steps}
 use Rattle.meaning.specs.Undo.{undo_sheet, undo_held, undo_bytes, undo_body}
 use Rattle.laws.specs.FileRefusals.{ReadIn, among, file_codes_lem}
 use Rattle.laws.specs.SoundHolding.{held_is_sound}
-use Rattle.laws.specs.SoundFile.{SoundFile, read_sound}
-use Rattle.laws.specs.Checks.{held_bytes}
+use Rattle.laws.specs.SoundFile.{SoundFile}
+use Rattle.laws.proofs.SoundFile.{read_sound}
+use Rattle.laws.proofs.Checks.{held_bytes}
 use Rattle.laws.specs.Scottish.{scottish_regular}
 use Rattle.text.specs.Places.{line_end}
 use Rattle.answers.specs.declared.numbers.Answer.{Answer as Told}

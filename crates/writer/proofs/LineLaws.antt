@@ -14,7 +14,7 @@ use Rattle.theory.specs.DecimalLaws.{length_dec}
 use Rattle.meaning.specs.Kinds.{Kind, kinds, ident}
 use Rattle.meaning.specs.Records.{letter, change_text}
 use Rattle.laws.specs.Kinds.{every}
-use Rattle.laws.specs.Room.{ident_long, letter_long}
+use Rattle.laws.proofs.Room.{ident_long, letter_long}
 use Rattle.text.specs.Front.{in_front}
 use Rattle.text.proofs.FrontLaws.{front_then, front_room, front_last, last_room}
 use Rattle.layout.specs.declared.records.Layout.{Layout}

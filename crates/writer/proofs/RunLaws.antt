@@ -16,7 +16,7 @@ use lib.Seq.{length-take-le, take-add, take_all}
 use Rattle.theory.specs.Step.{Op, ins, inv, Change}
 use Rattle.theory.specs.Run.{as_inserts}
 use Rattle.meaning.specs.Records.{Rec, change_text, change_texts, joined}
-use Rattle.laws.specs.Room.{inserts_length}
+use Rattle.laws.proofs.Room.{inserts_length}
 use Rattle.text.specs.Front.{in_front}
 use Rattle.text.proofs.FrontLaws.{front_none, front_same, front_then}
 use Rattle.entries.specs.Entries.{record_of}

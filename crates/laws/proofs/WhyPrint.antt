@@ -14,8 +14,9 @@ use Rattle.meaning.specs.Load.{load, loaded, load_file}
 use Rattle.meaning.specs.Undo.{undo_bytes}
 use Rattle.meaning.specs.Program.{program_room, unusable, print_numbers, print_load, program}
 use Rattle.laws.specs.Regular.{Regular}
-use Rattle.laws.specs.Takes.{load_took, taken}
-use Rattle.laws.specs.Demand2.{Allowed, after_all, UndoFits, allowed_takes}
+use Rattle.laws.proofs.Takes.{load_took, taken}
+use Rattle.laws.specs.Demand2.{Allowed, after_all, UndoFits}
+use Rattle.laws.proofs.Demand2.{allowed_takes}
 
 module _ (F : Format) where
   -- 18 where an input is unreadable or too long

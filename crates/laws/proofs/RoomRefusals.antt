@@ -23,7 +23,7 @@ use Rattle.meaning.specs.Codes.{holding_too_long, all_done, undo_too_long}
 use Rattle.laws.specs.Regular.{Regular}
 use Rattle.laws.specs.SoundHolding.{held_sound}
 use Rattle.laws.specs.FileRefusals.{among}
-use Rattle.laws.specs.Takes.{Takes}
+use Rattle.laws.proofs.Takes.{Takes}
 
 -- a run stops with 13 alone
 abbrev Only13 : Out (List Rec) → Type 0

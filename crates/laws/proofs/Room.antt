@@ -41,11 +41,12 @@ use Rattle.laws.specs.LinesAndFields.{unlines, lines_join, unlines_ends}
 use Rattle.laws.specs.SoundLine.{EachSound, sound_form}
 use Rattle.laws.specs.Body.{kind_out, kind_known, first_field_lem, body_out}
 use Rattle.laws.specs.SoundHolding.{SoundHolding, held_sound}
-use Rattle.laws.specs.SoundFile.{SaysChange, SaysChanges, SoundFile, read_sound}
-use Rattle.laws.specs.Checks.{held_bytes}
-use Rattle.laws.specs.Takes.{Takes, met_old, good_old, new_held}
+use Rattle.laws.specs.SoundFile.{SaysChange, SaysChanges, SoundFile}
+use Rattle.laws.proofs.SoundFile.{read_sound}
+use Rattle.laws.proofs.Checks.{held_bytes}
+use Rattle.laws.proofs.Takes.{Takes, met_old, good_old, new_held}
 use Rattle.laws.specs.Demand2.{Roomy}
-use Rattle.laws.specs.Demand3.{steps_back, undo_is_lem, undo_reads}
+use Rattle.laws.proofs.Demand3.{steps_back, undo_is_lem, undo_reads}
 
 -- ---- how long lines are
 
@@ -154,7 +155,6 @@ module _ (F : Format) where
 
   module _ (regular : Regular F) where
     open regular use {opens}
-
     -- ---- a file is at least as long as it is written anew
 
     -- a body line is at least as long as the line of its change
@@ -198,9 +198,9 @@ module _ (F : Format) where
         let e : b ≡ joined (fr.header_text ∷ (ts ++ (fr.metadata_text ∷ fr.trailer_text ∷ []))) = sym (lines_join b) ∙ ap unlines s.lines ∙ unlines_ends _ in
         omega (arith, ap length e, around_long fr ts, around_long fr (change_texts 1 cs), lines_least 1 ts cs s.body)
 
+    module _ (room : ℕ) (old b new : List ℕ) (a : Takes F regular room old b new) where
     -- ---- the undo
 
-    module _ (room : ℕ) (old b new : List ℕ) (a : Takes F regular room old b new) where
       -- the file is at least as long as it is written anew
       taken_least : length (write_file a.fr a.cs) ≤ length b
       taken_least = file_least b a.fr a.cs (read_sound F b a.fr a.cs a.read)
