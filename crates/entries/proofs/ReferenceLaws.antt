@@ -22,7 +22,7 @@ use Rattle.layout.specs.Rows.{row_of, laid_out}
 use Rattle.keys.specs.declared.Key.{Key}
 use Rattle.keys.specs.declared.Referred.{Referred}
 use Rattle.keys.specs.Numbers.{number_of, key_list, referred_as, key_numbers, ref_at}
-use Rattle.keys.specs.KeyLaws.{refs_are}
+use Rattle.keys.proofs.KeyLaws.{refs_are}
 use Rattle.keys.proofs.RowLaws.{ref_beyond, ref_low, ref_none, ref_some}
 use Rattle.entries.specs.Entries.{known, rec_of, line_at, record_of}
 use Rattle.entries.specs.Fields.{after_fields, first_field, by_field}

@@ -19,7 +19,7 @@ use Rattle.theory.specs.Lex.{lex}
 use Rattle.theory.specs.LexLaws.{lex_order}
 use Rattle.theory.specs.Decimal.{value, value_f}
 use Rattle.theory.specs.Store.{get, gets, Low, Asc}
-use Rattle.theory.specs.StoreLaws.{low_down}
+use Rattle.theory.proofs.StoreLaws.{low_down}
 use Rattle.theory.specs.Rank.{rank, ranks}
 use Rattle.meaning.specs.Lines.{lines_of}
 use Rattle.meaning.specs.Kinds.{Kind, body_line, role, street, blpu, ident, numbered_among}
@@ -30,8 +30,8 @@ use Rattle.meaning.specs.Enquiries.{first, refusal, part_of, held_at, held_part,
 use Rattle.meaning.specs.Holding as meaning
 use Rattle.meaning.specs.Holding.{sound, unsound, read_holding, most_records}
 use Rattle.keys.specs.Numbers.{key_numbers, numbered}
-use Rattle.keys.specs.KeyLaws.{Agree, get_alike, rank_alike, number_agrees}
-use Rattle.keys.specs.FieldLaws.{numbers_in, narrow}
+use Rattle.keys.proofs.KeyLaws.{Agree, get_alike, rank_alike, number_agrees}
+use Rattle.keys.proofs.FieldLaws.{numbers_in, narrow}
 use Rattle.theory.specs.ReadBack.{Sound}
 use Rattle.theory.specs.Run.{as_inserts}
 use Rattle.meaning.specs.Steps.{held_tests}

@@ -27,7 +27,7 @@ use Rattle.laws.specs.Body.{fine}
 use Rattle.laws.specs.HoldingReadBack.{Scanned, Reads, scanned, holding, held_records}
 use Rattle.laws.specs.Scottish.{scottish_regular}
 use Rattle.keys.specs.Numbers.{key_numbers, ref_at, ref_numbers}
-use Rattle.keys.specs.KeyLaws.{meets_agree}
+use Rattle.keys.proofs.KeyLaws.{meets_agree}
 use Rattle.entries.specs.Entries.{rec_of, line_at, record_of}
 use Rattle.entries.specs.Tags.{tag_of, ref_tag, TagsOf}
 use Rattle.places.specs.Places.{says}

@@ -46,7 +46,7 @@ use Rattle.pass.specs.declared.kind.Found.TheVariants.{Line as Passed}
 use Rattle.pass.specs.Kinds.{PassedAs, FoundAs}
 use Rattle.keys.specs.declared.Key.{Key}
 use Rattle.keys.specs.Numbers.{key_list, key_numbers}
-use Rattle.keys.specs.KeyLaws.{key_agrees}
+use Rattle.keys.proofs.KeyLaws.{key_agrees}
 use Rattle.entries.specs.Entries.{rec_of, line_at, record_of}
 use Rattle.entries.specs.Fields.{after_fields}
 use Rattle.entries.specs.Tags.{tag_of}

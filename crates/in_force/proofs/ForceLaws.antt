@@ -39,7 +39,7 @@ use Rattle.meaning.specs.Codes.{key_absent, holding_unsound, kind_not_asked}
 use Rattle.answers.specs.declared.refusal.Refusal.{Refusal}
 use Rattle.enquiries.proofs.HandLaws.{refusal_made}
 use Rattle.keys.specs.Numbers.{key_numbers}
-use Rattle.keys.specs.KeyLaws.{kind_told}
+use Rattle.keys.proofs.KeyLaws.{kind_told}
 use Rattle.entries.specs.Entries.{rec_of}
 use Rattle.entries.proofs.LineLaws.{role_known}
 use Rattle.holding.specs.declared.read.Held.{Held}

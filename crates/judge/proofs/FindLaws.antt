@@ -17,7 +17,7 @@ use Rattle.meaning.specs.Table.{scottish}
 use Rattle.meaning.specs.Records.{Rec, keyed, key_of}
 use Rattle.laws.specs.Body.{fine}
 use Rattle.keys.specs.Numbers.{key_numbers, numbered}
-use Rattle.keys.specs.KeyLaws.{get_alike, own_agrees}
+use Rattle.keys.proofs.KeyLaws.{get_alike, own_agrees}
 use Rattle.entries.specs.Entries.{record_of}
 use Rattle.places.specs.Places.{says}
 use Rattle.places.proofs.SaysLaws.{says_at}

@@ -32,7 +32,7 @@ use Rattle.laws.specs.FastStep.{printed, written_render, written_length, fast_st
 use Rattle.meaning.specs.Codes.{key_held, key_absent, reference_unmet, holding_too_long, too_many_records}
 use Rattle.keys.specs.declared.Key.{Key}
 use Rattle.keys.specs.Numbers.{key_list, key_numbers, ref_numbers, numbered}
-use Rattle.keys.specs.KeyLaws.{clear_agree}
+use Rattle.keys.proofs.KeyLaws.{clear_agree}
 use Rattle.entries.specs.Entries.{record_of}
 use Rattle.places.specs.Places.{says}
 use Rattle.places.specs.Counts.{tally}

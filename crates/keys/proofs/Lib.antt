@@ -1,2 +1,4 @@
+pub mod FieldLaws
+pub mod KeyLaws
 pub mod PlaceLaws
 pub mod RowLaws

@@ -29,7 +29,7 @@ use Rattle.layout.specs.Rows.{bare, no_row, row_of, places_of, padded, targets, 
 use Rattle.layout.proofs.CheckLaws.{place_from, named_at}
 use Rattle.keys.specs.Numbers.{number_named, numbers_named, key_numbers, ref_key, ref_first, ref_at}
 use Rattle.keys.specs.DigitLaws.{lex_one}
-use Rattle.keys.specs.KeyLaws.{rows_few}
+use Rattle.keys.proofs.KeyLaws.{rows_few}
 use Rattle.keys.specs.Places.{field_at, number_at, empty_at}
 use Rattle.keys.proofs.PlaceLaws.{empty_none}
 

@@ -1,5 +1,3 @@
 pub mod Numbers
 pub mod Places
 pub mod DigitLaws
-pub mod FieldLaws
-pub mod KeyLaws

@@ -15,8 +15,8 @@ use Rattle.theory.specs.Step.{Change, after, judge}
 use Rattle.theory.specs.Trail.{Each, Through}
 use Rattle.theory.specs.Run.{Taken, Good, last, free}
 use Rattle.theory.specs.Answer.{took, refused, counts}
-use Rattle.theory.specs.StepLaws.{judge_ok, ok_judge}
-use Rattle.theory.specs.RunLaws.{frame, get_final, good_through}
+use Rattle.theory.proofs.StepLaws.{judge_ok, ok_judge}
+use Rattle.theory.proofs.RunLaws.{frame, get_final, good_through}
 use Rattle.meaning.specs.Format.{Format}
 use Rattle.meaning.specs.Records.{Rec, keyed, refs_of}
 use Rattle.meaning.specs.Holding.{read_holding, written}

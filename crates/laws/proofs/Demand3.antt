@@ -6,8 +6,8 @@ use mathlib.Core.List.{List, [], ◌∷◌, ◌++◌}
 use Rattle.theory.specs.Step.{Op, ins, upd, del, Change, after, inv, back}
 use Rattle.theory.specs.Trail.{final, undo}
 use Rattle.theory.specs.Answer.{file, count, is_op, counts}
-use Rattle.theory.specs.TrailLaws.{length_undo}
-use Rattle.theory.specs.RunLaws.{fine_undo}
+use Rattle.theory.proofs.TrailLaws.{length_undo}
+use Rattle.theory.proofs.RunLaws.{fine_undo}
 use Rattle.theory.specs.RoomLaws.{sum_append}
 use Rattle.meaning.specs.Format.{Format}
 use Rattle.meaning.specs.Records.{Rec, keyed, change_texts}

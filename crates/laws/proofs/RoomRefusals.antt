@@ -11,7 +11,7 @@ use Rattle.theory.specs.Refs.{met}
 use Rattle.theory.specs.Step.{Change, fails, allowed, at, after, judge}
 use Rattle.theory.specs.Run.{Out, done, stop, on, run, Taken}
 use Rattle.theory.specs.Answer.{took, refused}
-use Rattle.theory.specs.StepLaws.{ok_judge}
+use Rattle.theory.proofs.StepLaws.{ok_judge}
 use Rattle.meaning.specs.Format.{Format}
 use Rattle.meaning.specs.Records.{Rec, keyed, refs_of}
 use Rattle.meaning.specs.Holding.{read_holding}

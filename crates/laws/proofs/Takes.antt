@@ -13,8 +13,8 @@ use Rattle.theory.specs.Trail.{final}
 use Rattle.theory.specs.Run.{Out, done, stop, Good}
 use Rattle.theory.specs.Answer.{fault, file, took, refused, counts}
 use Rattle.theory.specs.ReadBack.{Sound}
-use Rattle.theory.specs.RunLaws.{fine_final, good_final}
-use Rattle.theory.specs.ApplyLaws.{says_apply, apply_took, back_one}
+use Rattle.theory.proofs.RunLaws.{fine_final, good_final}
+use Rattle.theory.proofs.ApplyLaws.{says_apply, apply_took, back_one}
 use Rattle.meaning.specs.Format.{Format}
 use Rattle.meaning.specs.Records.{Rec, keyed}
 use Rattle.meaning.specs.File.{Sheet, read_file}

@@ -13,7 +13,7 @@ use Rattle.base.specs.Lists.{pick, same}
 use Rattle.base.specs.Tests.{T_true}
 use Rattle.theory.specs.Decimal.{value}
 use Rattle.theory.specs.Refs.{apart}
-use Rattle.theory.specs.RefsLaws.{by_key_lem}
+use Rattle.theory.proofs.RefsLaws.{by_key_lem}
 use Rattle.theory.specs.Step.{Op, ins, upd, del, Change}
 use Rattle.theory.specs.Run.{free}
 use Rattle.theory.specs.Answer.{fault, file}

@@ -19,14 +19,14 @@ use Rattle.theory.specs.LexLaws.{lex_order}
 use Rattle.theory.specs.Fold.{sum?}
 use Rattle.theory.specs.FoldLaws.{sum_put}
 use Rattle.theory.specs.Store.{cons?, put, puts, get, gets, Low, Asc}
-use Rattle.theory.specs.StoreLaws.{low_down, low_same}
+use Rattle.theory.proofs.StoreLaws.{low_down, low_same}
 use Rattle.theory.specs.Rank.{rank, ranks}
 use Rattle.theory.specs.RankLaws.{put_at}
 use Rattle.theory.specs.Refs.{apart, has, meets, clear}
-use Rattle.theory.specs.RefsLaws.{by_key_lem}
+use Rattle.theory.proofs.RefsLaws.{by_key_lem}
 use Rattle.meaning.specs.Records.{Rec}
 use Rattle.keys.specs.Numbers.{key_numbers, ref_numbers, ref_at, numbered}
-use Rattle.keys.specs.KeyLaws.{refs_are}
+use Rattle.keys.proofs.KeyLaws.{refs_are}
 use Rattle.places.specs.Places.{opened, closed}
 use Rattle.places.specs.Counts.{once, times, refers, tally, by_key, moved, noted, noted_all, Open}
 use Rattle.places.proofs.SaysLaws.{map_take, map_drop, drop_take, open_take, close_take}

@@ -10,7 +10,7 @@ use lib.ListN.{length, take}
 use Rattle.base.specs.Lists.{all}
 use Rattle.theory.specs.FoldLaws.{length_put, get_all?}
 use Rattle.theory.specs.Store.{put, get, Asc}
-use Rattle.theory.specs.StoreLaws.{asc_put}
+use Rattle.theory.proofs.StoreLaws.{asc_put}
 use Rattle.theory.specs.Rank.{rank}
 use Rattle.theory.specs.Refs.{meets}
 use Rattle.meaning.specs.Records.{Rec}

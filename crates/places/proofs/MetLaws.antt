@@ -19,7 +19,7 @@ use Rattle.keys.specs.declared.Key.{Key}
 use Rattle.keys.specs.declared.Referred.{Referred}
 use Rattle.keys.specs.declared.Referred.TheVariants.{To, Nothing}
 use Rattle.keys.specs.Numbers.{key_list, referred_as, ref_numbers, numbered}
-use Rattle.keys.specs.KeyLaws.{meets_agree}
+use Rattle.keys.proofs.KeyLaws.{meets_agree}
 use Rattle.entries.specs.declared.references.Named.{Named}
 use Rattle.entries.specs.References.{RefersAs}
 use Rattle.places.specs.Places.{met_by}

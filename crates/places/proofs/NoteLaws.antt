@@ -25,7 +25,7 @@ use Rattle.keys.specs.declared.Key.{Key}
 use Rattle.keys.specs.declared.Referred.{Referred}
 use Rattle.keys.specs.declared.Referred.TheVariants.{To, Nothing}
 use Rattle.keys.specs.Numbers.{key_list, key_numbers, referred_as, ref_at, ref_numbers, numbered}
-use Rattle.keys.specs.KeyLaws.{refs_are}
+use Rattle.keys.proofs.KeyLaws.{refs_are}
 use Rattle.entries.specs.declared.references.Named.{Named}
 use Rattle.entries.specs.References.{RefersAs}
 use Rattle.entries.specs.Tags.{tag_of, key_tagged, ref_tagged, no_tag, Tells, TagsOf}

@@ -8,7 +8,7 @@ use lib.ListN.{length, get_or, length-take, length-map}
 use lib.Seq.{get_or-take, get_or-drop}
 use Rattle.theory.specs.Store.{Asc}
 use Rattle.keys.specs.Numbers.{key_numbers, numbered}
-use Rattle.keys.specs.KeyLaws.{asc_numbered}
+use Rattle.keys.proofs.KeyLaws.{asc_numbered}
 use Rattle.entries.specs.Entries.{record_of}
 use Rattle.entries.specs.Tags.{tag_of}
 use Rattle.places.specs.Places.{says}

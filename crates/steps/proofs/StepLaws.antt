@@ -20,7 +20,7 @@ use Rattle.theory.specs.FoldLaws.{length_put, all_put, put_all?}
 use Rattle.theory.specs.Store.{get, put, Asc}
 use Rattle.theory.specs.Refs.{meets, met}
 use Rattle.theory.specs.Step.{Op, ins, upd, del, Change, fails, passes, new, allowed, judge, after}
-use Rattle.theory.specs.StepLaws.{ok_judge, asc_after}
+use Rattle.theory.proofs.StepLaws.{ok_judge, asc_after}
 use Rattle.meaning.specs.Records.{Rec, keyed, key_of, refs_of}
 use Rattle.meaning.specs.Table.{scottish}
 use Rattle.meaning.specs.Holding.{written, most_records}
@@ -32,7 +32,7 @@ use Rattle.volume.specs.declared.lines.Change as code-change
 use Rattle.volume.specs.declared.lines.Line.{Line}
 use Rattle.volume.specs.Meant.{change_meant}
 use Rattle.keys.specs.Numbers.{key_numbers, ref_numbers, numbered}
-use Rattle.keys.specs.KeyLaws.{put_alike, own_agrees, meets_agree}
+use Rattle.keys.proofs.KeyLaws.{put_alike, own_agrees, meets_agree}
 use Rattle.entries.specs.Entries.{rec_of, line_at, record_of}
 use Rattle.entries.specs.Tags.{tag_of}
 use Rattle.entries.proofs.EntryLaws.{entry_odd}

@@ -8,7 +8,7 @@ use lib.Dec.{T}
 use lib.ListN.{length, take, drop}
 use Rattle.base.specs.Lists.{pick}
 use Rattle.theory.specs.Step.{after, back}
-use Rattle.theory.specs.TrailLaws.{length_undo}
+use Rattle.theory.proofs.TrailLaws.{length_undo}
 use Rattle.theory.specs.Run.{done}
 use Rattle.theory.specs.Answer.{fault, file, took, refused, counts}
 use Rattle.meaning.specs.Table.{scottish}

@@ -11,7 +11,7 @@ use Rattle.theory.specs.Keyed.{Keyed}
 use Rattle.theory.specs.Store.{put, get, Asc}
 use Rattle.theory.specs.FoldLaws.{length_put}
 use Rattle.theory.specs.Refs.{met}
-use Rattle.theory.specs.RefsLaws.{met_put, met_del}
+use Rattle.theory.proofs.RefsLaws.{met_put, met_del}
 use Rattle.theory.specs.Step.{Op, ins, upd, del, Change, fails, new, at, after, judge, allowed}
 use Rattle.theory.specs.Written.{Printed, render}
 use Rattle.theory.specs.WrittenLaws.{length_render, size_ins, size_upd, size_del}

@@ -28,7 +28,7 @@ use Rattle.laws.specs.Body.{fine}
 use Rattle.layout.specs.Rows.{padded}
 use Rattle.keys.specs.Numbers.{number_of, number_named, numbers_named, key_numbers, ref_key, ref_numbers_from, ref_numbers, ref_first, ref_at, numbered}
 use Rattle.keys.specs.DigitLaws.{lex_one, lex_padded}
-use Rattle.keys.specs.FieldLaws.{filled_named, fine_field, narrow, numbers_in, Ordered, numbers_agree, lettered, text_agree, numbers_values, length_numbers}
+use Rattle.keys.proofs.FieldLaws.{filled_named, fine_field, narrow, numbers_in, Ordered, numbers_agree, lettered, text_agree, numbers_values, length_numbers}
 
 -- ---- keys
 

@@ -9,7 +9,7 @@ use Rattle.base.specs.Tests.{and_cong, bools, same_test}
 use Rattle.theory.specs.Tri.{Tri, lt, eq, gt}
 use Rattle.theory.specs.Keyed.{Keyed}
 use Rattle.theory.specs.Store.{put, get, Asc, At}
-use Rattle.theory.specs.StoreLaws.{get_put, get_other, put_back, at_get}
+use Rattle.theory.proofs.StoreLaws.{get_put, get_other, put_back, at_get}
 use Rattle.theory.specs.Fold.{all?}
 use Rattle.theory.specs.FoldLaws.{all_put, put_all?, get_all?}
 use Rattle.theory.specs.Refs.{apart, has, meets, met, clear}

@@ -5,13 +5,13 @@ use Rattle.std.proofs.Math.Option.{Option, none, some, get_or}
 use Rattle.std.specs.Prelude.{List, [], ◌∷◌, ◌++◌, suc, length}
 use Rattle.theory.specs.Keyed.{Keyed}
 use Rattle.theory.specs.Store.{get, Asc, At}
-use Rattle.theory.specs.StoreLaws.{at_get}
+use Rattle.theory.proofs.StoreLaws.{at_get}
 use Rattle.theory.specs.Step.{Op, ins, upd, del, Change, Rules, new, inv, at, after, back}
-use Rattle.theory.specs.StepLaws.{get_after}
+use Rattle.theory.proofs.StepLaws.{get_after}
 use Rattle.theory.specs.Trail.{final, undo}
 use Rattle.theory.specs.Run.{Taken, Good}
 use Rattle.theory.specs.AsMade.{rec_made, made, as_made}
-use Rattle.theory.specs.RunLaws.{undo_same, good_final}
+use Rattle.theory.proofs.RunLaws.{undo_same, good_final}
 
 -- the way back of steps after steps: that of the second, then that of the first
 pub undo_append : {S C : Type 0} (after : S → C → S) (back : S → C → C) (s : S) (xs ys : List C)

@@ -5,7 +5,7 @@ use Rattle.base.specs.Lists.{ask}
 use Rattle.base.specs.Tests.{some≢none, and_in, and_l, and_r}
 use Rattle.theory.specs.Keyed.{Keyed}
 use Rattle.theory.specs.Store.{get, Asc, At}
-use Rattle.theory.specs.StoreLaws.{at_get, get_put, put_back, asc_put}
+use Rattle.theory.proofs.StoreLaws.{at_get, get_put, put_back, asc_put}
 use Rattle.theory.specs.Step.{Op, ins, upd, del, Change, new, allowed, inv, Test, passes, fails, Rules, at, after, back, judge}
 
 -- ---- tests in order

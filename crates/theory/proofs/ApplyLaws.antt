@@ -5,11 +5,11 @@ use Rattle.std.proofs.Math.Option.{Option, none, some}
 use Rattle.base.specs.ListLaws.{all_append, append_all}
 use Rattle.theory.specs.Keyed.{Keyed}
 use Rattle.theory.specs.Step.{Change, passes, fails, Rules, after, back}
-use Rattle.theory.specs.StepLaws.{passes_fails, fails_passes}
+use Rattle.theory.proofs.StepLaws.{passes_fails, fails_passes}
 use Rattle.theory.specs.Trail.{final, undo}
-use Rattle.theory.specs.TrailLaws.{length_undo}
+use Rattle.theory.proofs.TrailLaws.{length_undo}
 use Rattle.theory.specs.Run.{Out, done, stop, run, Good}
-use Rattle.theory.specs.RunLaws.{run_taken, taken_run, fine_final, fine_undo, good_final, undo_taken, undo_same}
+use Rattle.theory.proofs.RunLaws.{run_taken, taken_run, fine_final, fine_undo, good_final, undo_taken, undo_same}
 use Rattle.theory.specs.Answer.{Read, fault, file, Answer, took, counts}
 use Rattle.theory.specs.ReadBack.{Sound, Holding, Files}
 use Rattle.theory.specs.Apply as A

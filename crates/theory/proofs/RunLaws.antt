@@ -9,15 +9,15 @@ use Rattle.base.specs.Tests.{and_l, and_r, T_true}
 use Rattle.base.specs.ListLaws.{all_snoc}
 use Rattle.theory.specs.Keyed.{Keyed}
 use Rattle.theory.specs.Store.{get, Asc}
-use Rattle.theory.specs.StoreLaws.{get_other}
+use Rattle.theory.proofs.StoreLaws.{get_other}
 use Rattle.theory.specs.Fold.{all?}
 use Rattle.theory.specs.FoldLaws.{all_put, get_all?}
 use Rattle.theory.specs.Refs.{apart}
-use Rattle.theory.specs.RefsLaws.{by_key_lem, apart_ne}
+use Rattle.theory.proofs.RefsLaws.{by_key_lem, apart_ne}
 use Rattle.theory.specs.Step.{Op, ins, upd, del, Change, Rules, new, at, after, back, judge}
-use Rattle.theory.specs.StepLaws.{judge_ok, ok_judge, after_back, back_allowed, get_after, asc_after, at_new}
+use Rattle.theory.proofs.StepLaws.{judge_ok, ok_judge, after_back, back_allowed, get_after, asc_after, at_new}
 use Rattle.theory.specs.Trail.{final, Through, undo}
-use Rattle.theory.specs.TrailLaws.{keep*, through*, same*, ok*}
+use Rattle.theory.proofs.TrailLaws.{keep*, through*, same*, ok*}
 use Rattle.theory.specs.Run.{Out, done, stop, on, last, free, fine_c, run, Ok, Taken, Good, Tells}
 
 module _ (K : Keyed) where
