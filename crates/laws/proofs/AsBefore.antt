@@ -11,7 +11,7 @@ use Prim.Native.String.{String}
 use Rattle.base.specs.Lists.{all, pick, ask}
 use Rattle.base.specs.Tests.{and_in, and_l, and_r}
 use Rattle.theory.specs.Lex.{lex}
-use Rattle.theory.specs.LexLaws.{lex_order}
+use Rattle.theory.proofs.LexLaws.{lex_order}
 use Rattle.theory.specs.Keyed.{Keyed}
 use Rattle.theory.specs.Refs.{meets, met}
 use Rattle.theory.specs.Step.{Op, Change, Rules, after, back}

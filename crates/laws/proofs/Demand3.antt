@@ -8,7 +8,7 @@ use Rattle.theory.specs.Trail.{final, undo}
 use Rattle.theory.specs.Answer.{file, count, is_op, counts}
 use Rattle.theory.proofs.TrailLaws.{length_undo}
 use Rattle.theory.proofs.RunLaws.{fine_undo}
-use Rattle.theory.specs.RoomLaws.{sum_append}
+use Rattle.theory.proofs.RoomLaws.{sum_append}
 use Rattle.meaning.specs.Format.{Format}
 use Rattle.meaning.specs.Records.{Rec, keyed, change_texts}
 use Rattle.meaning.specs.File.{Frame, read_file, write_file}

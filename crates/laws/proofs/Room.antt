@@ -12,7 +12,7 @@ use Rattle.base.specs.ListLaws.{same_eq}
 use Rattle.base.specs.Lists.{all, pick, same, bytes}
 use Rattle.base.specs.Tests.{and_in, and_l, and_r, or_out}
 use Rattle.theory.specs.Decimal.{dec, width, value}
-use Rattle.theory.specs.DecimalLaws.{length_dec, width_below}
+use Rattle.theory.proofs.DecimalLaws.{length_dec, width_below}
 use Rattle.theory.specs.Fold.{sum}
 use Rattle.theory.specs.Step.{Op, ins, upd, del, Change, after, back}
 use Rattle.theory.specs.Trail.{final, Through, undo}
@@ -20,10 +20,10 @@ use Rattle.theory.proofs.TrailLaws.{length_undo}
 use Rattle.theory.specs.Run.{as_inserts}
 use Rattle.theory.specs.Answer.{file}
 use Rattle.theory.specs.Written.{tally}
-use Rattle.theory.specs.WrittenLaws.{tally_snoc}
+use Rattle.theory.proofs.WrittenLaws.{tally_snoc}
 use Rattle.theory.specs.AsMade.{as_made}
 use Rattle.theory.proofs.AsMadeLaws.{length_made, undo_undo}
-use Rattle.theory.specs.RoomLaws.{width_value, tally_fewer, tally_least, sum_append, weight, after_weighs, after_length, undo_weighs, made_weighs}
+use Rattle.theory.proofs.RoomLaws.{width_value, tally_fewer, tally_least, sum_append, weight, after_weighs, after_length, undo_weighs, made_weighs}
 use Rattle.meaning.specs.Lines.{fields_of, identifier}
 use Rattle.meaning.specs.Forms.{Form, number, change_type, change_types, has_form, is_empty, sound_as, is_number, is_digit, one_of}
 use Rattle.meaning.specs.Kinds.{Kind, kinds, ident, role}

@@ -18,7 +18,7 @@ use Rattle.theory.specs.Refs.{met, meets}
 use Rattle.theory.specs.Step.{ins, Change, Test}
 use Rattle.theory.specs.Run.{as_inserts}
 use Rattle.theory.specs.ReadBack.{Sound, Holding}
-use Rattle.theory.specs.TriLaws.{is_lt_lem}
+use Rattle.theory.proofs.TriLaws.{is_lt_lem}
 use Rattle.meaning.specs.Lines.{plain, fields_of, identifier, Line, lines_of, ends_well}
 use Rattle.meaning.specs.Kinds.{Kind, ident, role}
 use Rattle.meaning.specs.Format.{Format, kind_of, knows}

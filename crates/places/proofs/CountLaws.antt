@@ -15,13 +15,13 @@ use Rattle.base.specs.ListLaws.{all_map}
 use Rattle.base.specs.Tests.{and_l, and_r, some≢none}
 use Rattle.theory.specs.Tri.{Tri, lt, eq, gt}
 use Rattle.theory.specs.Lex.{lex}
-use Rattle.theory.specs.LexLaws.{lex_order}
+use Rattle.theory.proofs.LexLaws.{lex_order}
 use Rattle.theory.specs.Fold.{sum?}
-use Rattle.theory.specs.FoldLaws.{sum_put}
+use Rattle.theory.proofs.FoldLaws.{sum_put}
 use Rattle.theory.specs.Store.{cons?, put, puts, get, gets, Low, Asc}
 use Rattle.theory.proofs.StoreLaws.{low_down, low_same}
 use Rattle.theory.specs.Rank.{rank, ranks}
-use Rattle.theory.specs.RankLaws.{put_at}
+use Rattle.theory.proofs.RankLaws.{put_at}
 use Rattle.theory.specs.Refs.{apart, has, meets, clear}
 use Rattle.theory.proofs.RefsLaws.{by_key_lem}
 use Rattle.meaning.specs.Records.{Rec}

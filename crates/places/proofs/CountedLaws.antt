@@ -8,7 +8,7 @@ use native.Mathlib.Omega.{arith}
 use lib.Dec.{T}
 use lib.ListN.{length, take}
 use Rattle.base.specs.Lists.{all}
-use Rattle.theory.specs.FoldLaws.{length_put, get_all?}
+use Rattle.theory.proofs.FoldLaws.{length_put, get_all?}
 use Rattle.theory.specs.Store.{put, get, Asc}
 use Rattle.theory.proofs.StoreLaws.{asc_put}
 use Rattle.theory.specs.Rank.{rank}

@@ -13,7 +13,7 @@ use Rattle.base.specs.Lists.{all}
 use Rattle.base.specs.Tests.{and_l, and_r}
 use Rattle.theory.specs.Store.{get, put}
 use Rattle.theory.specs.Rank.{rank}
-use Rattle.theory.specs.RankLaws.{put_at}
+use Rattle.theory.proofs.RankLaws.{put_at}
 use Rattle.meaning.specs.Records.{Rec}
 use Rattle.keys.specs.Numbers.{numbered}
 use Rattle.entries.specs.Entries.{record_of}

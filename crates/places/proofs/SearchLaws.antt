@@ -17,7 +17,7 @@ use Rattle.theory.specs.Lex.{lex}
 use Rattle.theory.specs.Keyed.{Keyed}
 use Rattle.theory.specs.Store.{get, gets, Asc}
 use Rattle.theory.specs.Rank.{ahead, rank, ranks}
-use Rattle.theory.specs.RankLaws.{rank_scan, rank_stop, ahead_before}
+use Rattle.theory.proofs.RankLaws.{rank_scan, rank_stop, ahead_before}
 use Rattle.text.specs.declared.order.Order.{Order}
 use Rattle.text.specs.Order.{tri_of}
 use Rattle.keys.specs.Numbers.{key_list, key_numbers, numbered}

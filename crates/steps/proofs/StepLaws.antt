@@ -16,7 +16,7 @@ use Rattle.base.specs.Lists.{all, some?, ask, at_most}
 use Rattle.base.specs.ListLaws.{all_both}
 use Rattle.base.specs.Tests.{and_in, and_l, and_r, T_true, T_false}
 use Rattle.theory.specs.Fold.{all?}
-use Rattle.theory.specs.FoldLaws.{length_put, all_put, put_all?}
+use Rattle.theory.proofs.FoldLaws.{length_put, all_put, put_all?}
 use Rattle.theory.specs.Store.{get, put, Asc}
 use Rattle.theory.specs.Refs.{meets, met}
 use Rattle.theory.specs.Step.{Op, ins, upd, del, Change, fails, passes, new, allowed, judge, after}

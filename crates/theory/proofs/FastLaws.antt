@@ -9,12 +9,12 @@ use Rattle.base.specs.Lists.{ask, at_most}
 use Rattle.base.specs.Tests.{T_true}
 use Rattle.theory.specs.Keyed.{Keyed}
 use Rattle.theory.specs.Store.{put, get, Asc}
-use Rattle.theory.specs.FoldLaws.{length_put}
+use Rattle.theory.proofs.FoldLaws.{length_put}
 use Rattle.theory.specs.Refs.{met}
 use Rattle.theory.proofs.RefsLaws.{met_put, met_del}
 use Rattle.theory.specs.Step.{Op, ins, upd, del, Change, fails, new, at, after, judge, allowed}
 use Rattle.theory.specs.Written.{Printed, render}
-use Rattle.theory.specs.WrittenLaws.{length_render, size_ins, size_upd, size_del}
+use Rattle.theory.proofs.WrittenLaws.{length_render, size_ins, size_upd, size_del}
 use Rattle.theory.specs.Fast.{Codes, fits, rules, few_after, met_after, size_after, fast}
 
 ask_same : (b : Bool) (w : ℕ) (o p : Option ℕ) → (T b → o ≡ p) → ask b w o ≡ ask b w p

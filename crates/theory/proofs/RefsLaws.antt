@@ -11,7 +11,7 @@ use Rattle.theory.specs.Keyed.{Keyed}
 use Rattle.theory.specs.Store.{put, get, Asc, At}
 use Rattle.theory.proofs.StoreLaws.{get_put, get_other, put_back, at_get}
 use Rattle.theory.specs.Fold.{all?}
-use Rattle.theory.specs.FoldLaws.{all_put, put_all?, get_all?}
+use Rattle.theory.proofs.FoldLaws.{all_put, put_all?, get_all?}
 use Rattle.theory.specs.Refs.{apart, has, meets, met, clear}
 
 module _ (K : Keyed) where

@@ -11,7 +11,7 @@ use Rattle.theory.specs.Keyed.{Keyed}
 use Rattle.theory.specs.Store.{get, Asc}
 use Rattle.theory.proofs.StoreLaws.{get_other}
 use Rattle.theory.specs.Fold.{all?}
-use Rattle.theory.specs.FoldLaws.{all_put, get_all?}
+use Rattle.theory.proofs.FoldLaws.{all_put, get_all?}
 use Rattle.theory.specs.Refs.{apart}
 use Rattle.theory.proofs.RefsLaws.{by_key_lem, apart_ne}
 use Rattle.theory.specs.Step.{Op, ins, upd, del, Change, Rules, new, at, after, back, judge}

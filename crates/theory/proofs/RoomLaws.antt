@@ -6,11 +6,11 @@ use Rattle.std.proofs.Common.{add-zero}
 use Rattle.base.specs.Lists.{all}
 use Rattle.base.specs.Tests.{and_l, and_r}
 use Rattle.theory.specs.Decimal.{width, value_f, value}
-use Rattle.theory.specs.DecimalLaws.{width_pos, width_below}
+use Rattle.theory.proofs.DecimalLaws.{width_pos, width_below}
 use Rattle.theory.specs.Keyed.{Keyed}
 use Rattle.theory.specs.Store.{put, get}
 use Rattle.theory.specs.Fold.{sum, sum?}
-use Rattle.theory.specs.FoldLaws.{sum_put, length_put}
+use Rattle.theory.proofs.FoldLaws.{sum_put, length_put}
 use Rattle.theory.specs.Step.{Op, ins, upd, del, Change, new, at, after, back}
 use Rattle.theory.specs.Trail.{final, undo}
 use Rattle.theory.specs.AsMade.{rec_made, made, as_made}

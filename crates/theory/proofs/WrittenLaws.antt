@@ -7,11 +7,11 @@ use mathlib.Core.List.{List, [], ◌∷◌}
 use Prim.Native.Nat.{ℕ, zero, suc, ◌+◌}
 use Rattle.std.proofs.Math.ListN.{length, length-append}
 use Rattle.theory.specs.Decimal.{width}
-use Rattle.theory.specs.DecimalLaws.{length_dec}
+use Rattle.theory.proofs.DecimalLaws.{length_dec}
 use Rattle.theory.specs.Keyed.{Keyed}
 use Rattle.theory.specs.Store.{put, get}
 use Rattle.theory.specs.Fold.{sum}
-use Rattle.theory.specs.FoldLaws.{sum_put, length_put}
+use Rattle.theory.proofs.FoldLaws.{sum_put, length_put}
 use Rattle.theory.specs.Written.{tally, lines, Printed, line, render, bare, size}
 
 -- one number more adds its digits
