@@ -19,7 +19,7 @@ use Rattle.theory.specs.Refs.{has, meets, clear}
 use Rattle.theory.specs.Decimal.{width}
 use Rattle.theory.specs.Written.{render, bare, size}
 use Rattle.theory.proofs.WrittenLaws.{size_ins, size_upd, size_del}
-use Rattle.theory.specs.Step.{Op, ins, upd, del, Change, judge, after}
+use Rattle.theory.specs.Step.{Op, ins, upd, del, Change, after}
 use Rattle.theory.specs.Fast.{fast, few_after, met_after, size_after}
 use Rattle.meaning.specs.Kinds.{Kind, kinds, ident}
 use Rattle.meaning.specs.Table.{scottish}

@@ -4,7 +4,7 @@ use Rattle.std.proofs.Math.Option.{Option, none, some}
 use Rattle.base.specs.Lists.{some?}
 use Rattle.theory.specs.Store.{get}
 use Rattle.theory.specs.Rank.{rank}
-use Rattle.theory.specs.Step.{Change, passes, judge, after}
+use Rattle.theory.specs.Step.{Change, passes, after}
 use Rattle.meaning.specs.Table.{scottish}
 use Rattle.meaning.specs.Records.{Rec, keyed}
 use Rattle.meaning.specs.Holding.{written, most_records}

@@ -198,7 +198,7 @@ module _ (F : Format) (rule : TextRule) where
   count_same trailer_line n k t = refl
 
   module _ (rows_same : (k : Kind) → SameRows F G (F.fields k)) where
-  -- ---- where both say the same of ASCII fields
+    -- ---- where both say the same of ASCII fields
 
     forms_same : (n : ℕ) (ds : List Field) (fs : List (List ℕ)) (rest : Option Fault) → SameRows F G ds → T (all ascii fs) → forms F n ds fs rest ≡ forms G n ds fs rest
     unfolding forms if_malformed

@@ -62,7 +62,7 @@ module _ (F : Format) where
 
   module _ (regular : Regular F) where
     module _ (room : ℕ) (old b new : List ℕ) (a : Takes F regular room old b new) where
-    -- ---- the undo's bytes
+      -- ---- the undo's bytes
 
       -- the steps backwards
       abbrev pub steps_back : List (Change Rec)

@@ -30,7 +30,7 @@ use Rattle.laws.proofs.SoundFile.{header_accepted, metadata_accepted, trailer_ac
 use Rattle.laws.specs.FileReadBack.{accepted, suits, fine_c}
 
 module _ (F : Format) where
--- ---- frames
+  -- ---- frames
 
   -- an accepted line is a sound line of its role, with the right numbers
   accepted_sound : (o : Role) (p : Stage) (n : ℕ) (t : List ℕ) → T (accepted o (judge_line F p n (ends t))) → (a : RoleLine F o t) × Numbers F o n a.kind t
@@ -51,7 +51,8 @@ module _ (F : Format) where
 
   module _ (regular : Regular F) where
     open regular use {opens}
-  -- ---- what is written is read back
+
+    -- ---- what is written is read back
 
     -- the line of a change to a fine record, numbered n, says that change as body line n
     says_change : (n : ℕ) (c : Change Rec) → n < 10000 → T (fine_c F c) → SaysChange F n (change_text n c) c

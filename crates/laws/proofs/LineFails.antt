@@ -15,7 +15,7 @@ use Rattle.base.specs.Tests.{T_true}
 use Rattle.theory.specs.Decimal.{value}
 use Rattle.meaning.specs.Lines.{fields_of, has_fields, identifier, Line, ends_well}
 use Rattle.meaning.specs.Kinds.{Kind, Role, header_line, body_line, metadata_line, trailer_line, role}
-use Rattle.meaning.specs.Format.{Format, Field, may, kind_of, named, field_number, pro_order, record_count, start_date, end_date}
+use Rattle.meaning.specs.Format.{Format, Field, kind_of, named, field_number, pro_order, record_count, start_date, end_date}
 use Rattle.meaning.specs.Sound.{sound_field, place_in, forms, dates_agree, field_fault, form_fault, if_malformed}
 use Rattle.meaning.specs.File.{Stage, next, has_room, count_fault, bad, line_fault, verdict, judge_kind, judge_text, judge_line}
 use Rattle.meaning.specs.Answers.{Fault, of_line, of_field}
@@ -26,6 +26,7 @@ use Rattle.laws.specs.LineFails.{Lowest, Malformed, Stands, Formed, LineFails, J
 
 module _ (F : Format) where
   open F use {fields}
+
   -- ---- a line that is refused fails so
 
   -- the lowest malformed field, or none

@@ -155,6 +155,7 @@ module _ (F : Format) where
 
   module _ (regular : Regular F) where
     open regular use {opens}
+
     -- ---- a file is at least as long as it is written anew
 
     -- a body line is at least as long as the line of its change
@@ -199,7 +200,7 @@ module _ (F : Format) where
         omega (arith, ap length e, around_long fr ts, around_long fr (change_texts 1 cs), lines_least 1 ts cs s.body)
 
     module _ (room : ℕ) (old b new : List ℕ) (a : Takes F regular room old b new) where
-    -- ---- the undo
+      -- ---- the undo
 
       -- the file is at least as long as it is written anew
       taken_least : length (write_file a.fr a.cs) ≤ length b

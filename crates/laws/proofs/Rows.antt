@@ -144,6 +144,7 @@ field_given b l f = lined (leb 1 l && leb l (length (lines_of b)))
 
 module _ (F : Format) where
   open F use {fields, enquiries}
+
   -- ---- the file
 
   shaped_given : (n c l f : ℕ) → T (shaped F (of_field c f)) → 1 ≤ l → l ≤ 1 + n → (l ≡ 1 + n → c ≡ out_of_place) → T (given (file_rows F n) c l f)

@@ -29,6 +29,7 @@ headless m t = record { header_text = []; metadata_text = m; trailer_text = t }
 
 module _ (F : Format) where
   open F use {fields}
+
   -- ---- the rules
 
   -- a change for each body line

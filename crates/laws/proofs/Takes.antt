@@ -33,7 +33,7 @@ use Rattle.laws.specs.Takes.{bad_line, terms}
 
 module _ (F : Format) where
   module _ (regular : Regular F) where
-  -- ---- the definitions of the meaning are those of the theory
+    -- ---- the definitions of the meaning are those of the theory
 
     -- a load as the theory has it, which knows no 17
     abbrev theirs : ℕ → List ℕ → List ℕ → Answer

@@ -86,6 +86,7 @@ at_append (x ∷ ls) l ms = at_append ls l ms
 
 module _ (F : Format) where
   open F use {fields}
+
   -- ---- a file that is refused is refused so
 
   refused_more : (i : ℕ) (p : Stage) (n : ℕ) (x : Line) (ls : List Line) (k : Kind) (q : Stage) (c l f place : ℕ) → judge_line F p n x ≡ good k q

@@ -25,6 +25,7 @@ use Rattle.laws.specs.WhyFind.{FindAnswers, absent, found, not_asked, unsound_ho
 
 module _ (F : Format) where
   open F use {enquiries}
+
   held_or_11 : (old : List ℕ) (o : Option ℕ) → ((held_part old o).answer.code ≡ 0) ⊎ (held_part old o ≡ refusal (alone key_absent))
   unfolding held_part part_of
   held_or_11 old none = inr refl

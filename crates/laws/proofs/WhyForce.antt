@@ -48,6 +48,7 @@ IsDel del = Unit {0}
 
 module _ (F : Format) where
   open F use {enquiries}
+
   -- ---- the last body line that names a key
 
   -- what is found of a key: no change names it, or the last that does is at that place, counted from 1, and does that

@@ -238,7 +238,7 @@ module _ (F : Format) where
         go (unsound n) e = (λ z. unsound_is old n e, λ u. refl)
 
     module _ (old b : List ℕ) (room undo_room : ℕ) where
-    -- ---- a load with `room` bytes for the new holding and `undo_room` for the undo
+      -- ---- a load with `room` bytes for the new holding and `undo_room` for the undo
 
       -- but for 17, a refusal has a reason
       pub load_why : ((load_file F old b room undo_room).answer.code ≡ 0 → ⊥) → ((load_file F old b room undo_room).answer.code ≡ undo_too_long → ⊥)

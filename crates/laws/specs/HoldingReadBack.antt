@@ -15,7 +15,7 @@ use Rattle.theory.specs.Lex.{lex}
 use Rattle.theory.specs.Decimal.{dec}
 use Rattle.theory.specs.Store.{Asc, Low}
 use Rattle.theory.specs.Refs.{met, meets}
-use Rattle.theory.specs.Step.{ins, Change, Test}
+use Rattle.theory.specs.Step.{ins, Change}
 use Rattle.theory.specs.Run.{as_inserts}
 use Rattle.theory.specs.ReadBack.{Sound, Holding}
 use Rattle.theory.proofs.TriLaws.{is_lt_lem}
@@ -25,7 +25,7 @@ use Rattle.meaning.specs.Format.{Format, kind_of, knows}
 use Rattle.meaning.specs.Sound.{form_fault}
 use Rattle.meaning.specs.Records.{Rec, content_of, letter, change_text, keyed, refs_of, change_texts, key_of}
 use Rattle.meaning.specs.Holding.{is_held, is_sound, Held, sound, unsound, read_holding, written, held_test, held_kind, held_line, add_rec, above, on_held, scan, referring, on_scan, most_records}
-use Rattle.meaning.specs.Steps.{few, held_tests}
+use Rattle.meaning.specs.Steps.{held_tests}
 use Rattle.laws.specs.Regular.{holds, Regular}
 use Rattle.laws.specs.LinesAndFields.{ends, ends_all, line_ends, unlines, lines_join, lines_in, unlines_ends, cut_is}
 use Rattle.laws.specs.Body.{ident_in, kind_out, kind_known, fine_known, fine_body, first_field_lem, fine, sound_none, none_sound, body_out, content_fine, change_made, plain_change, body_in}

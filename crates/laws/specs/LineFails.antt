@@ -9,7 +9,7 @@ use Rattle.meaning.specs.Lines.{fields_of, has_fields, identifier, Line, ends_we
 use Rattle.meaning.specs.Forms.{number}
 use Rattle.meaning.specs.Kinds.{Kind, body_line, trailer_line, role}
 use Rattle.meaning.specs.Format.{Format, Field, may, kind_of, named, field_number, pro_order, record_count, start_date, end_date}
-use Rattle.meaning.specs.Sound.{sound_field, place_in, forms, dates_agree}
+use Rattle.meaning.specs.Sound.{sound_field, place_in, dates_agree}
 use Rattle.meaning.specs.File.{Stage, next, has_room, Judged, bad, good, judge_line}
 use Rattle.meaning.specs.Answers.{Fault}
 use Rattle.laws.specs.SoundLine.{EachSound}
@@ -21,6 +21,7 @@ no_field = may "" (number 0)
 
 module _ (F : Format) where
   open F use {fields}
+
   -- ---- the tests
 
   -- one of the fields, counted from n, is malformed at that place, and those before it are sound

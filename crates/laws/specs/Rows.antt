@@ -86,6 +86,7 @@ find_rows old = rows nought (all_done ∷ kind_not_asked ∷ key_absent ∷ []) 
 
 module _ (F : Format) where
   open F use {fields, enquiries}
+
   -- a file of n lines: a file that ends before its trailer gets 3 at the line after its last
   unfoldable pub file_rows : ℕ → List Row
   file_rows n =

@@ -15,6 +15,7 @@ use Rattle.laws.specs.SoundLine.{SoundLine}
 
 module _ (F : Format) where
   open F use {fields}
+
   -- ---- the rules
 
   -- a sound line of a role: of some kind that has it

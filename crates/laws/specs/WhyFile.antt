@@ -22,6 +22,7 @@ line_at b n = get_or (lines_of b) (n - 1) no_line
 
 module _ (F : Format) where
   open F use {fields}
+
   -- ---- where a file is refused
 
   -- each of the lines is accepted at its stage, from stage p after n body lines on, and they lead to stage q after m

@@ -14,6 +14,7 @@ use Rattle.laws.specs.WhyField.{Answers}
 
 module _ (F : Format) where
   open F use {enquiries}
+
   -- find of a kind and a number: the four exclude one another
   pub data FindAnswers (old : List ℕ) (kind n : ℕ) (x : Found) : Type 0 where
     -- 15: the kind can't be asked for

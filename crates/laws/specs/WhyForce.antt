@@ -20,6 +20,7 @@ use Rattle.laws.specs.WhyFind.{FindAnswers}
 
 module _ (F : Format) where
   open F use {enquiries}
+
   -- ---- the last body line that names a key
 
   -- a change names the key q, and none after it does

@@ -30,7 +30,7 @@ abbrev pub Located : ℕ → ℕ → ℕ → ℕ → ℕ → ℕ → ℕ → ℕ
 Located code line field place c l f p = Numbered code line field c l f × (place ≡ p)
 
 module _ (F : Format) where
--- ---- a holding or a file is one of two
+  -- ---- a holding or a file is one of two
 
   -- the bytes are no sound holding
   abbrev pub Unsound : List ℕ → Type 0

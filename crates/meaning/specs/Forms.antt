@@ -1,5 +1,5 @@
 -- Paper 01, 'Lines and fields': the forms of a field; what a text's width counts is paper 02's, request 02.
-use Rattle.std.specs.Prelude.{Bool, true, false, not, ◌&&◌, ◌||◌, List, [], ◌∷◌, ◌++◌, ℕ, ◌+◌, ◌-◌, ◌%◌, eqb, leb, length}
+use Rattle.std.specs.Prelude.{Bool, true, false, not, ◌&&◌, ◌||◌, List, [], ◌∷◌, ◌++◌, ℕ, ◌-◌, ◌%◌, eqb, leb, length}
 use Rattle.base.specs.Lists.{all, pick, same, part, up_to, past, bytes}
 use Rattle.theory.specs.Decimal.{value}
 use Rattle.meaning.specs.Characters.{at_most}

@@ -6,7 +6,7 @@ use mathlib.Core.List.{List, ◌∷◌, ◌++◌, map}
 use Prim.Native.Nat.{ℕ, suc, ◌+◌, ◌-◌, ◌≤◌, ◌<◌}
 use native.Mathlib.Omega.{arith}
 use lib.Dec.{T, eqb, eqb→eq}
-use lib.ListN.{length, get_or, take, drop, length-map, take-append-drop, get_or-map}
+use lib.ListN.{length, get_or, drop, length-map, take-append-drop, get_or-map}
 use lib.Seq.{drop-drop}
 use Rattle.base.specs.Lists.{all, bytes, same}
 use Rattle.base.specs.Tests.{and_l, and_r}

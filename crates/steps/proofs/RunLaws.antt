@@ -15,13 +15,12 @@ use lib.ListN.{length, get_or, take, drop, set, length-set}
 use lib.Seq.{drop-drop}
 use Rattle.base.specs.Lists.{pick, all}
 use Rattle.base.specs.Tests.{and_l, and_r}
-use Rattle.theory.specs.Step.{Change, judge, after, back}
-use Rattle.theory.specs.Trail.{undo}
+use Rattle.theory.specs.Step.{Change, after, back}
 use Rattle.theory.specs.Answer.{fault, file}
 use Rattle.theory.specs.Run as Theory
 use Rattle.theory.specs.Run.{Out, done, stop, on}
-use Rattle.meaning.specs.Lines.{Line, lines_of, fields_of}
-use Rattle.meaning.specs.Kinds.{Kind, Role, body_line, metadata_line, role}
+use Rattle.meaning.specs.Lines.{lines_of, fields_of}
+use Rattle.meaning.specs.Kinds.{Role, body_line, metadata_line, role}
 use Rattle.meaning.specs.Table.{scottish}
 use Rattle.meaning.specs.Records.{Rec, keyed, op_of, change_of}
 use Rattle.meaning.specs.Holding.{is_held}

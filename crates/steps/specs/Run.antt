@@ -1,15 +1,13 @@
 -- The body of a file, line by line, and how the run of its changes ends.
 use Rattle.std.specs.Prelude.{◌≡◌, Bool, true, false, List, [], ◌∷◌, ℕ, ◌+◌, ◌≤◌, eqb, get_or, drop}
 use Rattle.base.specs.Lists.{pick}
-use Rattle.theory.specs.Step.{Change, after, back}
-use Rattle.theory.specs.Trail.{undo}
+use Rattle.theory.specs.Step.{Change}
 use Rattle.theory.specs.Answer.{fault, file}
-use Rattle.theory.specs.Run as Theory
 use Rattle.theory.specs.Run.{Out, done, stop}
 use Rattle.meaning.specs.Lines.{Line, lines_of, fields_of}
 use Rattle.meaning.specs.Kinds.{role}
 use Rattle.meaning.specs.Table.{scottish}
-use Rattle.meaning.specs.Records.{Rec, keyed, op_of}
+use Rattle.meaning.specs.Records.{Rec, op_of}
 use Rattle.meaning.specs.Holding.{is_held}
 use Rattle.meaning.specs.File.{Sheet, read_file, most_body}
 use Rattle.meaning.specs.Answers.{Read}

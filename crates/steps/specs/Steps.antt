@@ -2,7 +2,7 @@
 use Rattle.std.specs.Prelude.{◌≡◌, List, ℕ, ◌≤◌, T, length}
 use Rattle.std.proofs.Math.Option.{get_or}
 use Rattle.theory.specs.Store.{get}
-use Rattle.theory.specs.Step.{Change, judge, after}
+use Rattle.theory.specs.Step.{Change, after}
 use Rattle.meaning.specs.Table.{scottish}
 use Rattle.meaning.specs.Records.{Rec, keyed, key_of}
 use Rattle.meaning.specs.Steps.{step_code}

@@ -24,7 +24,7 @@ use Rattle.meaning.specs.Records.{letter, op_of}
 use Rattle.meaning.specs.File.{Stage, after_trailer, next, most_body, has_room, count_fault, bad, good, verdict}
 use Rattle.laws.specs.Kinds.{every}
 use Rattle.text.specs.Places.{field_count}
-use Rattle.text.proofs.FieldLaws.{fields_wrong, fields_many}
+use Rattle.text.proofs.FieldLaws.{fields_wrong}
 use Rattle.layout.specs.declared.kinds.HeldKind.{HeldKind}
 use Rattle.layout.specs.declared.kinds.Kind.{Kind as Named}
 use Rattle.layout.specs.declared.kinds.Kind.TheVariants.{Header, Held, Metadata, Trailer}
@@ -37,7 +37,7 @@ use Rattle.meaning.specs.Answers.{of_line, of_field}
 use Rattle.answers.specs.Meant.{fault_of, fault_meant, no_fault_at}
 use Rattle.layout.specs.Meant.{kind_meant, kind_found}
 use Rattle.layout.specs.Rows.{Row, bare, no_row, row_of, laid_out}
-use Rattle.layout.specs.Check.{bad_field, lowest_bad, Parted, kind_dates, told}
+use Rattle.layout.specs.Check.{bad_field, lowest_bad, kind_dates, told}
 use Rattle.layout.proofs.KindLaws.{role_of, role_of_lem}
 use Rattle.layout.proofs.CheckLaws.{named_at, right_count, early_there, early_room}
 use Rattle.volume.specs.declared.stages.Stage.{Stage as StageNamed}

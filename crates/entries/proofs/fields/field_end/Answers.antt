@@ -1,7 +1,6 @@
 -- `entries::fields::field_end` meets its contract.
 use Rattle.entries.proofs.FieldLaws.{within, end_ends, end_other}
 use borrow.Author.Rules.{rules}
-use mathlib.Core.Bool.{false}
 use Rattle.entries.proofs.fields.field_end.Goals as goal
 
 pub loop-i-init : goal.loop-i-init

@@ -1,9 +1,7 @@
 -- `volume::check::check_from` meets its contract.
 use borrow.Author.Rules.{rules}
 use mathlib.Core.Path.{ap, ◌∙◌}
-use mathlib.Core.Logic.{⊎_elim}
 use native.Mathlib.Omega.{arith}
-use borrow.Author.Tests.{not-true}
 use Rattle.layout.proofs.PassLaws.{pass_start, pass_row, pass_few, pass_forward, pass_within, pass_stop, pass_turn, pass_done}
 use Rattle.volume.proofs.WalkLaws.{within_more}
 use Rattle.volume.proofs.FileLaws.{line_short, closed_none, read_opened, read_fields, read_malformed, read_closed, read_turn, read_kept, read_refused, read_stopped}
@@ -67,8 +65,8 @@ lines-preserved c = (read_turn _ _ _ _ c.lines-test.true c.plain_end-end.ensures
 pub returns : goal.returns
 returns c =
     elim c.lines-test.branch [
-      else-lines-test w ↦ read_stopped _ _ _ _ _ c.lines.invariant.0 w.lines-test.false (ap (λ f. f.code) (w.bad-is ∙ c.lines.invariant.1)) c.stopped.ensures
-    | then-lines-test+in-Bad w ↦ read_refused _ _ _ _ (read_kept _ _ _ _ w.bad-is (read_opened _ _ _ _ w.lines-test.true w.plain_end-end.ensures.0 c.lines.invariant.0 _ w.ends_at.ensures w.open_line.result w.open_line.ensures _ w.in-Bad.is)) c.stopped.ensures
-    | then-lines-test+in-Good+then-loop-k-test+then-not-sound_at w ↦ read_refused _ _ _ _ (read_kept _ _ _ _ (w.bad-is ∙ w.malformed_at-bad.ensures) (read_malformed _ _ _ _ w.lines-test.true w.plain_end-end.ensures.0 c.lines.invariant.0 _ w.ends_at.ensures w.open_line.result w.open_line.ensures _ _ w.in-Good.is _ _ _ (pass_stop _ _ _ _ _ _ w.loop-k.invariant w.loop-k-test.true _ w.sound_at.ensures w.if-not-sound_at.true))) c.stopped.ensures
-    | then-lines-test+in-Good+else-loop-k-test+then-bad-ne0 w ↦ read_refused _ _ _ _ (read_kept _ _ _ _ w.bad-is (read_closed _ _ _ _ w.lines-test.true w.plain_end-end.ensures.0 c.lines.invariant.0 _ w.ends_at.ensures w.open_line.result w.open_line.ensures _ _ w.in-Good.is (pass_done _ _ _ _ _ _ w.loop-k.invariant w.loop-k-test.false) w.close_line-bad.result w.close_line-bad.ensures w.if-bad-ne0.true)) c.stopped.ensures
+      | else-lines-test w ↦ read_stopped _ _ _ _ _ c.lines.invariant.0 w.lines-test.false (ap (λ f. f.code) (w.bad-is ∙ c.lines.invariant.1)) c.stopped.ensures
+      | then-lines-test+in-Bad w ↦ read_refused _ _ _ _ (read_kept _ _ _ _ w.bad-is (read_opened _ _ _ _ w.lines-test.true w.plain_end-end.ensures.0 c.lines.invariant.0 _ w.ends_at.ensures w.open_line.result w.open_line.ensures _ w.in-Bad.is)) c.stopped.ensures
+      | then-lines-test+in-Good+then-loop-k-test+then-not-sound_at w ↦ read_refused _ _ _ _ (read_kept _ _ _ _ (w.bad-is ∙ w.malformed_at-bad.ensures) (read_malformed _ _ _ _ w.lines-test.true w.plain_end-end.ensures.0 c.lines.invariant.0 _ w.ends_at.ensures w.open_line.result w.open_line.ensures _ _ w.in-Good.is _ _ _ (pass_stop _ _ _ _ _ _ w.loop-k.invariant w.loop-k-test.true _ w.sound_at.ensures w.if-not-sound_at.true))) c.stopped.ensures
+      | then-lines-test+in-Good+else-loop-k-test+then-bad-ne0 w ↦ read_refused _ _ _ _ (read_kept _ _ _ _ w.bad-is (read_closed _ _ _ _ w.lines-test.true w.plain_end-end.ensures.0 c.lines.invariant.0 _ w.ends_at.ensures w.open_line.result w.open_line.ensures _ _ w.in-Good.is (pass_done _ _ _ _ _ _ w.loop-k.invariant w.loop-k-test.false) w.close_line-bad.result w.close_line-bad.ensures w.if-bad-ne0.true)) c.stopped.ensures
     ]

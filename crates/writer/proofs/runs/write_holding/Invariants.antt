@@ -1,5 +1,5 @@
 -- What lasts from turn to turn of the loop of `writer::runs::write_holding`, and what each turn makes smaller.
-use Rattle.writer.proofs.RunLaws.{Writing, holding}
+use Rattle.writer.proofs.RunLaws.{Writing}
 use Rattle.theory.specs.Run.{as_inserts}
 use Rattle.places.specs.Places.{says}
 use Prim.Native.Nat.{◌-◌, ◌≤◌}
