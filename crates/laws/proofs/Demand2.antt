@@ -206,11 +206,11 @@ module _ (F : Format) where
 
     -- with a sound holding, room at every step and room for the undo, a file is taken exactly if every line and every step is lawful
     pub lawful_exactly : (old b : List ℕ) (room undo_room : ℕ) (st : List Rec) → SoundHolding F old st → Roomy F room st b → UndoFits F old b undo_room
-        → ((load_file F old b room undo_room).answer.code ≡ 0) ↔ (Lawful F) st b
+        → ((load_file F old b room undo_room).answer.code ≡ 0) ↔ Lawful F st b
     lawful_exactly old b room undo_room st h r u = (
       λ e.
           let a = (done_allowed old b room undo_room e).0 in
-          let q = subst (λ s. (StepsAllowed F) room s a.cs) (held_only F regular old a.st st a.held h) a.steps in
+          let q = subst (λ s. StepsAllowed F room s a.cs) (held_only F regular old a.st st a.held h) a.steps in
           record { fr = a.fr; cs = a.cs; lines = a.lines; steps = steps_lawful room st a.cs q },
       λ l.
           let t = r l.fr l.cs l.lines in

@@ -105,8 +105,8 @@ module _ (F : Format) where
 
       fielded : T (has_fields (length (fields k)) t) → (o : Option Fault) → FormsSay 1 (fields k) (fields_of t) (ask agree (of_field end_before_start (field_number 1 end_date (fields k))) rest) o
           → JudgedFails F p n l (verdict o k q)
-      fielded h o (inl w) = subst (λ x. (JudgedFails F) p n l (verdict x k q)) (sym w.3) (unfold verdict in malformed k s r h w.1 w.2)
-      fielded h o (inr w) = subst (λ x. (JudgedFails F) p n l (verdict x k q)) (sym w.1) (dates h w.0 agree refl)
+      fielded h o (inl w) = subst (λ x. JudgedFails F p n l (verdict x k q)) (sym w.3) (unfold verdict in malformed k s r h w.1 w.2)
+      fielded h o (inr w) = subst (λ x. JudgedFails F p n l (verdict x k q)) (sym w.1) (dates h w.0 agree refl)
 
       go : (c : Bool) → has_fields (length (fields k)) t ≡ c
           → JudgedFails F p n l (verdict (ask c (of_line field_count_wrong) (forms F 1 (fields k) (fields_of t) (ask agree (of_field end_before_start (field_number 1 end_date (fields k))) rest))) k q)

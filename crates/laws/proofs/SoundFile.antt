@@ -77,7 +77,7 @@ module _ (F : Format) where
       → RoleLine F metadata_line m → Counts F (n + length cs) t → read_from F i in_body n (ends_all (ts ++ (m ∷ t ∷ []))) ≡ file (headless m t, cs)
   unfolding add_line body_after read_from at_end
   body_taken i n [] [] m t w l a at =
-      let b : Counts F n t = subst (λ x. (Counts F) x t) (add-zero n) at in
+      let b : Counts F n t = subst (λ x. Counts F x t) (add-zero n) at in
       let last = read_line (suc i) after_metadata n (ends t) [] b.line.kind after_trailer trailer_line blank (trailer_accepted n t b) b.line.roles refl in
       read_line i in_body n (ends m) (ends t ∷ []) a.kind after_metadata metadata_line (headless [] t, []) (metadata_accepted n m a) a.roles last
   body_taken i n [] (c ∷ cs) m t w l a at = absurd w
@@ -86,7 +86,7 @@ module _ (F : Format) where
       let b = w.0.line in
       let e : n + length (c ∷ cs) ≡ suc n + length cs = omega arith in
       let j = body_accepted n x c w.0 (omega arith) in
-      let rest = body_taken (suc i) (suc n) ts cs m t w.1 (omega arith) a (subst (λ z. (Counts F) z t) e at) in
+      let rest = body_taken (suc i) (suc n) ts cs m t w.1 (omega arith) a (subst (λ z. Counts F z t) e at) in
       read_line i in_body n (ends x) (ends_all (ts ++ (m ∷ t ∷ []))) b.kind in_body body_line (headless m t, cs) j b.roles rest
       ∙ ap (λ z. file (headless m t, z ∷ cs)) w.0.says
 
@@ -98,7 +98,7 @@ module _ (F : Format) where
       let m = fr.metadata_text in
       let t = fr.trailer_text in
       let a = s.heading in
-      let c : Counts F (0 + length cs) t = subst (λ x. (Counts F) x t) (sym (zero-add (length cs))) s.closing in
+      let c : Counts F (0 + length cs) t = subst (λ x. Counts F x t) (sym (zero-add (length cs))) s.closing in
       let rest = body_taken 2 0 s.texts cs m t s.body (omega (arith, s.few)) s.describing c in
       ap (read_from F 1 at_start 0) s.lines
       ∙ read_line 1 at_start 0 (ends h) (ends_all (s.texts ++ (m ∷ t ∷ []))) a.kind in_body header_line (headless m t, cs) (header_accepted h a) a.roles rest
@@ -142,7 +142,7 @@ module _ (F : Format) where
         body = (record { line = a; numbered = count_order F n k l.text nu.count; says = refl }, v.body);
         few = rw g at v.few;
         describing = v.describing;
-        closing = subst (λ z. (Counts F) z s.0.trailer_text) g v.closing;
+        closing = subst (λ z. Counts F z s.0.trailer_text) g v.closing;
       }
   reads_file in_body q n l ls k metadata_line h d sl nu r x s w =
       let v : ReadAt after_metadata n ls s = subst (λ q. ReadAt q n ls s) (sym (some-injective after_metadata q x)) w in
@@ -212,5 +212,5 @@ module _ (F : Format) where
         body = v.body;
         few = rw z at v.few;
         describing = v.describing;
-        closing = subst (λ y. (Counts F) y fr.trailer_text) z v.closing;
+        closing = subst (λ y. Counts F y fr.trailer_text) z v.closing;
       }

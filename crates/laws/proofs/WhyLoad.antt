@@ -229,11 +229,11 @@ module _ (F : Format) where
     -- ---- the check of a holding
 
     -- 14 exactly if the holding is unsound
-    pub check_14 : (old : List ℕ) → ((check_holding F old).code ≡ holding_unsound) ↔ (Unsound F) old
+    pub check_14 : (old : List ℕ) → ((check_holding F old).code ≡ holding_unsound) ↔ Unsound F old
     unfolding check_holding held_numbers
     check_14 old = go (read_holding F old) refl
       where
-        go : (h : Held) → read_holding F old ≡ h → ((held_numbers h).code ≡ holding_unsound) ↔ (Unsound F) old
+        go : (h : Held) → read_holding F old ≡ h → ((held_numbers h).code ≡ holding_unsound) ↔ Unsound F old
         go (sound st) e = (λ z. absurd (omega (arith, z)), λ u. absurd (u (record { state = st; sounds = held_is_sound F regular old st e })))
         go (unsound n) e = (λ z. unsound_is old n e, λ u. refl)
 
@@ -280,7 +280,7 @@ module _ (F : Format) where
           go a e (no h) = omega arith
 
       -- 14 exactly if the holding is unsound
-      pub load_14 : ((load_file F old b room undo_room).answer.code ≡ holding_unsound) ↔ (Unsound F) old
+      pub load_14 : ((load_file F old b room undo_room).answer.code ≡ holding_unsound) ↔ Unsound F old
       load_14 = (
         λ e. reason_14 room old b _ _ _ _ (load_why (λ z. omega (arith, e, z)) (λ z. omega (arith, e, z))) e,
         λ u. (why_load holding_unsound (check_holding F old).line 0 0 (bad_holding u ((refl, refl, refl), refl))).0.0,

@@ -11,4 +11,4 @@ returns-then-w-end c = (past_not, omega arith)
 
 pub returns : goal.returns
 returns c = let d = c.past_digits-end.ensures in
-    (number_yes _ _ _ _ d.0 (omega arith) d.2 c.if-end-at.false c.if-w-end.false, d.1)
+    (number_yes _ _ _ _ d.0 (omega arith) d.2 c.if-end-at.false (omega arith), d.1)

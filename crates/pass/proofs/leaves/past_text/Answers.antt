@@ -1,5 +1,6 @@
 -- `pass::leaves::past_text` meets its contract.
 use Rattle.pass.proofs.LeafLaws.{past_not, text_empty, text_other, text_ascii}
+use borrow.Author.Rules.{rules}
 use native.Mathlib.Omega.{arith}
 use Rattle.pass.proofs.leaves.past_text.Goals as goal
 
@@ -10,7 +11,7 @@ pub returns-then-filled : goal.returns-then-filled
 returns-then-filled c = past_not
 
 pub returns-then-s-from-eq34 : goal.returns-then-s-from-eq34
-returns-then-s-from-eq34 c = text_empty _ _ _ _ (omega arith) c.if-s-at-ne34.false c.if-s-from-eq34.true c.if-filled.false
+returns-then-s-from-eq34 c = text_empty _ _ _ _ (omega arith) c.if-s-at-ne34.false c.if-s-from-eq34.true (search rules)
 
 pub returns-then-s-last-le1 : goal.returns-then-s-last-le1
 returns-then-s-last-le1 c = past_not
