@@ -1,6 +1,11 @@
 // A file's bytes, as far as a buffer holds them.
 ghost use Rattle.std.specs.Prelude.{◌≤◌, length};
 
+use std::fs::File;
+use std::io::Read;
+use std::rt::Files;
+use std::str::from_utf8;
+
 // Whether a file could be read to its end or to the buffer's, and how many bytes of it stand in the buffer.
 #[derive(Clone, Copy)]
 pub struct Input {
@@ -8,27 +13,33 @@ pub struct Input {
     pub size: usize,
 }
 
+// What is answered of a file that can't be opened.
+const UNREADABLE: Input = Input {
+    readable: false,
+    size: 0,
+};
+
 // Reads on until the buffer is full, the file ends, or a read fails.
-fn read_all(fd: i32, buf: &mut [u8]) -> Input
+fn read_all<F: Read>(file: &mut F, buf: &mut [u8]) -> Input
     ensures { result.size ≤ length buf.new }
 {
     let mut size = 0;
     while size < buf.len() {
-        let got = libc::read(fd, &mut buf[size..]);
-        if got < 0 {
-            return Input {
-                readable: false,
-                size,
-            };
+        match file.read(&mut buf[size..]) {
+            Ok(0) => {
+                return Input {
+                    readable: true,
+                    size,
+                };
+            }
+            Ok(more) => size += more,
+            Err(_) => {
+                return Input {
+                    readable: false,
+                    size,
+                };
+            }
         }
-        let more = io::count(got, &buf[size..]);
-        if more == 0 {
-            return Input {
-                readable: true,
-                size,
-            };
-        }
-        size += more;
     }
     Input {
         readable: true,
@@ -36,18 +47,15 @@ fn read_all(fd: i32, buf: &mut [u8]) -> Input
     }
 }
 
-// Reads the file of that name.
-pub fn read_file(path: &[u8], buf: &mut [u8]) -> Input
+// Reads the file of that name. A name that is not UTF-8 is no file's.
+pub fn read_file<R: Files>(rt: &R, path: &[u8], buf: &mut [u8]) -> Input
     ensures { result.size ≤ length buf.new }
 {
-    let fd = os::open_read(path);
-    if fd < 0 {
-        return Input {
-            readable: false,
-            size: 0,
-        };
+    match from_utf8(path) {
+        Ok(name) => match File::open(rt, name) {
+            Ok(mut file) => read_all(&mut file, buf),
+            Err(_) => UNREADABLE,
+        },
+        Err(_) => UNREADABLE,
     }
-    let input = read_all(fd, &mut *buf);
-    libc::close(fd);
-    input
 }

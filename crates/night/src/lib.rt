@@ -2,12 +2,13 @@
 
 // One night: a holding and a change file are read, and what the program prints is left in a buffer.
 //
-// Both are read by C, and no contract can say which bytes that reads: those here say only that a count fits its buffer. From there on
-// `print` promises every byte.
+// Both are read by the system, and no contract can say which bytes that reads: those here say only that a count fits its buffer. From
+// there on `print` promises every byte.
 ghost use Rattle.std.specs.Prelude.{◌≤◌, length};
 
 use crate::input::read_file;
 use program::{MOST, ROOM, print};
+use std::rt::Files;
 
 pub mod input; // a file's bytes
 
@@ -15,13 +16,13 @@ pub mod input; // a file's bytes
 const ONE_MORE: usize = ROOM + 1;
 
 // How many bytes are to be printed for the files of these names.
-pub fn night(holding: &[u8], change: &[u8], printed: &mut [u8; MOST]) -> usize
+pub fn night<R: Files>(rt: &R, holding: &[u8], change: &[u8], printed: &mut [u8; MOST]) -> usize
     ensures { result ≤ length printed.new }
 {
     let mut old = [0u8; ONE_MORE];
     let mut file = [0u8; ONE_MORE];
-    let held = read_file(holding, &mut old);
-    let sent = read_file(change, &mut file);
+    let held = read_file(rt, holding, &mut old);
+    let sent = read_file(rt, change, &mut file);
     let n = held.size;
     let m = sent.size;
     print(

@@ -1,42 +1,39 @@
 // What the programs that show something say on standard output: words, numbers, and those of an answer.
 //
-// No contract can say which bytes C writes, so these promise nothing; what a program says is compared with its file `stdout`.
+// No contract can say which bytes reach the system, so these promise nothing; what a program says is compared with its file `stdout`.
 use answers::numbers::{Answer, in_order};
-use libc::STDOUT_FILENO;
+use std::io;
 
 // Words.
-pub fn say(words: &[u8]) {
-    io::write_all(STDOUT_FILENO, words);
+pub fn say<R: Print>(rt: &R, words: &[u8]) -> io::Result<()> {
+    rt.write_all(words)
 }
 
 // Words, and the end of the line.
-pub fn say_line(words: &[u8]) {
-    say(words);
-    say(b"\n");
+pub fn say_line<R: Print>(rt: &R, words: &[u8]) -> io::Result<()> {
+    say(rt, words)?;
+    say(rt, b"\n")
 }
 
 // A number.
-pub fn say_number(n: u64) {
-    io::print_decimal(STDOUT_FILENO, n);
+pub fn say_number<R: Print>(rt: &R, n: u64) -> io::Result<()> {
+    print!(rt; "{n}")
 }
 
 // Three numbers with commas.
-pub fn say_three(a: u64, b: u64, c: u64) {
-    say_number(a);
-    say(b",");
-    say_number(b);
-    say(b",");
-    say_number(c);
+pub fn say_three<R: Print>(rt: &R, a: u64, b: u64, c: u64) -> io::Result<()> {
+    print!(rt; "{a},{b},{c}")
 }
 
 // The numbers of an answer.
-pub fn say_numbers(a: Answer) {
+pub fn say_numbers<R: Print>(rt: &R, a: Answer) -> io::Result<()> {
     let numbers = in_order(a);
-    say_number(numbers[0]);
+    say_number(rt, numbers[0])?;
     let mut i = 1;
     while i < Answer::NUMBERS {
-        say(b",");
-        say_number(numbers[i]);
+        say(rt, b",")?;
+        say_number(rt, numbers[i])?;
         i += 1;
     }
+    Ok(())
 }
