@@ -9,10 +9,12 @@
 use field::field;
 use find::find;
 use in_force::in_force;
-use libc::STDIN_FILENO;
 use night::input::read_file;
 use reader::{handed_at, past_at};
+use shown::asked::{MOST_ASKED, read_full};
 use shown::said::{say, say_line, say_three};
+use std::io;
+use std::rt::Files;
 use text::lines::plain_end;
 use text::order::is_same;
 
@@ -34,23 +36,23 @@ fn number(line: &[u8], k: usize) -> u64 {
 }
 
 // The part, between brackets.
-fn say_part(part: &[u8]) {
-    say(b"[");
-    say(part);
-    say(b"]\n");
+fn say_part<R: Print>(rt: &R, part: &[u8]) -> io::Result<()> {
+    say(rt, b"[")?;
+    say(rt, part)?;
+    say(rt, b"]\n")
 }
 
 // The numbers and the part that an enquiry gives back.
-fn say_answer(answer: &[u64; 3], part: &[u8]) {
-    say(b": ");
-    say_three(answer[0], answer[1], answer[2]);
-    say(b" ");
-    say_part(part);
+fn say_answer<R: Print>(rt: &R, answer: &[u64; 3], part: &[u8]) -> io::Result<()> {
+    say(rt, b": ")?;
+    say_three(rt, answer[0], answer[1], answer[2])?;
+    say(rt, b" ")?;
+    say_part(rt, part)
 }
 
-fn ask_find(line: &[u8]) {
+fn ask_find<R: Files + Print>(rt: &R, line: &[u8]) -> io::Result<()> {
     let mut holding = [0u8; ROOM];
-    let n = read_file(word(line, 3), &mut holding).size;
+    let n = read_file(rt, word(line, 3), &mut holding).size;
     let mut answer = [0u64; 3];
     let part = find(
         &holding[0..n],
@@ -58,14 +60,14 @@ fn ask_find(line: &[u8]) {
         number(line, 2),
         &mut answer,
     );
-    say_answer(&answer, part);
+    say_answer(rt, &answer, part)
 }
 
-fn ask_in_force(line: &[u8]) {
+fn ask_in_force<R: Files + Print>(rt: &R, line: &[u8]) -> io::Result<()> {
     let mut holding = [0u8; ROOM];
     let mut file = [0u8; ROOM];
-    let n = read_file(word(line, 3), &mut holding).size;
-    let m = read_file(word(line, 4), &mut file).size;
+    let n = read_file(rt, word(line, 3), &mut holding).size;
+    let m = read_file(rt, word(line, 4), &mut file).size;
     let mut answer = [0u64; 3];
     let part = in_force(
         &holding[0..n],
@@ -74,72 +76,75 @@ fn ask_in_force(line: &[u8]) {
         number(line, 2),
         &mut answer,
     );
-    say_answer(&answer, part);
+    say_answer(rt, &answer, part)
 }
 
-fn ask_field(line: &[u8]) {
+fn ask_field<R: Files + Print>(rt: &R, line: &[u8]) -> io::Result<()> {
     let mut bytes = [0u8; ROOM];
-    let n = read_file(word(line, 3), &mut bytes).size;
+    let n = read_file(rt, word(line, 3), &mut bytes).size;
     let mut answer = [0u64; 3];
     let part = field(&bytes[0..n], number(line, 1), number(line, 2), &mut answer);
-    say_answer(&answer, part);
+    say_answer(rt, &answer, part)
 }
 
 // Every line of some bytes, as a reader hands them out.
-fn hand_out(bytes: &[u8]) {
+fn hand_out<R: Print>(rt: &R, bytes: &[u8]) -> io::Result<()> {
     let mut at = 0;
     while at < bytes.len() {
-        say_part(handed_at(bytes, at));
+        say_part(rt, handed_at(bytes, at))?;
         at = past_at(bytes, at);
     }
+    Ok(())
 }
 
-fn ask_lines(line: &[u8]) {
+fn ask_lines<R: Files + Print>(rt: &R, line: &[u8]) -> io::Result<()> {
     let mut bytes = [0u8; ROOM];
-    let n = read_file(word(line, 1), &mut bytes).size;
-    say(b":\n");
-    hand_out(&bytes[0..n]);
+    let n = read_file(rt, word(line, 1), &mut bytes).size;
+    say(rt, b":\n")?;
+    hand_out(rt, &bytes[0..n])
 }
 
 // One enquiry, and its answer.
-fn ask(line: &[u8]) {
+fn ask<R: Files + Print>(rt: &R, line: &[u8]) -> io::Result<()> {
     let what = word(line, 0);
-    say(line);
+    say(rt, line)?;
     if is_same(what, b"find") {
-        ask_find(line);
+        ask_find(rt, line)
     } else if is_same(what, b"in_force") {
-        ask_in_force(line);
+        ask_in_force(rt, line)
     } else if is_same(what, b"field") {
-        ask_field(line);
+        ask_field(rt, line)
     } else if is_same(what, b"lines") {
-        ask_lines(line);
+        ask_lines(rt, line)
     } else {
-        say(b": no enquiry\n");
+        say(rt, b": no enquiry\n")
     }
 }
 
 // One line of the input: a comment (`#`), or an enquiry.
-fn enquiry(line: &[u8]) {
-    if 0 < line.len() {
-        if line[0] == b'#' {
-            say_line(line);
-        } else {
-            ask(line);
-        }
+fn enquiry<R: Files + Print>(rt: &R, line: &[u8]) -> io::Result<()> {
+    if line.is_empty() {
+        return Ok(());
+    }
+    if line[0] == b'#' {
+        say_line(rt, line)
+    } else {
+        ask(rt, line)
     }
 }
 
-fn enquiries(s: &[u8]) {
+fn enquiries<R: Files + Print>(rt: &R, s: &[u8]) -> io::Result<()> {
     let mut at = 0;
     while at < s.len() {
         let end = plain_end(s, at);
-        enquiry(&s[at..end]);
+        enquiry(rt, &s[at..end])?;
         at = end + 1;
     }
+    Ok(())
 }
 
-fn main() {
-    let mut buf = io::large_buffer();
-    let n = io::read_full(STDIN_FILENO, &mut buf);
-    enquiries(&buf[..n]);
+fn main(rt: HostRuntime) -> io::Result<()> {
+    let mut buf = [0u8; MOST_ASKED];
+    let n = read_full(&mut rt.stdin(), &mut buf)?;
+    enquiries(&rt, &buf[..n])
 }

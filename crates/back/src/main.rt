@@ -11,6 +11,8 @@ use night::input::read_file;
 use printed::bare::bare_length;
 use shown::built::put_text;
 use shown::said::{say, say_number, say_numbers};
+use std::io;
+use std::rt::Files;
 use volume::check::check_file;
 
 // The bytes of each buffer: a holding, a change file or an undo.
@@ -20,9 +22,9 @@ const ROOM: usize = 16384;
 const NAME: usize = 5;
 
 // The numbers of an answer, after what they are of.
-fn say_answer(what: &[u8], a: Answer) {
-    say(what);
-    say_numbers(a);
+fn say_answer<R: Print>(rt: &R, what: &[u8], a: Answer) -> io::Result<()> {
+    say(rt, what)?;
+    say_numbers(rt, a)
 }
 
 // What stands before the zeros of two buffers, compared.
@@ -33,99 +35,118 @@ fn is_as_stood(a: &[u8], b: &[u8]) -> bool {
 }
 
 // Whether an undo is the file itself.
-fn say_which(undone: &[u8], file: &[u8]) {
+fn say_which<R: Print>(rt: &R, undone: &[u8], file: &[u8]) -> io::Result<()> {
     if text::order::is_same(undone, file) {
-        say(b", the file itself");
+        say(rt, b", the file itself")
     } else {
-        say(b", another file");
+        say(rt, b", another file")
     }
 }
 
 // What a file's undo is, beside the file.
-fn say_undo(undone: &[u8], file: &[u8]) {
+fn say_undo<R: Print>(rt: &R, undone: &[u8], file: &[u8]) -> io::Result<()> {
     let k = bare_length(undone);
-    say(b"; its undo");
-    say_which(&undone[0..k], file);
-    say_answer(b", and checked: ", check_file(&undone[0..k]));
-    say(b"\n");
+    say(rt, b"; its undo")?;
+    say_which(rt, &undone[0..k], file)?;
+    say_answer(rt, b", and checked: ", check_file(&undone[0..k]))?;
+    say(rt, b"\n")
 }
 
 // Loads the file of that name into the holding, and leaves its undo.
-fn forward(name: &[u8], holding: &[u8], next: &mut [u8], undone: &mut [u8]) {
+fn forward<R: Files + Print>(
+    rt: &R,
+    name: &[u8],
+    holding: &[u8],
+    next: &mut [u8],
+    undone: &mut [u8],
+) -> io::Result<()> {
     let mut file = [0u8; ROOM];
-    let m = read_file(name, &mut file).size;
+    let m = read_file(rt, name, &mut file).size;
     let n = bare_length(holding);
-    say(name);
+    say(rt, name)?;
     let answer = load(&holding[0..n], &file[0..m], &mut *next, &mut *undone);
-    say_answer(b" taken: ", answer);
-    say_undo(&*undone, &file[0..m]);
+    say_answer(rt, b" taken: ", answer)?;
+    say_undo(rt, &*undone, &file[0..m])
 }
 
 // How long the undo of an undo is, beside what is always enough for it.
-fn say_again(again: &[u8], name: &[u8], undone: usize) {
+fn say_again<R: Files + Print>(rt: &R, again: &[u8], name: &[u8], undone: usize) -> io::Result<()> {
     let mut file = [0u8; ROOM];
-    let m = read_file(name, &mut file).size;
-    say(b"; its own undo has ");
-    say_number(bare_length(again) as u64);
-    say(b" bytes of ");
-    say_number(m as u64);
-    say(b" + ");
-    say_number(undone as u64);
-    say(b"\n");
+    let m = read_file(rt, name, &mut file).size;
+    say(rt, b"; its own undo has ")?;
+    say_number(rt, bare_length(again) as u64)?;
+    say(rt, b" bytes of ")?;
+    say_number(rt, m as u64)?;
+    say(rt, b" + ")?;
+    say_number(rt, undone as u64)?;
+    say(rt, b"\n")
 }
 
 // Hands the undo of the file of that name in to the holding, and says whether what comes of it is what stood before that file.
-fn back(name: &[u8], holding: &[u8], undone: &[u8], stood: &[u8], out: &mut [u8]) {
+fn back<R: Files + Print>(
+    rt: &R,
+    name: &[u8],
+    holding: &[u8],
+    undone: &[u8],
+    stood: &[u8],
+    out: &mut [u8],
+) -> io::Result<()> {
     let mut again = [0u8; ROOM];
     let n = bare_length(holding);
     let m = bare_length(undone);
-    say(name);
+    say(rt, name)?;
     let answer = load(&holding[0..n], &undone[0..m], &mut *out, &mut again);
-    say_answer(b" handed back: ", answer);
+    say_answer(rt, b" handed back: ", answer)?;
     if is_as_stood(&*out, stood) {
-        say(b" same");
+        say(rt, b" same")?;
     } else {
-        say(b" other");
+        say(rt, b" other")?;
     }
-    say_again(&again, name, m);
+    say_again(rt, &again, name, m)
 }
 
 // The undo of the worked example, whole.
-fn worked() {
+fn worked<R: Files + Print>(rt: &R) -> io::Result<()> {
     let mut holding = [0u8; ROOM];
     let mut file = [0u8; ROOM];
     let mut next = [0u8; ROOM];
     let mut undone = [0u8; ROOM];
-    let n = read_file(b"worked/holding.csv", &mut holding).size;
-    let m = read_file(b"worked/change.csv", &mut file).size;
+    let n = read_file(rt, b"worked/holding.csv", &mut holding).size;
+    let m = read_file(rt, b"worked/change.csv", &mut file).size;
     let answer = load(&holding[0..n], &file[0..m], &mut next, &mut undone);
-    say_answer(b"The undo of the worked example: ", answer);
-    say(b"\n");
+    say_answer(rt, b"The undo of the worked example: ", answer)?;
+    say(rt, b"\n")?;
     let k = bare_length(&undone);
-    say(&undone[0..k]);
+    say(rt, &undone[0..k])
 }
 
 // The nights of these names, from the holding on, and back to it: `out` is left with what the first night's undo gives.
-fn nights(names: &[u8], holding: &[u8], out: &mut [u8]) {
+fn nights<R: Files + Print>(
+    rt: &R,
+    names: &[u8],
+    holding: &[u8],
+    out: &mut [u8],
+) -> io::Result<()> {
     if names.len() < NAME {
         put_text(&mut *out, 0, holding);
     } else {
         let mut next = [0u8; ROOM];
         let mut undone = [0u8; ROOM];
         let mut home = [0u8; ROOM];
-        forward(&names[0..NAME], holding, &mut next, &mut undone);
-        nights(&names[NAME..], &next, &mut home);
-        back(&names[0..NAME], &home, &undone, holding, &mut *out);
+        forward(rt, &names[0..NAME], holding, &mut next, &mut undone)?;
+        nights(rt, &names[NAME..], &next, &mut home)?;
+        back(rt, &names[0..NAME], &home, &undone, holding, &mut *out)?;
     }
+    Ok(())
 }
 
-fn main() {
+fn main(rt: HostRuntime) -> io::Result<()> {
     let mut holding = [0u8; ROOM];
     let mut home = [0u8; ROOM];
-    read_file(b"holding.csv", &mut holding);
-    nights(b"1.csv2.csv3.csv4.csv5.csv6.csv", &holding, &mut home);
+    read_file(&rt, b"holding.csv", &mut holding);
+    nights(&rt, b"1.csv2.csv3.csv4.csv5.csv6.csv", &holding, &mut home)?;
     if is_as_stood(&home, &holding) {
-        say(b"home\n");
+        say(&rt, b"home\n")?;
     }
-    worked();
+    worked(&rt)
 }

@@ -5,25 +5,26 @@
 ghost use Rattle.std.specs.Prelude.{◌≤◌, length};
 
 use holding::check::check_holding;
-use libc::STDIN_FILENO;
+use shown::asked::{MOST_ASKED, read_full};
 use shown::built::{put_holding, put_lines, put_text, put_value};
 use shown::said::{say, say_number, say_numbers, say_three};
+use std::io;
 use text::lines::plain_end;
 use volume::check::check_file;
 
 // The numbers of the check of a file.
-fn answer_file(file: &[u8]) {
-    say_numbers(check_file(file));
+fn answer_file<R: Print>(rt: &R, file: &[u8]) -> io::Result<()> {
+    say_numbers(rt, check_file(file))
 }
 
 // The three numbers of the check of a holding.
-fn answer_holding(held: &[u8]) {
+fn answer_holding<R: Print>(rt: &R, held: &[u8]) -> io::Result<()> {
     let v = check_holding(held);
-    say_three(v.code, v.line, v.field);
+    say_three(rt, v.code, v.line, v.field)
 }
 
 // A file of so many body lines, judged.
-fn long_file(count: u64) {
+fn long_file<R: Print>(rt: &R, count: u64) -> io::Result<()> {
     let mut out = [0u8; 262144];
     let a = put_text(
         &mut out,
@@ -38,21 +39,21 @@ fn long_file(count: u64) {
     );
     let d = put_value(&mut out, c, count);
     let e = put_text(&mut out, d, b",2001-01-01,000000\r\n");
-    say_number(count);
-    say(b" body lines: ");
-    answer_file(&out[0..e]);
-    say(b"\n");
+    say_number(rt, count)?;
+    say(rt, b" body lines: ")?;
+    answer_file(rt, &out[0..e])?;
+    say(rt, b"\n")
 }
 
 // A holding of so many lines, a street and its cross references, judged.
-fn long_holding(count: u64) {
+fn long_holding<R: Print>(rt: &R, count: u64) -> io::Result<()> {
     let mut out = [0u8; 480000];
     let n = put_holding(&mut out, count);
-    say(b"holding of ");
-    say_number(count);
-    say(b" lines: ");
-    answer_holding(&out[0..n]);
-    say(b"\n");
+    say(rt, b"holding of ")?;
+    say_number(rt, count)?;
+    say(rt, b" lines: ")?;
+    answer_holding(rt, &out[0..n])?;
+    say(rt, b"\n")
 }
 
 // Whether bytes begin with these words.
@@ -80,39 +81,40 @@ fn block_end(s: &[u8], at: usize) -> usize
 }
 
 // One block: its title and its answer.
-fn block(b: &[u8]) {
+fn block<R: Print>(rt: &R, b: &[u8]) -> io::Result<()> {
     let end = plain_end(b, 0);
     let title = &b[0..end];
-    say(title);
-    say(b": ");
+    say(rt, title)?;
+    say(rt, b": ")?;
     if end == b.len() {
-        answer_file(&b[end..]);
+        answer_file(rt, &b[end..])?;
     } else {
         let from = end + 1;
         if begins(title, b"holding") {
-            answer_holding(&b[from..]);
+            answer_holding(rt, &b[from..])?;
         } else {
-            answer_file(&b[from..]);
+            answer_file(rt, &b[from..])?;
         }
     }
-    say(b"\n");
+    say(rt, b"\n")
 }
 
-fn blocks(s: &[u8]) {
+fn blocks<R: Print>(rt: &R, s: &[u8]) -> io::Result<()> {
     let mut at = 0;
     while at < s.len() {
         let end = block_end(s, at);
-        block(&s[at..end]);
+        block(rt, &s[at..end])?;
         at = end + 5;
     }
+    Ok(())
 }
 
-fn main() {
-    let mut buf = io::large_buffer();
-    let n = io::read_full(STDIN_FILENO, &mut buf);
-    blocks(&buf[..n]);
-    long_file(4096);
-    long_file(4097);
-    long_holding(8192);
-    long_holding(8193);
+fn main(rt: HostRuntime) -> io::Result<()> {
+    let mut buf = [0u8; MOST_ASKED];
+    let n = read_full(&mut rt.stdin(), &mut buf)?;
+    blocks(&rt, &buf[..n])?;
+    long_file(&rt, 4096)?;
+    long_file(&rt, 4097)?;
+    long_holding(&rt, 8192)?;
+    long_holding(&rt, 8193)
 }

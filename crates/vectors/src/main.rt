@@ -6,87 +6,81 @@
 use layout::check::{check_line, kind_of, malformed_at, sound_at};
 use layout::kinds::{Kind, KindFound};
 use layout::rules::layout;
-use libc::STDIN_FILENO;
-use shown::said::{say, say_line, say_number};
+use shown::asked::{MOST_ASKED, read_full};
+use shown::said::{say, say_line, say_number, say_three};
+use std::io;
 use text::lines::plain_end;
 
 // The answer on one field of a kind.
-fn answer_field(kind: Kind, number: u64, f: &[u8]) {
+fn answer_field<R: Print>(rt: &R, kind: Kind, number: u64, f: &[u8]) -> io::Result<()> {
     let l = layout(kind);
     let count = l.count;
     if number < 1 {
-        say(b"no such field: ");
-        return;
+        return say(rt, b"no such field: ");
     }
     let k = (number - 1) as usize;
     if count <= k {
-        say(b"no such field: ");
-        return;
+        return say(rt, b"no such field: ");
     }
     if sound_at(kind, k, f) {
-        say(b"sound: ");
-        return;
+        return say(rt, b"sound: ");
     }
     let fault = malformed_at(kind, k, f);
-    say(b"malformed at ");
-    say_number(fault.place);
-    say(b": ");
+    say(rt, b"malformed at ")?;
+    say_number(rt, fault.place)?;
+    say(rt, b": ")
 }
 
 // The answer on a vector for one field.
-fn field_vector(line: &[u8]) {
+fn field_vector<R: Print>(rt: &R, line: &[u8]) -> io::Result<()> {
     if line.len() < 7 {
-        say(b"no vector: ");
-        return;
+        return say(rt, b"no vector: ");
     }
     let found = kind_of(&line[1..3]);
     let number = text::numbers::value(&line[4..6]);
     match found {
-        KindFound::Known(kind) => answer_field(kind, number, &line[7..]),
-        KindFound::Unknown => say(b"no kind: "),
+        KindFound::Known(kind) => answer_field(rt, kind, number, &line[7..]),
+        KindFound::Unknown => say(rt, b"no kind: "),
     }
 }
 
 // The answer on a record: its code, field and place.
-fn record_vector(line: &[u8]) {
+fn record_vector<R: Print>(rt: &R, line: &[u8]) -> io::Result<()> {
     let end = text::fields::identifier_end(line);
     match kind_of(&line[0..end]) {
         KindFound::Known(kind) => {
             let fault = check_line(kind, line);
-            say_number(fault.code);
-            say(b",");
-            say_number(fault.field);
-            say(b",");
-            say_number(fault.place);
+            say_three(rt, fault.code, fault.field, fault.place)?;
         }
-        KindFound::Unknown => say(b"2,1,0"),
+        KindFound::Unknown => say(rt, b"2,1,0")?,
     }
-    say(b": ");
+    say(rt, b": ")
 }
 
 // One line of the input.
-fn vector(line: &[u8]) {
+fn vector<R: Print>(rt: &R, line: &[u8]) -> io::Result<()> {
     if 0 < line.len() {
         if line[0] == b'@' {
-            field_vector(line);
+            field_vector(rt, line)?;
         } else if line[0] != b'#' {
-            record_vector(line);
+            record_vector(rt, line)?;
         }
     }
-    say_line(line);
+    say_line(rt, line)
 }
 
-fn run(s: &[u8]) {
+fn run<R: Print>(rt: &R, s: &[u8]) -> io::Result<()> {
     let mut at = 0;
     while at < s.len() {
         let end = plain_end(s, at);
-        vector(&s[at..end]);
+        vector(rt, &s[at..end])?;
         at = end + 1;
     }
+    Ok(())
 }
 
-fn main() {
-    let mut buf = io::large_buffer();
-    let n = io::read_full(STDIN_FILENO, &mut buf);
-    run(&buf[..n]);
+fn main(rt: HostRuntime) -> io::Result<()> {
+    let mut buf = [0u8; MOST_ASKED];
+    let n = read_full(&mut rt.stdin(), &mut buf)?;
+    run(&rt, &buf[..n])
 }

@@ -1,0 +1,9 @@
+-- What lasts from turn to turn of the loop of `edges::blocks`, and what each turn makes smaller.
+use Rattle.std.proofs.Common.{◌+◌, ◌-◌, ◌≤◌, length}
+use Rattle.edges.proofs.blocks.Given as goal
+
+abbrev pub invariant-loop-at : goal.invariant-loop-at
+invariant-loop-at g l = l.at ≤ length l.s + 5
+
+abbrev pub decreases-loop-at : goal.decreases-loop-at
+decreases-loop-at g l = length l.s + 5 - l.at
