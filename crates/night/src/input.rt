@@ -1,5 +1,6 @@
 // A file's bytes, as far as a buffer holds them.
-ghost use Rattle.std.specs.Prelude.{◌≤◌, length};
+ghost use Rattle.std.specs.Prelude.{◌<◌, ◌≤◌, IsTrue, length, take};
+ghost use Rattle.std.specs.Io.KnownBytes.{Consumes, IsAtEnd};
 
 use std::fs::File;
 use std::io::Read;
@@ -19,9 +20,12 @@ const UNREADABLE: Input = Input {
     size: 0,
 };
 
-// Reads on until the buffer is full, the file ends, or a read fails.
+// Reads on until the buffer is full, the file ends, or a read fails. Of a reader whose bytes are known, those from its front on stand in the
+// buffer; a file of the system says nothing of its bytes.
 fn read_all<F: Read>(file: &mut F, buf: &mut [u8]) -> Input
-    ensures { result.size ≤ length buf.new }
+    ensures bound { result.size ≤ length buf.new }
+    ensures bytes { Consumes (F.remaining file.old) (F.remaining file.new) (take result.size buf.new) }
+    ensures end { IsTrue result.readable → result.size < length buf.new → IsAtEnd (F.remaining file.new) }
 {
     let mut size = 0;
     while size < buf.len() {
