@@ -10,16 +10,14 @@ use holding::check::check_holding;
 use volume::check::check_file;
 
 // The check of a file.
-#[unsafe(no_mangle)]
-pub extern "C" fn muiwash_check_file(file: &[u8], answer: &mut [u64; Answer::NUMBERS])
+pub fn muiwash_check_file(file: &[u8], answer: &mut [u64; Answer::NUMBERS])
     ensures { answer.new ≡ number_list (check_file scottish file.now) }
 {
     *answer = in_order(check_file(file));
 }
 
 // The check of a holding.
-#[unsafe(no_mangle)]
-pub extern "C" fn muiwash_check_holding(holding: &[u8], answer: &mut [u64; 3])
+pub fn muiwash_check_holding(holding: &[u8], answer: &mut [u64; 3])
     ensures { answer.new ≡ three_list (check_holding scottish holding.now) }
 {
     *answer = three(check_holding(holding));

@@ -6,8 +6,7 @@ use answers::numbers::{Answer, in_order};
 use loader::load;
 
 // Loads a file into a holding: the new holding and the file's undo, each in its buffer, or zeros in both.
-#[unsafe(no_mangle)]
-pub extern "C" fn muiwash_load(
+pub fn muiwash_load(
     holding: &[u8],
     file: &[u8],
     out: &mut [u8],

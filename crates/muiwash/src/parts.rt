@@ -10,30 +10,21 @@ use find::find_line;
 use in_force::line_in_force;
 
 // The line of a street or BLPU in the holding.
-#[unsafe(no_mangle)]
-pub extern "C" fn muiwash_find(holding: &[u8], kind: u64, number: u64, answer: &mut [u64; 5])
+pub fn muiwash_find(holding: &[u8], kind: u64, number: u64, answer: &mut [u64; 5])
     ensures { answer.new ≡ part_list (find scottish holding.now kind number) }
 {
     *answer = five(find_line(holding, kind, number));
 }
 
 // The record in force if the file were taken: a line of the holding or of the file.
-#[unsafe(no_mangle)]
-pub extern "C" fn muiwash_in_force(
-    holding: &[u8],
-    file: &[u8],
-    kind: u64,
-    number: u64,
-    answer: &mut [u64; 6],
-)
+pub fn muiwash_in_force(holding: &[u8], file: &[u8], kind: u64, number: u64, answer: &mut [u64; 6])
     ensures { answer.new ≡ sided_list (in_force scottish holding.now file.now kind number) }
 {
     *answer = sided(line_in_force(holding, file, kind, number));
 }
 
 // One field of a line of any bytes.
-#[unsafe(no_mangle)]
-pub extern "C" fn muiwash_field(bytes: &[u8], line: u64, field: u64, answer: &mut [u64; 5])
+pub fn muiwash_field(bytes: &[u8], line: u64, field: u64, answer: &mut [u64; 5])
     ensures { answer.new ≡ part_list (field_of bytes.now line field) }
 {
     *answer = five(find_field(bytes, line, field));

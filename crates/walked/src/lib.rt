@@ -12,8 +12,7 @@ use text::fields::split;
 use text::lines::{ends_at, plain_end};
 
 // Where the line that starts at `at` ends, if the walk sees it to be sound, or 0.
-#[unsafe(no_mangle)]
-pub extern "C" fn walked_end(s: &[u8], at: u64) -> u64
+pub fn walked_end(s: &[u8], at: u64) -> u64
     ensures { 0 < result → SoundUpTo s.now at result }
 {
     let mut ends = [0usize; 32];
@@ -28,8 +27,7 @@ pub extern "C" fn walked_end(s: &[u8], at: u64) -> u64
 }
 
 // Where the line that starts at `at` ends, if the exact check finds no fault in its ending, its count of fields and each of them, or 0.
-#[unsafe(no_mangle)]
-pub extern "C" fn judged_end(s: &[u8], at: u64) -> u64
+pub fn judged_end(s: &[u8], at: u64) -> u64
     ensures { 0 < result → SoundUpTo s.now at result }
 {
     let mut ends = [0usize; 32];
