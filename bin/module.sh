@@ -1,6 +1,6 @@
 # shellcheck shell=bash
-# Sourced behind bin/tools.sh: proves a crate with rt and keeps the module that rt makes of what is proved, so that the kit's own compiler
-# makes code of it for other machines. No proof covers how the module is made, nor what is compiled of it for any machine.
+# Sourced behind bin/tools.sh: has rattle prove a crate for a machine and compile what is proved, and keeps the module of it that the kit's
+# clang is given, so that clang makes WebAssembly of it too. No proof covers how the module is made, nor what is compiled of it.
 modules=$PWD/target/module
 clang=$toolchain/bin/clang
 
@@ -16,58 +16,85 @@ triple_of() {
   esac
 }
 
-# FOLDER: the kit once more, by links, but for its clang: this one keeps in FOLDER's parent the module and the words that it is given, does
-# as the kit's own, and keeps the object that came of it.
-keeping_kit() {
-  local part bin=on/$machine/toolchain/bin
-  mkdir -p "$1/$bin"
-  for part in "$kit"/* "$kit/on/$machine"/* "$toolchain"/* "$toolchain"/bin/*; do
-    part=${part#"$kit/"}
-    case $part in on | "${bin%/*}" | "$bin" | "$bin/clang") ;; *) ln -s "$kit/$part" "$1/$part" ;; esac
-  done
-  cat >"$1/$bin/clang" <<KEEPS
-#!/bin/sh
-printf '%s\n' "\$@" >'${1%/*}/words' && cp module.bc '${1%/*}/' && '$clang' "\$@" && cp module.o '${1%/*}/x86_64.o'
-KEEPS
-  chmod +x "$1/$bin/clang"
+# What a proof reads: a sum of the kit's name, of crates.txt and of every file of the crates.
+sources() {
+  { cat "$kit/KIT-ID" crates.txt && find crates -name out -prune -o -type f -print0 | sort -z | xargs -0 sha256sum; } | sha256sum | cut -d' ' -f1
 }
 
-# CRATE: has rt prove the crate, a library for C or a program, and compile it, which it does for x86-64 on every machine; keeps the module.
-keep_module() {
-  local made=$modules/$1
-  rm -rf "$made"
-  keeping_kit "$made/kit"
+# CRATE: proves it and the crates below it, whose libraries stand in their folders out/ then. The gate, which has just done so for all of
+# them, hands down in MUIWASH_PROVED of which sources.
+proved=
+prove() {
+  if [ "$proved" = "$1" ] || { [ -n "${MUIWASH_PROVED:-}" ] && [ "$MUIWASH_PROVED" = "$(sources)" ]; }; then return; fi
+  (cd "crates/$1" && rt check) && proved=$1
+}
+
+# FOLDER: the kit's toolchain once more, by links, but for its clang: this one keeps the module and the words that it is given in FOLDER's
+# parent, and does as the kit's own.
+keeping_toolchain() {
+  local tool
+  mkdir -p "$1/bin"
+  for tool in "$toolchain"/bin/*; do ln -s "$tool" "$1/bin/"; done
+  ln -s "$toolchain/lib" "$1/lib"
+  rm "$1/bin/clang"
+  cat >"$1/bin/clang" <<KEEPS
+#!/bin/sh
+if [ -e module.bc ]; then cp module.bc '${1%/*}/'; fi
+printf '%s\n' "\$@" >'${1%/*}/words' && exec '$clang' "\$@"
+KEEPS
+  chmod +x "$1/bin/clang"
+}
+
+# CRATE MACHINE: has rattle prove the crate for that machine, x86_64 or aarch64, and compile it, over the libraries below it as they stand
+# in their folders out/: a library for C to made.a, a program to made.o, in $modules/CRATE/MACHINE, with the module and clang's words.
+compile_crate() {
+  local into=$modules/$1/$2 name folder words=(--crate-name "$1")
+  mkdir -p "$into"
+  keeping_toolchain "$into/toolchain"
   if [ -e "crates/$1/src/main.rt" ]; then
-    # rt compiles a program when it proves it, and what it has proved it leaves as it is
-    rm -f "target/stamp/$1"
-    RATTLE_HOME=$made/kit rt check "$1"
+    words+=(src/main.rt -o "$into/made.o")
   else
-    # the crates below it side by side first: staticlib proves them one after the other
-    rt check "$1" && RATTLE_HOME=$made/kit rt staticlib "$1"
-  fi >"$made/log" 2>&1 && return
-  cat "$made/log" >&2
+    words+=(src/lib.rt --crate-type staticlib -o "$into/made.a")
+  fi
+  words+=(--extern "std=$kit/rlibs/std.rlib" -L "dependency=$kit/rlibs")
+  # what crates.txt has behind its name
+  for name in $(sed -n "s/^$1\( [^:]*\)\?://p" crates.txt); do
+    folder=$kit/rlibs
+    if [ -d "crates/$name" ]; then folder=$PWD/crates/$name/out/rlib; fi
+    words+=(--extern "$name=$folder/$name.rlib")
+  done
+  for folder in "$PWD"/crates/*/out/rlib; do words+=(-L "dependency=$folder"); done
+  words+=(--antt-project "$kit/rattle/logic/antt-project.json" --logic-built "$kit/logic_built" --incremental out/incremental --jobs 2)
+  words+=(--links "$1=" --target "$(triple_of "$2")" --toolchain "$into/toolchain" --backend llvm)
+  (cd "crates/$1" && rattle build "${words[@]}")
+}
+
+# CRATE MACHINE: proves the crate, a library for C or a program, and compiles it as compile_crate says.
+keep_module() {
+  local log=$modules/$1/$2.log
+  rm -rf "${modules:?}/$1/$2"
+  mkdir -p "$modules/$1"
+  { prove "$1" && compile_crate "$1" "$2"; } >"$log" 2>&1 && return
+  cat "$log" >&2
   exit 1
 }
 
-# CRATE MACHINE OBJECT: the kept module's code for that machine. For x86-64 it is the object that rt made; for another it is compiled with
-# the same words, and the machine's name and the layout of its data are those that clang gives an empty program for it; the processor is
-# clang's choice.
-compile_module() {
-  local made=$modules/$1 triple words
-  triple=$(triple_of "$2")
-  if [ "$2" = x86_64 ]; then
-    cp "$made/x86_64.o" "$3"
-    return
-  fi
+# CRATE OBJECT: the kept module of the crate for x86-64 as code for wasm32, which rattle makes nothing for: compiled with the same words,
+# but the machine's name and the layout of its data are those that clang gives an empty program for it, and the processor is clang's choice.
+compile_wasm() {
+  local made=$modules/$1/x86_64 triple words
+  triple=$(triple_of wasm32)
   "$clang" --no-default-config --target="$triple" -x c -S -emit-llvm -o "$made/empty.ll" /dev/null
   "$clang" --no-default-config -x ir -S -emit-llvm -o "$made/module.ll" "$made/module.bc"
-  grep '^target ' "$made/empty.ll" >"$made/$2.ll"
-  sed -e '/^target /d' -e 's/ "target-cpu"="[^"]*"//' "$made/module.ll" >>"$made/$2.ll"
-  mapfile -t words < <(sed -e "s|^--target=.*|--target=$triple|" -e '/^-march=/d' -e "s|^module.bc\$|$made/$2.ll|" -e "s|^module.o\$|$3|" "$made/words")
+  grep '^target ' "$made/empty.ll" >"$made/wasm32.ll"
+  sed -e '/^target /d' -e 's/ "target-cpu"="[^"]*"//' "$made/module.ll" >>"$made/wasm32.ll"
+  mapfile -t words < <(sed -e "s|^--target=.*|--target=$triple|" -e '/^-march=/d' -e "s|^module.bc\$|$made/wasm32.ll|" -e "s|^module.o\$|$2|" "$made/words")
   "$clang" "${words[@]}"
 }
 
-# CRATE: which proof its code comes from, in two lines.
+# CRATE MACHINE: which proof its code comes from, in two lines.
 proof_of() {
-  printf 'kit: %s\nmodule: sha256 %s\n' "$(cat "$kit/KIT-ID")" "$(sha256sum <"$modules/$1/module.bc" | cut -d' ' -f1)"
+  local of=$2
+  if [ "$of" = wasm32 ]; then of=x86_64; fi
+  printf 'kit: %s\nmodule: sha256 %s\n' "$(cat "$kit/KIT-ID")" "$(sha256sum <"$modules/$1/$of/module.bc" | cut -d' ' -f1)"
 }

@@ -1,17 +1,14 @@
 # shellcheck shell=bash
-# Sourced, at the top of the repository, by the scripts that build and run: the kit, and what makes and runs programs for this machine, or
-# for another one, which takes Debian's cross compiler and an emulator.
+# Sourced, at the top of the repository, by the scripts that build and run: the kit, which runs on x86-64, and what makes and runs programs
+# for this machine, or for another one, which takes Debian's cross compiler and an emulator.
 export PATH="$PATH:/opt/rattle/bin:${CARGO_HOME:-${HOME:-/root}/.cargo}/bin"
 if ! command -v rt >/dev/null; then
   echo "$0 needs the Rattle kit: its command rt is neither on PATH nor in /opt/rattle/bin" >&2
   exit 1
 fi
-# rt starts so many checks at a time and waits for all of them: twice as many as processors, so that one that takes long holds up fewer, as
-# far as each has 2 GiB of memory.
-export RT_JOBS=${RT_JOBS:-$(awk -v most=$((2 * $(nproc))) '/^MemAvailable:/ { n = int($2 / 2 ^ 21); print (n > most ? most : n > 1 ? n : 1) }' /proc/meminfo)}
-kit=${RATTLE_HOME:-$(cd "$(dirname "$(readlink -f "$(command -v rt)")")/.." && pwd)}
+kit=$(cd "$(dirname "$(readlink -f "$(command -v rt)")")/.." && pwd)
+toolchain=$kit/toolchain
 machine=$(uname -m)
-toolchain=$kit/on/$machine/toolchain
 
 # MACHINE: from here on `archive` is the six operations for it, `cc` makes programs for it and `emulator` runs them: empty for this
 # machine itself. For wasm32 nothing is made, and node runs what is written in JavaScript.
@@ -22,8 +19,6 @@ aim_at() {
   wasm32) archive=target/$1/muiwash.wasm cc='' emulator=node ;;
   *)
     cc=$1-linux-gnu-gcc emulator=qemu-$1
-    # the kit has one for Rattle's own programs, where they need it
-    if [ -x "$toolchain/bin/$emulator" ]; then emulator=$toolchain/bin/$emulator; fi
     # where the emulator finds the cross compiler's libraries
     export QEMU_LD_PREFIX=/usr/$1-linux-gnu
     ;;
@@ -36,7 +31,6 @@ packages_of() {
   case $1 in
   cc) echo gcc libc6-dev ;;
   c++) echo g++ ;;
-  x86_64-linux-gnu-gcc) echo gcc-x86-64-linux-gnu libc6-dev-amd64-cross ;;
   aarch64-linux-gnu-gcc) echo gcc-aarch64-linux-gnu libc6-dev-arm64-cross ;;
   qemu-x86_64 | qemu-aarch64) echo qemu-user ;;
   node) echo nodejs ;;
@@ -78,21 +72,9 @@ tools() {
   done
 }
 
-# The folder where temporary files cost least. A check hands the prover some 5,000 small ones: in memory, where that has a GiB for each
-# check and may run programs, they take a third of the time.
-quick_folder() {
-  local free
-  free=$(df -Pk /dev/shm 2>/dev/null | awk 'END { print int($4 / 2 ^ 20) }')
-  if [ "${free:-0}" -ge "$RT_JOBS" ] && [ -w /dev/shm ] && ! grep -q '^[^ ]* /dev/shm [^ ]* [^ ]*noexec' /proc/mounts; then
-    echo /dev/shm
-  else
-    echo "${TMPDIR:-/tmp}"
-  fi
-}
-
 # FILE: whether it is there and newer than every source of the code and than what compiles it.
 is_fresh() {
-  [ -e "$1" ] && [ -z "$(find bin crates.txt crates \( -name '*.rt' -o -name crates.txt -o -name archive -o -name module.sh \) -newer "$1" -print -quit)" ]
+  [ -e "$1" ] && [ -z "$(find bin crates.txt crates -name out -prune -o \( -name '*.rt' -o -name crates.txt -o -name archive -o -name module.sh \) -newer "$1" -print -quit)" ]
 }
 
 # FILE ..: proves the operations and writes these of target/, each an archive or muiwash.wasm, but for those that are fresh.

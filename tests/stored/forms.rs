@@ -13,15 +13,15 @@ pub fn form(left: &mut Left) -> Option<Form> {
     let mut width = || next().map(|number| number as usize);
     match name {
         "number" => Some(Form::Number(width()?)),
-        "atLeast1" => Some(Form::Positive(width()?)),
+        "at_least1" => Some(Form::Positive(width()?)),
         "decimal" => Some(Form::Decimal(width()?, width()?)),
         "date" => Some(Form::Date),
         "time" => Some(Form::Time),
         "text" => Some(Form::Text(width()?)),
-        "changeType" => of_field(11, "CHANGE_TYPE"),
-        "xrefType" => of_field(12, "XREF_TYPE"),
-        "fileType" => of_field(10, "FILE_TYPE"),
-        "keyText" => Some(Form::Key(next()?.try_into().ok()?)),
+        "change_type" => of_field(11, "CHANGE_TYPE"),
+        "xref_type" => of_field(12, "XREF_TYPE"),
+        "file_type" => of_field(10, "FILE_TYPE"),
+        "key_text" => Some(Form::Key(next()?.try_into().ok()?)),
         _ => None,
     }
 }

@@ -49,7 +49,7 @@ fn case(left: &mut Left) -> Option<Case> {
     let change = left.bytes()?;
     left.pass("; room = ")?;
     let room = left.number()? as usize;
-    left.pass("; undoRoom = ")?;
+    left.pass("; undo_room = ")?;
     let undo_room = left.number()? as usize;
     Some(Case { old, change, room, undo_room })
 }
@@ -57,16 +57,16 @@ fn case(left: &mut Left) -> Option<Case> {
 pub fn case_row(case: &Case) -> String {
     let Case { old, change, room, undo_room } = case;
     let (old, change, wants) = (bytes(old), bytes(change), wants::of_case(case));
-    format!("record {{ old = {old}; change = {change}; room = {room}; undoRoom = {undo_room}; {wants} }}")
+    format!("record {{ old = {old}; change = {change}; room = {room}; undo_room = {undo_room}; {wants} }}")
 }
 
 fn enquiry(left: &mut Left) -> Option<String> {
     left.pass("(")?;
     let name = left.word();
     let (operation, slices) = match name {
-        "askFind" => (Operation::Find, 1),
-        "askForce" => (Operation::InForce, 2),
-        "askField" => (Operation::Field, 1),
+        "ask_find" => (Operation::Find, 1),
+        "ask_force" => (Operation::InForce, 2),
+        "ask_field" => (Operation::Field, 1),
         _ => return None,
     };
     let mut lent = Vec::new();

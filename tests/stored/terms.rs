@@ -17,7 +17,7 @@ impl<'a> Left<'a> {
     }
 
     pub fn word(&mut self) -> &'a str {
-        self.run(|next| next.is_ascii_alphanumeric())
+        self.run(|next| next.is_ascii_alphanumeric() || next == '_')
     }
 
     pub fn number(&mut self) -> Option<u64> {

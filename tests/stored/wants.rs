@@ -31,9 +31,9 @@ pub fn answered(case: &Case, operation: Operation) -> Answer {
 pub fn of_case(case: &Case) -> String {
     let operations = [Operation::CheckFile, Operation::CheckHolding, Operation::Load];
     let [file, held, load] = operations.map(|operation| answered(case, operation));
-    let checks = format!("fileWants = {}; heldWants = {}", list(&file.numbers), list(&held.numbers));
+    let checks = format!("file_wants = {}; held_wants = {}", list(&file.numbers), list(&held.numbers));
     let [output, undo] = [&load.out, &load.undo].map(|buffer| bytes(result(buffer)));
-    format!("{checks}; loadWants = {}; output = {output}; undoOutput = {undo}", list(&load.numbers))
+    format!("{checks}; load_wants = {}; output = {output}; undo_output = {undo}", list(&load.numbers))
 }
 
 /// A buffer without the zeros behind what was written: no line has a zero in it.
@@ -81,7 +81,7 @@ pub fn of_step(kind: &str, change: &str, usrn: u64) -> Option<Vec<u64>> {
     };
     let line = match kind {
         "street" => street(letter, 1, usrn),
-        "streetXref" => street_xref(letter, 1, usrn),
+        "street_xref" => street_xref(letter, 1, usrn),
         _ => return None,
     };
     let end = format!("29,\"a\",\"a\",\"a\",\"a\",\"a\",1,\"a\",\"a\",{DAY},\"a\",\"a\",{DAY},\"a\",\"a\"\r\n99,1,1,{DAY},000000\r\n");
