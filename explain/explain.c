@@ -12,9 +12,9 @@
 #include <string.h>
 
 #define COUNT(array) (sizeof(array) / sizeof *(array))
-enum form { FORM_number, FORM_atLeast1, FORM_decimal, FORM_date, FORM_time, FORM_text, FORM_changeType, FORM_xrefType, FORM_fileType,
-            FORM_keyText };
-enum role { ROLE_headerLine, ROLE_bodyLine, ROLE_metadataLine, ROLE_trailerLine };
+enum form { FORM_number, FORM_at_least1, FORM_decimal, FORM_date, FORM_time, FORM_text, FORM_change_type, FORM_xref_type, FORM_file_type,
+            FORM_key_text };
+enum role { ROLE_header_line, ROLE_body_line, ROLE_metadata_line, ROLE_trailer_line };
 struct field { const char *name; enum form form; int width, more, filled; };
 struct reference { const char *kind, *by; };
 struct kind {
@@ -150,17 +150,17 @@ static void print_many(int many, const char *of) { printf("%d %s%s", many, of, m
 static void print_form(const struct field *field) {
     switch (field->form) {
     case FORM_number: printf("is not a number of at most "), print_many(field->width, "digit"); break;
-    case FORM_atLeast1: printf("is not a number from 1 on of at most "), print_many(field->width, "digit"); break;
+    case FORM_at_least1: printf("is not a number from 1 on of at most "), print_many(field->width, "digit"); break;
     case FORM_decimal:
         printf("is not a number of at most "), print_many(field->width, "digit"), printf(", a point and %d more", field->more);
         break;
     case FORM_date: printf("is not a day (CCYY-MM-DD, from 1583 on)"); break;
     case FORM_time: printf("is not a time (HHMMSS)"); break;
     case FORM_text: printf("is not a text of at most "), print_many(field->width, "character"), printf(" of UTF-8 within quotes"); break;
-    case FORM_changeType: printf("is not \"I\", \"U\" or \"D\""); break;
-    case FORM_xrefType: printf("is neither 1 nor 2"); break;
-    case FORM_fileType: printf("is not a code of document 002's table 3, \"A\" to \"H\""); break;
-    case FORM_keyText: printf("is not four digits, %c and nine digits within quotes", field->width); break;
+    case FORM_change_type: printf("is not \"I\", \"U\" or \"D\""); break;
+    case FORM_xref_type: printf("is neither 1 nor 2"); break;
+    case FORM_file_type: printf("is not a code of document 002's table 3, \"A\" to \"H\""); break;
+    case FORM_key_text: printf("is not four digits, %c and nine digits within quotes", field->width); break;
     }
 }
 
@@ -174,14 +174,14 @@ static void wrong_ending(struct bytes line) {
 }
 static void out_of_place(struct bytes file, uint64_t line) {
     const struct kind *previous = kind_of(file, line - 1);
-    const char *header = identifier_of(ROLE_headerLine), *metadata = identifier_of(ROLE_metadataLine);
-    const char *trailer = identifier_of(ROLE_trailerLine);
+    const char *header = identifier_of(ROLE_header_line), *metadata = identifier_of(ROLE_metadata_line);
+    const char *trailer = identifier_of(ROLE_trailer_line);
     int behind = previous ? (int)previous->role : -1, ended = !line_of(file, line).length;
     if (line == 1) printf("the first line is not the header, %s", header);
-    else if (ended && behind != ROLE_metadataLine) printf("the file ends before its metadata, %s", metadata);
+    else if (ended && behind != ROLE_metadata_line) printf("the file ends before its metadata, %s", metadata);
     else if (ended) printf("the file ends before its trailer, %s", trailer);
-    else if (behind == ROLE_trailerLine) printf("it comes after the trailer, %s", trailer);
-    else if (behind == ROLE_metadataLine) printf("only the trailer, %s, comes after the metadata, %s", trailer, metadata);
+    else if (behind == ROLE_trailer_line) printf("it comes after the trailer, %s", trailer);
+    else if (behind == ROLE_metadata_line) printf("only the trailer, %s, comes after the metadata, %s", trailer, metadata);
     else if (!memcmp(line_of(file, line).start, header, strlen(header))) printf("a second header, %s", header);
     else printf("the trailer, %s, doesn't come straight after the metadata, %s", trailer, metadata);
 }
@@ -197,7 +197,7 @@ static void malformed(struct bytes file, uint64_t line, const struct field *fiel
     if (field->filled && (!found.length || is(found, "\"\""))) printf("it is empty, and must be filled");
     else if (!found.length) printf("it is bare, and an empty text is \"\"");
     else print(found), printf(" "), print_form(field);
-    if (kind_of(file, line)->role == ROLE_trailerLine) front = joined(front, text(sound_metadata));
+    if (kind_of(file, line)->role == ROLE_trailer_line) front = joined(front, text(sound_metadata));
     show_byte(front, line_of(file, line), number, place);
 }
 static void ends_before_start(struct bytes file, uint64_t line, const struct kind *kind, uint64_t number) {
@@ -266,7 +266,7 @@ static void unsound(struct bytes holding, uint64_t line) {
     muiwash_check_file(file.start, file.length, answer);
     snprintf(number, sizeof number, "%" PRIu64, line);
     int change_type = answer[0] == MUIWASH_MALFORMED && answer[2] == 2; /* in a file U and D could stand there too */
-    if (kind && kind->role != ROLE_bodyLine) printf(": a line of kind %s is none of a holding", kind->identifier);
+    if (kind && kind->role != ROLE_body_line) printf(": a line of kind %s is none of a holding", kind->identifier);
     else if (answer[1] == 2 && answer[0] != MUIWASH_PRO_ORDER && !change_type) sentence(nothing, file, answer);
     else if (!is(field_of(file, 2, 2), "\"I\"")) printf(", field 2 %s: a holding has \"I\" alone", kind->fields[1].name);
     else if (!is(field_of(file, 2, 3), number)) {

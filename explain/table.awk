@@ -4,7 +4,7 @@
 # The rows in a line: man or may, a name, and a form alone or with one or two numbers in parentheses.
 function rows(line,    made, row, words, n) {
   made = ""
-  while (match(line, /ma[ny] "[A-Z_]+" (\([A-Za-z0-9]+( [0-9]+)*\)|[A-Za-z]+)/)) {
+  while (match(line, /ma[ny] "[A-Z_]+" (\([a-z0-9_]+( [0-9]+)*\)|[a-z_]+)/)) {
     row = substr(line, RSTART, RLENGTH)
     line = substr(line, RSTART + RLENGTH)
     gsub(/[()"]/, "", row)
@@ -25,7 +25,7 @@ function names(line,    made) {
 # What a kind refers to: the other's identifier and the field that names it.
 function references(line,    made, part) {
   made = ""
-  while (match(line, /\([a-zA-Z]+, "[A-Z_]+"/)) {
+  while (match(line, /\([a-z_]+, "[A-Z_]+"/)) {
     part = substr(line, RSTART + 1, RLENGTH - 1)
     line = substr(line, RSTART + RLENGTH)
     made = made "{\"" ident[substr(part, 1, index(part, ",") - 1)] "\", " names(part) "}, "
@@ -39,12 +39,12 @@ function fail(why) {
 }
 
 /^opening = / { opening = rows($0) }
-/^startDate = / { start = $3 }
-/^ident [a-zA-Z]+ = bytes / { ident[$2] = $5; gsub(/"/, "", ident[$2]); kinds[++count] = $2 }
-/^role [a-zA-Z]+ = / { role[$2] = $4 }
-/^keyNames [a-zA-Z]+ = / { keys[$2] = names($0) }
-/^refersTo [a-zA-Z]+ = / { refers[$2] = references($0) }
-/^fields [a-zA-Z]+ =$/ { kind = $2; next }
+/^start_date = / { start = $3 }
+/^ident [a-z_]+ = bytes / { ident[$2] = $5; gsub(/"/, "", ident[$2]); kinds[++count] = $2 }
+/^role [a-z_]+ = / { role[$2] = $4 }
+/^key_names [a-z_]+ = / { keys[$2] = names($0) }
+/^refers_to [a-z_]+ = / { refers[$2] = references($0) }
+/^fields [a-z_]+ =$/ { kind = $2; next }
 /^[^ ]/ || /^$/ { kind = "" }
 kind != "" && /^ +opening$/ { fields[kind] = opening; next }
 kind != "" && !/^ +∷ \[\]\)?$/ {
