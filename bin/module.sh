@@ -21,11 +21,17 @@ sources() {
   { cat "$kit/KIT-ID" crates.txt && find crates -name out -prune -o -type f -print0 | sort -z | xargs -0 sha256sum; } | sha256sum | cut -d' ' -f1
 }
 
-# CRATE: proves it and the crates below it, whose libraries stand in their folders out/ then. The gate, which has just done so for all of
-# them, hands down in MUIWASH_PROVED of which sources.
+# FILE: whether it was built of the sources as they stand: what built it left their sum beside it.
+of_sources() { [ -e "$1" ] && [ "$(cat "$1.sources" 2>/dev/null)" = "$(sources)" ]; }
+
+# Whether the libraries in the crates' folders out/ are those that the gate's rt ci has just proved: the gate hands down of which sources in
+# MUIWASH_PROVED. What rt check builds there has a file `stamp`.
+of_gate() { [ -n "${MUIWASH_PROVED:-}" ] && ! compgen -G 'crates/*/out/rlib/stamp' >/dev/null && [ "$MUIWASH_PROVED" = "$(sources)" ]; }
+
+# CRATE: proves it and the crates below it, whose libraries stand in their folders out/ then.
 proved=
 prove() {
-  if [ "$proved" = "$1" ] || { [ -n "${MUIWASH_PROVED:-}" ] && [ "$MUIWASH_PROVED" = "$(sources)" ]; }; then return; fi
+  if [ "$proved" = "$1" ] || of_gate; then return; fi
   (cd "crates/$1" && rt check) && proved=$1
 }
 
@@ -45,16 +51,14 @@ KEEPS
   chmod +x "$1/bin/clang"
 }
 
-# CRATE MACHINE: has rattle prove the crate for that machine, x86_64 or aarch64, and compile it, over the libraries below it as they stand
-# in their folders out/: a library for C to made.a, a program to made.o, in $modules/CRATE/MACHINE, with the module and clang's words.
+# CRATE MACHINE TOOLCHAIN FILE: has rattle prove the crate for that machine, x86_64 or aarch64, over the libraries below it as they stand in
+# their folders out/, and compile it by that toolchain: a library for C to FILE.a, a program to FILE.o.
 compile_crate() {
-  local into=$modules/$1/$2 name folder words=(--crate-name "$1")
-  mkdir -p "$into"
-  keeping_toolchain "$into/toolchain"
+  local name folder words=(--crate-name "$1")
   if [ -e "crates/$1/src/main.rt" ]; then
-    words+=(src/main.rt -o "$into/made.o")
+    words+=(src/main.rt -o "$4.o")
   else
-    words+=(src/lib.rt --crate-type staticlib -o "$into/made.a")
+    words+=(src/lib.rt --crate-type staticlib -o "$4.a")
   fi
   words+=(--extern "std=$kit/rlibs/std.rlib" -L "dependency=$kit/rlibs")
   # what crates.txt has behind its name
@@ -65,17 +69,30 @@ compile_crate() {
   done
   for folder in "$PWD"/crates/*/out/rlib; do words+=(-L "dependency=$folder"); done
   words+=(--antt-project "$kit/rattle/logic/antt-project.json" --logic-built "$kit/logic_built" --incremental out/incremental --jobs 2)
-  words+=(--links "$1=" --target "$(triple_of "$2")" --toolchain "$into/toolchain" --backend llvm)
+  words+=(--links "$1=" --target "$(triple_of "$2")" --toolchain "$3" --backend llvm)
   (cd "crates/$1" && rattle build "${words[@]}")
 }
 
-# CRATE MACHINE: proves the crate, a library for C or a program, and compiles it as compile_crate says.
+# CRATE MACHINE [named]: proves the crate and compiles it, to made.a or made.o in $modules/CRATE/MACHINE, and keeps the module and clang's
+# words beside it; with `named` it names each crate whose proof begins.
 keep_module() {
-  local log=$modules/$1/$2.log
-  rm -rf "${modules:?}/$1/$2"
-  mkdir -p "$modules/$1"
-  { prove "$1" && compile_crate "$1" "$2"; } >"$log" 2>&1 && return
-  cat "$log" >&2
+  local into=$modules/$1/$2 shown='' done=''
+  rm -rf "$into"
+  mkdir -p "$into"
+  keeping_toolchain "$into/toolchain"
+  if [ "${3:-}" = named ]; then shown='s/^rt: chose .* for \([a-z_]*\)$/proving \1/p'; fi
+  { prove "$1" && compile_crate "$1" "$2" "$into/toolchain" "$into/made"; } > >(tee "$into/log" | sed -un "$shown" >&2) 2>&1 && done=1
+  wait $!
+  if [ -n "$done" ]; then return; fi
+  cat "$into/log" >&2
+  exit 1
+}
+
+# PROGRAM FILE: links what keep_module made of a program for x86-64, as rt does.
+link_program() {
+  "$kit/bin/rattle-link" --target "$(triple_of x86_64)" --toolchain "$toolchain" -o "$2" "$modules/$1/x86_64/made.o" \
+    "$kit"/c/lib{os,libc}_c.a 2>"$modules/$1/link.log" && return
+  cat "$modules/$1/link.log" >&2
   exit 1
 }
 
