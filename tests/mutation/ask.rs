@@ -1,10 +1,9 @@
-//! A copy of a crate in a repository of its own under target/, where the prover is asked; the crate itself is never changed.
+//! A copy of a crate in a repository of its own outside this one, where the prover is asked; the crate itself is never changed.
 use crate::mutants::Mutant;
 use std::cell::RefCell;
 use std::collections::HashSet;
 use std::fs;
 use std::io::Write;
-use std::os::unix::fs::symlink;
 use std::path::{Path, PathBuf};
 use std::process::Command;
 
@@ -34,11 +33,13 @@ impl Verdict {
 /// What the prover says where a proof's text no longer fits the code, so that no fact was tested.
 const SHAPE: [&str; 4] = ["that can be named from here", "binders, but its type has room", "has no field", "is expected here"];
 
-fn is_shape(error: &str) -> bool {
-    SHAPE.iter().any(|s| error.contains(s))
+/// Whether there are errors, and each says that.
+fn is_shape<'a>(mut errors: impl Iterator<Item = &'a str>) -> bool {
+    let shape = |error: &str| SHAPE.iter().any(|s| error.contains(s));
+    errors.next().is_some_and(shape) && errors.all(shape)
 }
 
-/// What is said of one function, if its own proof was tested: not where it calls one that isn't proved.
+/// What is said of one function, if its own proof was tested: not where all that it lacks is a function that it calls.
 fn verdict_of(function: &str, said: &str) -> Option<Verdict> {
     let Some(line) = said.lines().find_map(|l| l.strip_prefix(&format!("fn {function}: "))) else {
         return Some(Verdict::NoVerdict);
@@ -46,30 +47,30 @@ fn verdict_of(function: &str, said: &str) -> Option<Verdict> {
     if line == "proved" {
         return Some(Verdict::Survived);
     }
-    if line.contains("; it calls ") {
+    if line.contains("it calls ") && !line.contains("did not prove") {
         return None;
     }
     let folder = function.split_once("::").unwrap().1.replace("::", "/");
-    let proof = format!("/proofs/{folder}/Proof.antt:");
-    let first = said.lines().find(|l| l.contains(&proof) && l.contains(": error"));
-    Some(if first.is_some_and(is_shape) { Verdict::Shape } else { Verdict::Refused })
+    let proofs = ["Answers", "Invariants", "Proof"].map(|file| format!("/proofs/{folder}/{file}.antt:"));
+    let own = |l: &&str| l.contains(": error") && proofs.iter().any(|proof| l.contains(proof));
+    Some(if is_shape(said.lines().filter(own)) { Verdict::Shape } else { Verdict::Refused })
 }
 
 /// What is said of the whole crate.
 fn verdict(said: &str) -> Verdict {
-    let first = said.lines().find(|l| l.contains(": error"));
+    let errors = || said.lines().filter(|l| l.contains(": error"));
     match () {
         _ if said.contains("\nlogic=proved ") => Verdict::Survived,
-        _ if said.contains("\nlogic=not-proved") && first.is_some_and(is_shape) => Verdict::Shape,
+        _ if said.contains("\nlogic=not-proved") && is_shape(errors()) => Verdict::Shape,
         _ if said.contains("\nlogic=not-proved") => Verdict::Refused,
-        _ if first.is_some_and(|l| l.contains(": error[")) => Verdict::NotCompiled,
+        _ if errors().next().is_some_and(|l| l.contains(": error[")) => Verdict::NotCompiled,
         _ => Verdict::NoVerdict,
     }
 }
 
 /// Whether the front end rejects something within the mutant's function.
 fn is_rejected(mutant: &Mutant, said: &str) -> bool {
-    let source = format!("/src/{}:", mutant.file);
+    let source = format!("src/{}:", mutant.file);
     let errors = said.lines().filter(|l| l.contains(": error["));
     let mut places = errors.filter_map(|l| l.split_once(&source)?.1.split(':').next()?.parse::<usize>().ok());
     places.any(|line| mutant.lines.0 <= line && line <= mutant.lines.1)
@@ -84,46 +85,39 @@ pub struct Copy {
 
 /// The calls that are named where a function isn't proved for the sake of those that it calls.
 fn calls_said(said: &str) -> impl Iterator<Item = (String, String)> + '_ {
-    let told = said.lines().filter_map(|l| l.strip_prefix("fn ")?.split_once(": not proved; it calls "));
+    let told = said.lines().filter_map(|l| {
+        let (caller, why) = l.strip_prefix("fn ")?.split_once(": ")?;
+        Some((caller, why.split_once("it calls ")?.1))
+    });
     told.flat_map(|(caller, called)| called.split('`').skip(1).step_by(2).map(|f| (caller.to_string(), f.to_string())))
 }
 
-fn copy_folder(from: &Path, to: &Path) {
-    let done = Command::new("cp").arg("-r").arg(from).arg(to).status();
-    assert!(done.is_ok_and(|s| s.success()), "cp -r {} failed", from.display());
+/// Copies a folder into another, its files by links where that can be.
+fn copy_folder(from: &Path, to: &Path, linked: bool) {
+    let copied = |flags| Command::new("cp").args([flags]).arg(from).arg(to).output().is_ok_and(|o| o.status.success());
+    assert!(linked && copied("-rl") || copied("-r"), "cp -r {} failed", from.display());
 }
 
 impl Copy {
-    /// What the crate leans on is linked, with what was proved of it.
+    /// The crate is proved as it stands first; what it leans on is linked, with what was proved of it.
     pub fn of(name: &str) -> Copy {
-        let here = std::env::current_dir().unwrap();
-        let root = here.join("target/mutants");
+        let crates = std::env::current_dir().unwrap().join("crates");
+        let proved = Command::new("rt").arg("check").current_dir(crates.join(name)).output().unwrap();
+        assert!(proved.status.success(), "{name} isn't proved as it stands");
+        let root = std::env::temp_dir().join(format!("muiwash-mutants-{}", std::process::id()));
         let _ = fs::remove_dir_all(&root);
         fs::create_dir_all(root.join("crates")).unwrap();
-        fs::create_dir_all(root.join("target/inc")).unwrap();
         fs::copy("crates.txt", root.join("crates.txt")).unwrap();
-        for shared in ["rlib", "stamp"] {
-            fs::create_dir_all(here.join("target").join(shared)).unwrap();
-            symlink(here.join("target").join(shared), root.join("target").join(shared)).unwrap();
+        for folder in fs::read_dir(&crates).unwrap() {
+            let folder = folder.unwrap();
+            copy_folder(&folder.path(), &root.join("crates"), folder.file_name() != name);
         }
-        for folder in fs::read_dir("crates").unwrap() {
-            let other = folder.unwrap().file_name();
-            if other != name {
-                symlink(here.join("crates").join(&other), root.join("crates").join(&other)).unwrap();
-            }
-        }
-        copy_folder(&here.join("crates").join(name), &root.join("crates"));
-        let checked = here.join("target/inc").join(name);
-        if checked.exists() {
-            copy_folder(&checked, &root.join("target/inc"));
-        }
-        let copy = Copy { name: name.to_string(), root, calls: RefCell::default() };
-        assert!(verdict(&copy.checked()) == Verdict::Survived, "{name} isn't proved as it stands");
-        copy
+        Copy { name: name.to_string(), root, calls: RefCell::default() }
     }
 
     fn checked(&self) -> String {
-        let asked = Command::new("timeout").args(["300", "rt", "dev", &self.name]).current_dir(&self.root).output().unwrap();
+        let folder = self.root.join("crates").join(&self.name);
+        let asked = Command::new("timeout").args(["300", "rt", "check"]).current_dir(folder).output().unwrap();
         let said = [asked.stdout, asked.stderr].map(|s| String::from_utf8_lossy(&s).into_owned()).join("\n");
         format!("\n{said}")
     }
@@ -161,10 +155,15 @@ impl Copy {
 
     /// What was said is kept.
     fn note(&self, mutants: &[&Mutant], said: &str) {
-        let path = self.root.with_file_name("mutants.log");
-        let mut log = fs::OpenOptions::new().create(true).append(true).open(path).unwrap();
+        let mut log = fs::OpenOptions::new().create(true).append(true).open("target/mutants.log").unwrap();
         mutants.iter().for_each(|m| writeln!(log, "asked {}", m.shown()).unwrap());
         let told = said.lines().filter(|l| l.contains(": error") || (l.starts_with("fn ") && !l.ends_with(": proved")));
         told.for_each(|l| writeln!(log, "    {l}").unwrap());
+    }
+}
+
+impl Drop for Copy {
+    fn drop(&mut self) {
+        let _ = fs::remove_dir_all(&self.root);
     }
 }
