@@ -76,16 +76,20 @@ compile_crate() {
 # CRATE MACHINE [named]: proves the crate and compiles it, to made.a or made.o in $modules/CRATE/MACHINE, and keeps the module and clang's
 # words beside it; with `named` it names each crate whose proof begins.
 keep_module() {
-  local into=$modules/$1/$2 shown='' done=''
+  local into=$modules/$1/$2 shown=''
   rm -rf "$into"
   mkdir -p "$into"
   keeping_toolchain "$into/toolchain"
   if [ "${3:-}" = named ]; then shown='s/^rt: chose .* for \([a-z_]*\)$/proving \1/p'; fi
-  { prove "$1" && compile_crate "$1" "$2" "$into/toolchain" "$into/made"; } > >(tee "$into/log" | sed -un "$shown" >&2) 2>&1 && done=1
+  until { prove "$1" && compile_crate "$1" "$2" "$into/toolchain" "$into/made"; } > >(tee "$into/log" | sed -un "$shown" >&2) 2>&1; do
+    wait $!
+    # where the gate left a library out, rt check proves it
+    if of_gate; then MUIWASH_PROVED=''; else
+      cat "$into/log" >&2
+      exit 1
+    fi
+  done
   wait $!
-  if [ -n "$done" ]; then return; fi
-  cat "$into/log" >&2
-  exit 1
 }
 
 # PROGRAM FILE: links what keep_module made of a program for x86-64, as rt does.
