@@ -15,8 +15,8 @@ import sys
 
 WORD = re.compile(r'[^\s(){}.;,@"«»\[\]|`]+')
 OWN = set(sorted(os.listdir("crates")))
-# A fact, which is spelled as a type; and names that would fall together with another.
-BY_HAND = {"short": "IsShort"}
+# A fact, which is spelled as a type, with the module that declares it: it turns there and where it is imported from.
+BY_HAND = {"short": ("IsShort", "Rattle.judge.specs.Ready", "./crates/judge/specs/Ready.antt")}
 QUIET = re.compile(r'"(?:[^"\\\n]|\\.)*"')
 USE = re.compile(r"^(?:pub )?use ([^\s;{]+?)(?:\.\{([^}]*)\})?(?: as (\S+))?$", re.M)
 DATA = re.compile(r"^( *)(?:pub )?data [^\n]*where\n((?:\1 +[^\n]*\n|\s*\n)*)", re.M)
@@ -39,7 +39,7 @@ def read(path):
 
 def turned(name):
     if name in BY_HAND:
-        return BY_HAND[name]
+        return BY_HAND[name][0]
     if not re.match(r"[a-z]", name):
         return name
     words = re.sub(r"(?<=[a-z0-9])[A-Z]", lambda m: "_" + m[0].lower(), name)
@@ -118,7 +118,7 @@ def table():
 
 def antt(path, rows, kit):
     text = read(path)
-    stay = {n for n, where in kit.items() if path in where}
+    stay = {n for n, where in kit.items() if path in where} | elsewhere(path, text)
     lines = []
     for line in text.split("\n"):
         code, dash, said = line, "", ""
@@ -176,13 +176,18 @@ def rt(path, rows, kit):
         if a < at:
             continue
         out.append(text[at:a])
-        out.append(words_in(text[a:b], rows, set(), True))
+        out.append(words_in(text[a:b], rows, elsewhere(path, text), True))
         at = b
     return "".join(out) + text[at:]
 
 
+def elsewhere(path, text):
+    """The names of BY_HAND that are other names in this file."""
+    return {n for n, (_, module, declares) in BY_HAND.items() if path != declares and not re.search(rf"{module}\.\{{[^}}]*\b{n}\b", text)}
+
+
 def page(path, rows, kit):
-    return re.sub(r"`[^`\n]*`", lambda s: words_in(s[0], rows, set(), True), read(path))
+    return re.sub(r"`[^`\n]*`", lambda s: words_in(s[0], rows, set(BY_HAND), True), read(path))
 
 
 def main(argv):

@@ -10,7 +10,7 @@ use Rattle.meaning.specs.Load.{check_file, check_holding, load_file}
 use Rattle.meaning.specs.Enquiries.{find, in_force}
 use Rattle.meaning.specs.Program.{program}
 use Rattle.laws.specs.Ascii.{ascii}
-use Rattle.laws.proofs.AsBefore.{file_as_before, holding_as_before, load_as_before, find_as_before, in_force_as_before, print_as_before}
+use Rattle.laws.specs.AsBefore.{file_as_before, holding_as_before, load_as_before, find_as_before, in_force_as_before, print_as_before}
 use Rattle.answers.specs.Meant.{answer_of, verdict_of}
 use Rattle.answers.specs.declared.numbers.Answer.{Answer}
 use Rattle.answers.specs.declared.numbers.Verdict.{Verdict}

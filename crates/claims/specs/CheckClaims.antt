@@ -17,16 +17,14 @@ use Rattle.laws.specs.Rows.{given, check_rows, holding_rows}
 use Rattle.laws.proofs.Rows.{pointed_none}
 use Rattle.laws.specs.Checks.{SomeFile, SomeHolding}
 use Rattle.laws.proofs.Checks.{file_checked, checked_file, holding_checked, checked_holding}
-use Rattle.laws.proofs.StepFails.{no_true}
+use Rattle.laws.specs.StepFails.{no_true}
 use Rattle.laws.specs.WhyLoad.{Located, Unsound}
 use Rattle.laws.proofs.WhyLoad.{check_14}
-use Rattle.laws.specs.WhyFile.{line_at, FileFails}
-use Rattle.laws.proofs.WhyFile.{check_why, why_check, five_field, six_field, eight_line, nine_line}
+use Rattle.laws.specs.WhyFile.{line_at, FileFails, check_why, why_check, five_field, six_field, eight_line, nine_line}
 use Rattle.laws.specs.WhyField.{field_bytes}
 use Rattle.laws.specs.Placed.{Placed}
 use Rattle.laws.specs.Scottish.{scottish_regular}
-use Rattle.laws.specs.ScottishPlaces.{row_at}
-use Rattle.laws.proofs.ScottishPlaces.{scottish_placed, scottish_only}
+use Rattle.laws.specs.ScottishPlaces.{row_at, scottish_placed, scottish_only}
 use Rattle.answers.specs.Meant.{answer_of}
 use Rattle.answers.specs.declared.numbers.Answer.{Answer}
 use Rattle.answers.specs.Meant.{verdict_of}

@@ -16,8 +16,7 @@ use Rattle.laws.specs.Rows.{Row, given, pointed, check_rows, holding_rows, load_
 use Rattle.laws.proofs.Rows.{check_given, holding_given, load_given, find_given, force_given, field_given, check_pointed, load_pointed}
 use Rattle.laws.specs.PlaceLaws.{place_most}
 use Rattle.laws.proofs.Checks.{refused_counts}
-use Rattle.laws.specs.WhyFile.{FileFails}
-use Rattle.laws.proofs.WhyFile.{check_why, five_field}
+use Rattle.laws.specs.WhyFile.{FileFails, check_why, five_field}
 use Rattle.laws.specs.WhyLoad.{Reason}
 use Rattle.laws.proofs.WhyLoad.{reason_five, load_why}
 use Rattle.laws.specs.WhyField.{field_bytes}

@@ -23,7 +23,7 @@ use Rattle.laws.proofs.Takes.{Takes, taken, undo_takes, met_old}
 use Rattle.laws.specs.Demand2.{Allowed, after_all, UndoFits}
 use Rattle.laws.proofs.Demand2.{allowed_takes, takes_more}
 use Rattle.laws.proofs.Demand3.{steps_back, undo_is_lem, undo_sound, undo_checks, empty_body}
-use Rattle.laws.specs.Room as rooms
+use Rattle.laws.proofs.Room as rooms
 use Rattle.laws.proofs.RoomRefusals.{room_refusals}
 use Rattle.laws.specs.Scottish.{scottish_regular}
 use Rattle.answers.specs.Meant.{answer_of, counts_of}

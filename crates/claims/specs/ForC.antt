@@ -4,8 +4,7 @@ use Rattle.meaning.specs.Table.{scottish}
 use Rattle.meaning.specs.Answers.{number_list}
 use Rattle.meaning.specs.Load.{check_file, check_holding, load_file}
 use Rattle.meaning.specs.Enquiries.{Found, find, in_force, field_of}
-use Rattle.laws.specs.WhyField.{FieldAnswers}
-use Rattle.laws.proofs.WhyField.{field_answers}
+use Rattle.laws.specs.WhyField.{FieldAnswers, field_answers}
 use Rattle.laws.specs.WhyFind.{FindAnswers}
 use Rattle.laws.proofs.WhyFind.{find_answers}
 use Rattle.laws.specs.WhyForce.{ForceAnswers}

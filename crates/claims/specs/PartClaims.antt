@@ -8,8 +8,7 @@ use Rattle.meaning.specs.Enquiries.{Found, find, in_force, field_of}
 use Rattle.laws.specs.HoldingReadBack.{insert_of}
 use Rattle.laws.specs.Rows.{find_rows, force_rows, field_rows}
 use Rattle.laws.specs.Find.{FoundIt}
-use Rattle.laws.specs.WhyField.{Answers, HasField, field_bytes, FieldAnswers, given, no_field}
-use Rattle.laws.proofs.WhyField.{field_answers}
+use Rattle.laws.specs.WhyField.{Answers, HasField, field_bytes, FieldAnswers, given, no_field, field_answers}
 use Rattle.laws.specs.WhyFind.{FindAnswers}
 use Rattle.laws.proofs.WhyFind.{find_answers}
 use Rattle.laws.specs.WhyForce.{ForceAnswers}

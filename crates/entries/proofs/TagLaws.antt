@@ -17,7 +17,7 @@ use lib.ListN.{get_or}
 use Rattle.base.specs.Lists.{pick}
 use Rattle.theory.specs.Tri.{Tri, lt, eq, gt, flip, is_eq, is_gt}
 use Rattle.theory.specs.Lex.{cmp_n, Is, and_then, lex}
-use Rattle.theory.proofs.LexLaws.{cmp_n_is, lex_order}
+use Rattle.theory.specs.LexLaws.{cmp_n_is, lex_order}
 use Rattle.meaning.specs.Kinds.{Kind}
 use Rattle.meaning.specs.Records.{Rec}
 use Rattle.layout.specs.Rows.{laid_out}

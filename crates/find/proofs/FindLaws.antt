@@ -16,7 +16,7 @@ use Rattle.base.specs.Tests.{T_true}
 use Rattle.base.specs.ListLaws.{same_eq, same_refl}
 use Rattle.theory.specs.Tri.{Tri, lt, eq, gt, is_eq}
 use Rattle.theory.specs.Lex.{lex}
-use Rattle.theory.proofs.LexLaws.{lex_order}
+use Rattle.theory.specs.LexLaws.{lex_order}
 use Rattle.theory.specs.Decimal.{value, value_f}
 use Rattle.theory.specs.Store.{get, gets, Low, Asc}
 use Rattle.theory.proofs.StoreLaws.{low_down}

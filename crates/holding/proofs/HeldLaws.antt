@@ -11,7 +11,7 @@ use borrow.Author.Tests.{not-true, not-false}
 use lib.ListN.{length, get_or, take, drop}
 use Rattle.base.specs.Lists.{pick, ask, same, keep_if, bytes}
 use Rattle.theory.specs.Decimal.{dec, width}
-use Rattle.theory.proofs.DecimalLaws.{length_dec}
+use Rattle.theory.specs.DecimalLaws.{length_dec}
 use Rattle.theory.specs.Step.{ins}
 use Rattle.meaning.specs.Lines.{Line, ends_well, fields_of, identifier, has_fields}
 use Rattle.meaning.specs.Kinds.{Kind, role}

@@ -18,7 +18,7 @@ use Rattle.base.specs.Tests.{and_r, some≢none}
 use Rattle.base.specs.ListLaws.{all_snoc}
 use Rattle.theory.specs.Tri.{lt, is_lt}
 use Rattle.theory.specs.Lex.{and_then, lex}
-use Rattle.theory.proofs.LexLaws.{is_cmp_n}
+use Rattle.theory.specs.LexLaws.{is_cmp_n}
 use Rattle.theory.specs.Decimal.{value, value_f}
 use Rattle.meaning.specs.Lines.{Line, lines_of, fields_of, plain}
 use Rattle.meaning.specs.Kinds.{Kind, kinds, ident}

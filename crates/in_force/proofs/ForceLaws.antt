@@ -13,7 +13,7 @@ use Rattle.base.specs.Lists.{pick, all, same, some?}
 use Rattle.base.specs.Tests.{and_l, and_r}
 use Rattle.theory.specs.Tri.{Tri, lt, eq, gt, is_eq}
 use Rattle.theory.specs.Lex.{lex}
-use Rattle.theory.proofs.LexLaws.{lex_order}
+use Rattle.theory.specs.LexLaws.{lex_order}
 use Rattle.theory.specs.Decimal.{value}
 use Rattle.theory.specs.Step.{Op, ins, upd, del, Change}
 use Rattle.theory.specs.Answer.{fault, file}

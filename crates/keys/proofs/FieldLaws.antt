@@ -12,7 +12,7 @@ use Rattle.base.specs.Tests.{and_l, and_r, ok_ask}
 use Rattle.base.specs.ListLaws.{same_eq, all_append}
 use Rattle.theory.specs.Tri.{eq}
 use Rattle.theory.specs.Lex.{cmp_n, and_then, lex}
-use Rattle.theory.proofs.LexLaws.{is_cmp_n}
+use Rattle.theory.specs.LexLaws.{is_cmp_n}
 use Rattle.theory.specs.Decimal.{value}
 use Rattle.meaning.specs.Lines.{fields_of, odd_quotes, has_fields, plain}
 use Rattle.meaning.specs.Forms.{Form, number, at_least1, decimal, date, time, text, change_type, xref_type, file_type, key_text, is_digit, is_number, is_digits, inside, is_text, one_of, is_key, has_form, is_textual, is_empty, sound_as, value_of}

@@ -11,7 +11,7 @@ use Rattle.base.specs.Lists.{pick, all, bytes}
 use Rattle.base.specs.Tests.{and_l, and_r, T_true}
 use Rattle.theory.specs.Tri.{Tri, lt, eq, gt}
 use Rattle.theory.specs.Lex.{cmp_n, Is, and_then, lex}
-use Rattle.theory.proofs.LexLaws.{cmp_n_is, lex_order}
+use Rattle.theory.specs.LexLaws.{cmp_n_is, lex_order}
 use Rattle.theory.specs.Decimal.{value, value_f}
 use Rattle.theory.specs.Store.{cons?, put, get, Asc}
 use Rattle.theory.specs.Rank.{rank}

@@ -15,7 +15,7 @@ use Rattle.base.specs.Lists.{pick, all, zeros}
 use Rattle.base.specs.Tests.{and_l, and_r}
 use Rattle.theory.specs.Tri.{Tri, lt, eq, gt}
 use Rattle.theory.specs.Lex.{cmp_n, and_then, lex, Is}
-use Rattle.theory.proofs.LexLaws.{is_cmp_n, cmp_n_is}
+use Rattle.theory.specs.LexLaws.{is_cmp_n, cmp_n_is}
 use Rattle.theory.specs.Decimal.{value}
 use Rattle.meaning.specs.Lines.{fields_of}
 use Rattle.meaning.specs.Forms.{is_empty}

@@ -5,7 +5,7 @@ use Rattle.base.specs.Lists.{all, zeros}
 use Rattle.base.specs.Tests.{and_l, and_r}
 use Rattle.theory.specs.Tri.{Tri, lt, eq, gt}
 use Rattle.theory.specs.Lex.{cmp_n, Is, and_then, lex}
-use Rattle.theory.proofs.LexLaws.{cmp_n_is, is_cmp_n, lex_order}
+use Rattle.theory.specs.LexLaws.{cmp_n_is, is_cmp_n, lex_order}
 use Rattle.theory.specs.Decimal.{value, value_f}
 use Rattle.meaning.specs.Forms.{is_digit}
 use Rattle.laws.specs.Digits.{digit_low, digit_high}

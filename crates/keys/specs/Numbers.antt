@@ -5,7 +5,7 @@ use Prim.Native.String.{String}
 use Rattle.base.specs.Lists.{pick, part}
 use Rattle.theory.specs.Decimal.{value}
 use Rattle.theory.specs.Lex.{lex}
-use Rattle.theory.proofs.LexLaws.{lex_order}
+use Rattle.theory.specs.LexLaws.{lex_order}
 use Rattle.theory.specs.Keyed.{Keyed}
 use Rattle.meaning.specs.Lines.{fields_of}
 use Rattle.meaning.specs.Forms.{Form, is_textual}

@@ -12,7 +12,7 @@ use Rattle.base.specs.Tests.{and_in, and_l, and_r, bools}
 use Rattle.theory.specs.Step.{Change}
 use Rattle.theory.specs.Answer.{file}
 use Rattle.theory.specs.ReadBack.{Files}
-use Rattle.theory.proofs.DecimalLaws.{value_dec}
+use Rattle.theory.specs.DecimalLaws.{value_dec}
 use Rattle.meaning.specs.Lines.{plain}
 use Rattle.meaning.specs.Kinds.{Kind, Role, header_line, metadata_line, trailer_line, role}
 use Rattle.meaning.specs.Format.{Format, named}

@@ -13,7 +13,7 @@ use Rattle.theory.specs.Store.{get}
 use Rattle.theory.specs.Refs.{apart}
 use Rattle.theory.specs.Step.{Op, Change, new}
 use Rattle.theory.specs.Run.{last}
-use Rattle.theory.proofs.LexLaws.{lex_order}
+use Rattle.theory.specs.LexLaws.{lex_order}
 use Rattle.theory.proofs.RefsLaws.{by_key_lem, apart_ne}
 use Rattle.meaning.specs.Format.{Format}
 use Rattle.meaning.specs.Records.{Rec, keyed, key_of}

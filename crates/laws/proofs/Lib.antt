@@ -7,16 +7,9 @@ pub mod Demand2
 pub mod Demand3
 pub mod Room
 pub mod RoomRefusals
-pub mod StepFails
 pub mod WhyLoad
 pub mod WhyPrint
-pub mod LineFails
-pub mod WhyFile
 pub mod InForce
-pub mod WhyField
 pub mod WhyFind
 pub mod WhyForce
 pub mod Rows
-pub mod ScottishPlaces
-pub mod AsciiLaws
-pub mod AsBefore

@@ -12,7 +12,7 @@ use Rattle.base.specs.ListLaws.{same_eq}
 use Rattle.base.specs.Lists.{all, pick, same, bytes}
 use Rattle.base.specs.Tests.{and_in, and_l, and_r, or_out}
 use Rattle.theory.specs.Decimal.{dec, width, value}
-use Rattle.theory.proofs.DecimalLaws.{length_dec, width_below}
+use Rattle.theory.specs.DecimalLaws.{length_dec, width_below}
 use Rattle.theory.specs.Fold.{sum}
 use Rattle.theory.specs.Step.{Op, ins, upd, del, Change, after, back}
 use Rattle.theory.specs.Trail.{final, Through, undo}

@@ -38,13 +38,11 @@ use Rattle.laws.specs.FirstFault.{FaultAt}
 use Rattle.laws.proofs.FirstFault.{file_fault_at}
 use Rattle.laws.specs.HoldingRefusals.{HeldAt, holding_fault_at}
 use Rattle.laws.specs.LoadRefusals.{step_codes, OutIn, run_in}
-use Rattle.laws.proofs.StepFails.{no_true}
-use Rattle.laws.specs.LineFails.{LineFails, ending, unknown, misplaced, too_many, miscounted, malformed, misdated, misnumbered, mistold}
-use Rattle.laws.proofs.LineFails.{lowest_within}
+use Rattle.laws.specs.StepFails.{no_true}
+use Rattle.laws.specs.LineFails.{LineFails, ending, unknown, misplaced, too_many, miscounted, malformed, misdated, misnumbered, mistold, lowest_within}
 use Rattle.laws.specs.WhyLoad.{Reason, bad_holding, bad_file, no_start, bad_step, TriedSays}
 use Rattle.laws.proofs.WhyLoad.{tried_says, step_code_lem}
-use Rattle.laws.specs.WhyFile.{fault_at, at_its_end, ReadFails}
-use Rattle.laws.proofs.WhyFile.{read_fails}
+use Rattle.laws.specs.WhyFile.{fault_at, at_its_end, ReadFails, read_fails}
 use Rattle.laws.specs.Rows.{Row, fitting, given, nought, within, rows, FoundIn, pointed, field_rows, held_rows, holding_rows, step_rows, find_rows, file_rows, check_rows, tried_rows, load_rows, force_rows}
 
 -- ---- rows after rows

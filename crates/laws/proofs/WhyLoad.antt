@@ -32,8 +32,7 @@ use Rattle.laws.proofs.Takes.{taken_long}
 use Rattle.laws.proofs.Checks.{held_only}
 use Rattle.laws.specs.Demand2.{StepLawful, StepsAllowed, Allowed, UndoFits, Lawful, Roomy}
 use Rattle.laws.proofs.Demand2.{through_first, allowed_takes, code_allowed, done_allowed, taken_exactly}
-use Rattle.laws.specs.StepFails.{FailsWith, at_key, too_many, unmet, no_room, RunSays}
-use Rattle.laws.proofs.StepFails.{no_true, false_no, run_says, refused_stops}
+use Rattle.laws.specs.StepFails.{FailsWith, at_key, too_many, unmet, no_room, RunSays, no_true, false_no, run_says, refused_stops}
 use Rattle.meaning.specs.Codes.{field_malformed, holding_too_long, holding_unsound, undo_too_long, all_done}
 use Rattle.laws.specs.WhyLoad.{Located, Unsound, Faulty, BothSound, Reason, TriedSays, bad_file, bad_holding, bad_step, no_start}
 

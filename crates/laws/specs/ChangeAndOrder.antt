@@ -7,7 +7,7 @@ use Rattle.base.specs.Lists.{all, same, bytes}
 use Rattle.base.specs.Tests.{and_in, bools}
 use Rattle.theory.specs.Decimal.{dec}
 use Rattle.theory.specs.Step.{Op, ins, upd, del}
-use Rattle.theory.proofs.DecimalLaws.{length_dec, width_pos, dec_all, width_four}
+use Rattle.theory.specs.DecimalLaws.{length_dec, width_pos, dec_all, width_four}
 use Rattle.meaning.specs.Lines.{plain, turned, is_sep, add_byte, fields_from, quote_after, after_field}
 use Rattle.meaning.specs.Forms.{number, has_form, is_empty, sound_as, is_number, is_digit, is_textual, one_of, change_type}
 use Rattle.meaning.specs.Format.{Format, man}

@@ -4,7 +4,7 @@ use Rattle.std.proofs.Common.{sym, ◌∙◌, append_assoc, append-nil, arith, l
 use Rattle.base.specs.Lists.{all}
 use Rattle.base.specs.Tests.{and_l, and_r}
 use Rattle.theory.specs.Decimal.{dec, value_f, value}
-use Rattle.theory.proofs.DecimalLaws.{width_small, width_big}
+use Rattle.theory.specs.DecimalLaws.{width_small, width_big}
 use Rattle.meaning.specs.Forms.{is_digit}
 
 pub digit_low : (x : ℕ) → T (is_digit x) → 48 ≤ x

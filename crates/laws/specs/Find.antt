@@ -15,7 +15,7 @@ use Rattle.theory.specs.Lex.{lex}
 use Rattle.theory.specs.Decimal.{value}
 use Rattle.theory.specs.Store.{get, Asc, Low, gets}
 use Rattle.theory.specs.Run.{as_inserts}
-use Rattle.theory.proofs.LexLaws.{lex_order}
+use Rattle.theory.specs.LexLaws.{lex_order}
 use Rattle.theory.proofs.StoreLaws.{low_down}
 use Rattle.meaning.specs.Lines.{lines_of}
 use Rattle.meaning.specs.Kinds.{Kind, ident, numbered_among}

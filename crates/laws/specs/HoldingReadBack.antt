@@ -18,7 +18,7 @@ use Rattle.theory.specs.Refs.{met, meets}
 use Rattle.theory.specs.Step.{ins, Change}
 use Rattle.theory.specs.Run.{as_inserts}
 use Rattle.theory.specs.ReadBack.{Sound, Holding}
-use Rattle.theory.proofs.TriLaws.{is_lt_lem}
+use Rattle.theory.specs.TriLaws.{is_lt_lem}
 use Rattle.meaning.specs.Lines.{plain, fields_of, identifier, Line, lines_of, ends_well}
 use Rattle.meaning.specs.Kinds.{Kind, ident, role}
 use Rattle.meaning.specs.Format.{Format, kind_of, knows}
@@ -79,7 +79,7 @@ module _ (F : Format) where
     pub fines : T (all (fine F) st)
     pub aboves : Above lo st
     pub asc : Asc (keyed F) st
-    pub IsShort : n + length st ≤ suc most_records
+    pub short : n + length st ≤ suc most_records
 
   -- the same of what the first pass comes to
   abbrev pub Scanned : ℕ → Option (List ℕ) → List Line → Held → Type 0
@@ -95,7 +95,7 @@ module _ (F : Format) where
     fines = and_in (fine F r) (all (fine F) rs) w.1 i.fines;
     aboves = above_out lo r rs o;
     asc = (i.aboves, i.asc);
-    IsShort = omega (arith, i.IsShort);
+    short = omega (arith, i.short);
   }
 
   scanned_line : (n : ℕ) (lo : Option (List ℕ)) (l : Line) (ls : List Line) (go : Rec → Held) → (n ≤ most_records → (r : Rec) → Scanned (suc n) (some (key_of F r)) ls (go r))
@@ -219,7 +219,7 @@ module _ (F : Format) where
     -- the records that the first pass comes to are fine, in order and not too many
     pub scanned : (n : ℕ) (lo : Option (List ℕ)) (ls : List Line) → n ≤ suc most_records → Scanned n lo ls (scan F n lo ls)
     unfolding scan change_texts
-    scanned n lo [] h = record { lines = refl; fines = tt; aboves = above_nil lo; asc = tt; IsShort = omega arith }
+    scanned n lo [] h = record { lines = refl; fines = tt; aboves = above_nil lo; asc = tt; short = omega arith }
     scanned n lo (l ∷ ls) h =
         scanned_line n lo l ls (λ r. scan F (suc n) (some (key_of F r)) ls) (λ g r. scanned (suc n) (some (key_of F r)) ls (omega arith)) (held_line F n l) (held_out n l)
 
@@ -243,7 +243,7 @@ module _ (F : Format) where
         refd : (st : List Rec) → Reads 1 none (lines_of b) st → (h : Held) → Refers st st h → HeldSays b (held_records h)
         refd st r (unsound n) i = unfold held_records in tt
         refd st r (sound s) i = unfold held_records written met at_most in
-            let p = and_in (leb (length st) most_records) _ (le→leb (length st) most_records (omega (arith, r.IsShort))) (and_in (all (meets (keyed F) (refs_of F) st) st) true i.1 tt) in
+            let p = and_in (leb (length st) most_records) _ (le→leb (length st) most_records (omega (arith, r.short))) (and_in (all (meets (keyed F) (refs_of F) st) st) true i.1 tt) in
             subst (λ x. HeldSays b (some x)) (sym i.0) (
               sym (lines_join b) ∙ ap unlines r.lines ∙ unlines_ends (change_texts 1 (as_inserts st)),
               record { asc = r.asc; fines = r.fines; pass = p },

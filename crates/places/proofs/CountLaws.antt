@@ -15,7 +15,7 @@ use Rattle.base.specs.ListLaws.{all_map}
 use Rattle.base.specs.Tests.{and_l, and_r, some≢none}
 use Rattle.theory.specs.Tri.{Tri, lt, eq, gt}
 use Rattle.theory.specs.Lex.{lex}
-use Rattle.theory.proofs.LexLaws.{lex_order}
+use Rattle.theory.specs.LexLaws.{lex_order}
 use Rattle.theory.specs.Fold.{sum?}
 use Rattle.theory.proofs.FoldLaws.{sum_put}
 use Rattle.theory.specs.Store.{cons?, put, puts, get, gets, Low, Asc}

@@ -9,7 +9,7 @@ use lib.ListN.{length, take, drop, length-append}
 use mir.Syntax.{w64}
 use mir.Val.{Fits}
 use Rattle.theory.specs.Decimal.{width, dec}
-use Rattle.theory.proofs.DecimalLaws.{length_dec}
+use Rattle.theory.specs.DecimalLaws.{length_dec}
 use Rattle.meaning.specs.Answers.{Numbers}
 use Rattle.meaning.specs.Program.{comma_separated, print_numbers}
 use Rattle.text.specs.Front.{in_front}

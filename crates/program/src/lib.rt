@@ -2,7 +2,7 @@
 
 // What the program that loads a file prints: 18, or what load answers and, on 0, the new holding.
 //
-// No contract can say which bytes a call of C reads or writes, so the work is done on slices: `print` leaves in a buffer exactly what
+// No contract can say which bytes the system reads or writes, so the work is done on slices: `print` leaves in a buffer exactly what
 // the meaning's `program` says. The crate `night` reads the two files and calls it, and a program writes what it left.
 ghost use Rattle.std.specs.Prelude.{◌≡◌, ◌≤◌, length};
 ghost use Rattle.meaning.specs.Table.{scottish};

@@ -11,7 +11,7 @@ use mir.Syntax.{w64}
 use mir.Val.{Fits}
 use Rattle.base.proofs.Walk.{at_cons, at_end_lem}
 use Rattle.theory.specs.Decimal.{value, value_f, width}
-use Rattle.theory.proofs.DecimalLaws.{width_small, width_big, width_pos, width_below}
+use Rattle.theory.specs.DecimalLaws.{width_small, width_big, width_pos, width_below}
 
 -- ---- the value of digits
 

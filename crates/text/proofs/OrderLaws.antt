@@ -12,7 +12,7 @@ use Rattle.base.specs.Lists.{same}
 use Rattle.base.proofs.Walk.{at_cons, at_end_lem}
 use Rattle.theory.specs.Tri.{Tri, lt, eq, gt}
 use Rattle.theory.specs.Lex.{cmp_n, and_then, lex}
-use Rattle.theory.proofs.LexLaws.{is_cmp_n}
+use Rattle.theory.specs.LexLaws.{is_cmp_n}
 
 -- ---- two numbers
 

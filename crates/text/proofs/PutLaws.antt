@@ -11,7 +11,7 @@ use Rattle.base.specs.Lists.{zeros}
 use Rattle.base.specs.ListLaws.{length_zeros}
 use Rattle.base.proofs.Walk.{at_end_lem}
 use Rattle.theory.specs.Decimal.{digits, dec, width}
-use Rattle.theory.proofs.DecimalLaws.{length_dec}
+use Rattle.theory.specs.DecimalLaws.{length_dec}
 use Rattle.text.specs.Front.{in_front}
 use Rattle.text.proofs.FrontLaws.{front_none, front_more}
 

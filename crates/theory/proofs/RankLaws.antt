@@ -11,7 +11,7 @@ use Rattle.std.proofs.Math.ListN.{take}
 use Rattle.base.specs.Lists.{all}
 use Rattle.base.specs.Tests.{and_in, and_l, and_r}
 use Rattle.theory.specs.Tri.{Tri, lt, eq, gt, flip, is_gt}
-use Rattle.theory.proofs.TriLaws.{is_gt_lem}
+use Rattle.theory.specs.TriLaws.{is_gt_lem}
 use Rattle.theory.specs.Keyed.{Keyed}
 use Rattle.theory.specs.Store.{cons?, put, puts, get, gets, Asc}
 use Rattle.theory.specs.Rank.{hit, ahead, ranks, rank}

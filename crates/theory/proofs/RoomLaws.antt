@@ -6,7 +6,7 @@ use Rattle.std.proofs.Common.{add-zero}
 use Rattle.base.specs.Lists.{all}
 use Rattle.base.specs.Tests.{and_l, and_r}
 use Rattle.theory.specs.Decimal.{width, value_f, value}
-use Rattle.theory.proofs.DecimalLaws.{width_pos, width_below}
+use Rattle.theory.specs.DecimalLaws.{width_pos, width_below}
 use Rattle.theory.specs.Keyed.{Keyed}
 use Rattle.theory.specs.Store.{put, get}
 use Rattle.theory.specs.Fold.{sum, sum?}

@@ -7,7 +7,7 @@ use mathlib.Core.List.{List, [], ◌∷◌}
 use Prim.Native.Nat.{ℕ, zero, suc, ◌+◌}
 use Rattle.std.proofs.Math.ListN.{length, length-append}
 use Rattle.theory.specs.Decimal.{width}
-use Rattle.theory.proofs.DecimalLaws.{length_dec}
+use Rattle.theory.specs.DecimalLaws.{length_dec}
 use Rattle.theory.specs.Keyed.{Keyed}
 use Rattle.theory.specs.Store.{put, get}
 use Rattle.theory.specs.Fold.{sum}

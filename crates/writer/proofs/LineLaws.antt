@@ -10,7 +10,7 @@ use Rattle.base.specs.Lists.{same, bytes}
 use Rattle.base.specs.ListLaws.{same_eq}
 use Rattle.theory.specs.Step.{Op}
 use Rattle.theory.specs.Decimal.{width, width_f, dec, value, value_f}
-use Rattle.theory.proofs.DecimalLaws.{length_dec}
+use Rattle.theory.specs.DecimalLaws.{length_dec}
 use Rattle.meaning.specs.Kinds.{Kind, kinds, ident}
 use Rattle.meaning.specs.Records.{letter, change_text}
 use Rattle.laws.specs.Kinds.{every}

@@ -11,7 +11,7 @@ use Prim.Native.String.{String}
 use Rattle.base.specs.Lists.{all, pick, ask}
 use Rattle.base.specs.Tests.{and_in, and_l, and_r}
 use Rattle.theory.specs.Lex.{lex}
-use Rattle.theory.proofs.LexLaws.{lex_order}
+use Rattle.theory.specs.LexLaws.{lex_order}
 use Rattle.theory.specs.Keyed.{Keyed}
 use Rattle.theory.specs.Refs.{meets, met}
 use Rattle.theory.specs.Step.{Op, Change, Rules, after, back}
@@ -37,8 +37,7 @@ use Rattle.meaning.specs.Enquiries.{held_at, find_in, find_kind, find, last_nami
 use Rattle.meaning.specs.Program.{program_room, program}
 use Rattle.laws.specs.LineFails.{no_field}
 use Rattle.laws.specs.Ascii.{is_ascii, ascii}
-use Rattle.laws.specs.AsciiLaws.{SameField}
-use Rattle.laws.proofs.AsciiLaws.{scottish_ascii}
+use Rattle.laws.specs.AsciiLaws.{SameField, scottish_ascii}
 
 -- ---- lines and fields of ASCII
 
@@ -197,9 +196,9 @@ module _ (F : Format) (rule : TextRule) where
   count_same metadata_line n k t = refl
   count_same trailer_line n k t = refl
 
-  module _ (rows_same : (k : Kind) → SameRows F G (F.fields k)) where
-    -- ---- where both say the same of ASCII fields
+  -- ---- where both say the same of ASCII fields
 
+  module _ (rows_same : (k : Kind) → SameRows F G (F.fields k)) where
     forms_same : (n : ℕ) (ds : List Field) (fs : List (List ℕ)) (rest : Option Fault) → SameRows F G ds → T (all ascii fs) → forms F n ds fs rest ≡ forms G n ds fs rest
     unfolding forms if_malformed
     forms_same n [] fs rest s h = refl
