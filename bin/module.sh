@@ -35,8 +35,8 @@ prove() {
   (cd "crates/$1" && rt check) && proved=$1
 }
 
-# FOLDER: the kit's toolchain once more, by links, but for its clang: this one keeps the module and the words that it is given in FOLDER's
-# parent, and does as the kit's own.
+# FOLDER INTO: the kit's toolchain once more, by links, but for its clang: this one keeps the module and the words that it is given in INTO,
+# and does as the kit's own. FOLDER stands outside the checkout, where rt ci takes no links.
 keeping_toolchain() {
   local tool
   mkdir -p "$1/bin"
@@ -45,8 +45,8 @@ keeping_toolchain() {
   rm "$1/bin/clang"
   cat >"$1/bin/clang" <<KEEPS
 #!/bin/sh
-if [ -e module.bc ]; then cp module.bc '${1%/*}/'; fi
-printf '%s\n' "\$@" >'${1%/*}/words' && exec '$clang' "\$@"
+if [ -e module.bc ]; then cp module.bc '$2/'; fi
+printf '%s\n' "\$@" >'$2/words' && exec '$clang' "\$@"
 KEEPS
   chmod +x "$1/bin/clang"
 }
@@ -76,20 +76,23 @@ compile_crate() {
 # CRATE MACHINE [named]: proves the crate and compiles it, to made.a or made.o in $modules/CRATE/MACHINE, and keeps the module and clang's
 # words beside it; with `named` it names each crate whose proof begins.
 keep_module() {
-  local into=$modules/$1/$2 shown=''
+  local into=$modules/$1/$2 lent shown=''
   rm -rf "$into"
   mkdir -p "$into"
-  keeping_toolchain "$into/toolchain"
+  lent=$(mktemp -d)
+  keeping_toolchain "$lent" "$into"
   if [ "${3:-}" = named ]; then shown='s/^rt: chose .* for \([a-z_]*\)$/proving \1/p'; fi
-  until { prove "$1" && compile_crate "$1" "$2" "$into/toolchain" "$into/made"; } > >(tee "$into/log" | sed -un "$shown" >&2) 2>&1; do
+  until { prove "$1" && compile_crate "$1" "$2" "$lent" "$into/made"; } > >(tee "$into/log" | sed -un "$shown" >&2) 2>&1; do
     wait $!
     # where the gate left a library out, rt check proves it
     if of_gate; then MUIWASH_PROVED=''; else
       cat "$into/log" >&2
+      rm -rf "$lent"
       exit 1
     fi
   done
   wait $!
+  rm -rf "$lent"
 }
 
 # PROGRAM FILE: links what keep_module made of a program for x86-64, as rt does.
