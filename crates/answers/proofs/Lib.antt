@@ -1,1 +1,1 @@
-pub mod RefusalLaws
+pub mod SaidLaws

@@ -1,40 +1,40 @@
 -- Faults, refusals and the numbers of an answer, as code has them and as the meaning has them: number by number.
-use Rattle.std.specs.Prelude.{List, [], ◌∷◌, ℕ}
-use Rattle.theory.specs.Answer.{Counts}
+use Rattle.std.specs.Prelude.{List, [], ◌∷◌, ℕ, Result, Ok, Err}
+use Rattle.std.proofs.Math.Option.{Option, none, some}
+use Rattle.theory.specs.Answer as theory
 use Rattle.meaning.specs.Answers as meant
-use Rattle.meaning.specs.Answers.{Numbers, number_list, Three}
+use Rattle.meaning.specs.Answers.{Numbers, number_list, taken_with, refused_with, Three, no_fault, three_of}
 use Rattle.answers.specs.declared.refusal.Fault.{Fault}
 use Rattle.answers.specs.declared.refusal.Refusal.{Refusal}
+use Rattle.answers.specs.declared.numbers.Counts.{Counts}
 use Rattle.answers.specs.declared.numbers.Answer.{Answer}
 use Rattle.answers.specs.declared.numbers.Verdict.{Verdict}
+use Rattle.answers.specs.Codes.{code_number}
 
 -- ---- what is refused
 
--- a fault of the meaning
-abbrev pub fault_of : meant.Fault → Fault
-fault_of f = record { code = f.code; field = f.field; place = f.place }
-
--- no fault is three zeros
-abbrev pub no_fault_at : Fault
-no_fault_at = fault_of (meant.of_line 0)
-
 -- the fault that is meant
 abbrev pub fault_meant : Fault → meant.Fault
-fault_meant f = record { code = f.code; field = f.field; place = f.place }
-
--- a refusal of the meaning
-abbrev pub refusal_of : meant.Refusal → Refusal
-refusal_of r = record { code = r.code; line = r.line; field = r.field; place = r.place }
+fault_meant f = record { code = code_number f.code; field = f.field; place = f.place }
 
 -- the refusal that is meant
 abbrev pub refusal_meant : Refusal → meant.Refusal
-refusal_meant r = record { code = r.code; line = r.line; field = r.field; place = r.place }
+refusal_meant r = record { code = code_number r.code; line = r.line; field = r.field; place = r.place }
+
+-- the fault of a line that is judged, if any
+abbrev pub fault_found : {T : Type 0} → Result T Fault → Option meant.Fault
+fault_found (Ok t) = none
+fault_found (Err f) = some (fault_meant f)
 
 -- ---- numbers
 
 -- three numbers as counts
-abbrev pub counts_of : ℕ → ℕ → ℕ → Counts
+abbrev pub counts_of : ℕ → ℕ → ℕ → theory.Counts
 counts_of i u d = record { inserts = i; updates = u; deletes = d }
+
+-- the counts that are meant
+abbrev pub counts_meant : Counts → theory.Counts
+counts_meant n = counts_of n.inserts n.updates n.deletes
 
 -- the numbers of the meaning
 abbrev pub answer_of : Numbers → Answer
@@ -44,13 +44,27 @@ answer_of n = record { code = n.code; line = n.line; field = n.field; inserts = 
 abbrev pub numbers_meant : Answer → Numbers
 numbers_meant a = record { code = a.code; line = a.line; field = a.field; inserts = a.inserts; updates = a.updates; deletes = a.deletes; place = a.place }
 
--- what an answer refuses
-abbrev pub refusal_in : Answer → Refusal
-refusal_in a = record { code = a.code; line = a.line; field = a.field; place = a.place }
+-- the numbers of what is taken, or refused
+abbrev pub said : Result Counts Refusal → Numbers
+said (Ok n) = taken_with (counts_meant n)
+said (Err r) = refused_with (refusal_meant r)
+
+-- and as an answer
+abbrev pub answer_said : Result Counts Refusal → Answer
+answer_said r = answer_of (said r)
 
 -- the three numbers of the meaning
 abbrev pub verdict_of : Three → Verdict
 verdict_of t = record { code = t.code; line = t.line; field = t.field }
+
+-- the three of what is found, or refused
+abbrev pub three_said : {T : Type 0} → Result T Refusal → Three
+three_said (Ok t) = no_fault
+three_said (Err r) = three_of (refusal_meant r)
+
+-- and as a verdict
+abbrev pub verdict_said : {T : Type 0} → Result T Refusal → Verdict
+verdict_said r = verdict_of (three_said r)
 
 -- ---- numbers in their order
 

@@ -1,13 +1,19 @@
-// The numbers of an answer, made where something is taken and where something is refused, and nowhere else.
+// The numbers of an answer, made of what is taken or refused, and nowhere else.
 ghost use Rattle.std.specs.Prelude.{◌≡◌};
-ghost use Rattle.meaning.specs.Answers.{taken_with, refused_with, no_fault, three_of};
-ghost use Rattle.answers.specs.Meant.{counts_of, refusal_meant, refusal_in, answer_of, answer_list, verdict_of, verdict_list};
+ghost use Rattle.answers.specs.Meant.{answer_said, answer_list, verdict_said, verdict_list};
 
-use crate::codes::ALL_DONE;
 use crate::refusal::Refusal;
 
+// The body lines with I, U and D of a file that is taken, or sound.
+#[derive(Clone, Copy, Debug, PartialEq, Eq)]
+pub struct Counts {
+    pub inserts: u64,
+    pub updates: u64,
+    pub deletes: u64,
+}
+
 // Code, line, field, the body lines with I, U and D, and the place.
-#[derive(Clone, Copy)]
+#[derive(Clone, Copy, Debug, PartialEq, Eq)]
 pub struct Answer {
     pub code: u64,
     pub line: u64,
@@ -23,41 +29,62 @@ impl Answer {
     pub const NUMBERS: usize = 7;
 }
 
+// A file that is taken, or sound, has its body lines counted; a refusal counts nothing.
+impl From<Result<Counts, Refusal>> for Answer {
+    ghost from_gives = { λ outcome answer. answer ≡ answer_said outcome };
+
+    fn from(outcome: Result<Counts, Refusal>) -> Answer {
+        match outcome {
+            Ok(counts) => Answer {
+                code: DONE,
+                line: 0,
+                field: 0,
+                inserts: counts.inserts,
+                updates: counts.updates,
+                deletes: counts.deletes,
+                place: 0,
+            },
+            Err(refusal) => Answer {
+                code: u64::from(refusal.code),
+                line: refusal.line,
+                field: refusal.field,
+                inserts: 0,
+                updates: 0,
+                deletes: 0,
+                place: refusal.place,
+            },
+        }
+    }
+}
+
+// Done: nothing is refused.
+const DONE: u64 = 0;
+
 // Code, line, field.
-#[derive(Clone, Copy)]
+#[derive(Clone, Copy, Debug, PartialEq, Eq)]
 pub struct Verdict {
     pub code: u64,
     pub line: u64,
     pub field: u64,
 }
 
-// A file that is taken, or sound: its body lines are counted.
-pub fn taken(inserts: u64, updates: u64, deletes: u64) -> Answer
-    ensures { result ≡ answer_of (taken_with (counts_of inserts updates deletes)) }
-{
-    Answer {
-        code: ALL_DONE,
-        line: 0,
-        field: 0,
-        inserts,
-        updates,
-        deletes,
-        place: 0,
-    }
-}
+// Three zeros where nothing is refused.
+impl From<Result<(), Refusal>> for Verdict {
+    ghost from_gives = { λ outcome verdict. verdict ≡ verdict_said outcome };
 
-// A refusal counts nothing.
-pub fn refused(refusal: Refusal) -> Answer
-    ensures { result ≡ answer_of (refused_with (refusal_meant refusal)) }
-{
-    Answer {
-        code: refusal.code,
-        line: refusal.line,
-        field: refusal.field,
-        inserts: 0,
-        updates: 0,
-        deletes: 0,
-        place: refusal.place,
+    fn from(outcome: Result<(), Refusal>) -> Verdict {
+        match outcome {
+            Ok(()) => Verdict {
+                code: DONE,
+                line: 0,
+                field: 0,
+            },
+            Err(refusal) => Verdict {
+                code: u64::from(refusal.code),
+                line: refusal.line,
+                field: refusal.field,
+            },
+        }
     }
 }
 
@@ -76,43 +103,9 @@ pub fn in_order(answer: Answer) -> [u64; Answer::NUMBERS]
     ]
 }
 
-// What an answer refuses.
-pub fn refusal_in(answer: Answer) -> Refusal
-    ensures { result ≡ refusal_in answer }
-{
-    Refusal {
-        code: answer.code,
-        line: answer.line,
-        field: answer.field,
-        place: answer.place,
-    }
-}
-
-// Nothing is refused.
-pub fn passed() -> Verdict
-    ensures { result ≡ verdict_of no_fault }
-{
-    Verdict {
-        code: ALL_DONE,
-        line: 0,
-        field: 0,
-    }
-}
-
 // The three in their order.
 pub fn three(verdict: Verdict) -> [u64; 3]
     ensures { result ≡ verdict_list verdict }
 {
     [verdict.code, verdict.line, verdict.field]
-}
-
-// Something is refused.
-pub fn faulted(refusal: Refusal) -> Verdict
-    ensures { result ≡ verdict_of (three_of (refusal_meant refusal)) }
-{
-    Verdict {
-        code: refusal.code,
-        line: refusal.line,
-        field: refusal.field,
-    }
 }

@@ -9,14 +9,13 @@
 use field::field;
 use find::find;
 use in_force::in_force;
-use night::input::read_file;
-use reader::{handed_at, past_at};
+use night::input::{read_file, size_read};
+use reader::Reader;
 use shown::asked::{MOST_ASKED, read_full};
 use shown::said::{say, say_line, say_three};
 use std::io;
 use std::rt::Files;
-use text::lines::plain_end;
-use text::order::is_same;
+use text::lines::{is_plain_byte, plain_end};
 
 // The bytes of each buffer: a holding, or a file.
 const ROOM: usize = 4096;
@@ -52,7 +51,7 @@ fn say_answer<R: Print>(rt: &R, answer: &[u64; 3], part: &[u8]) -> io::Result<()
 
 fn ask_find<R: Files + Print>(rt: &R, line: &[u8]) -> io::Result<()> {
     let mut holding = [0u8; ROOM];
-    let n = read_file(rt, word(line, 3), &mut holding).size;
+    let n = size_read(read_file(rt, word(line, 3), &mut holding));
     let mut answer = [0u64; 3];
     let part = find(
         &holding[0..n],
@@ -66,8 +65,8 @@ fn ask_find<R: Files + Print>(rt: &R, line: &[u8]) -> io::Result<()> {
 fn ask_in_force<R: Files + Print>(rt: &R, line: &[u8]) -> io::Result<()> {
     let mut holding = [0u8; ROOM];
     let mut file = [0u8; ROOM];
-    let n = read_file(rt, word(line, 3), &mut holding).size;
-    let m = read_file(rt, word(line, 4), &mut file).size;
+    let n = size_read(read_file(rt, word(line, 3), &mut holding));
+    let m = size_read(read_file(rt, word(line, 4), &mut file));
     let mut answer = [0u64; 3];
     let part = in_force(
         &holding[0..n],
@@ -81,7 +80,7 @@ fn ask_in_force<R: Files + Print>(rt: &R, line: &[u8]) -> io::Result<()> {
 
 fn ask_field<R: Files + Print>(rt: &R, line: &[u8]) -> io::Result<()> {
     let mut bytes = [0u8; ROOM];
-    let n = read_file(rt, word(line, 3), &mut bytes).size;
+    let n = size_read(read_file(rt, word(line, 3), &mut bytes));
     let mut answer = [0u64; 3];
     let part = field(&bytes[0..n], number(line, 1), number(line, 2), &mut answer);
     say_answer(rt, &answer, part)
@@ -89,17 +88,15 @@ fn ask_field<R: Files + Print>(rt: &R, line: &[u8]) -> io::Result<()> {
 
 // Every line of some bytes, as a reader hands them out.
 fn hand_out<R: Print>(rt: &R, bytes: &[u8]) -> io::Result<()> {
-    let mut at = 0;
-    while at < bytes.len() {
-        say_part(rt, handed_at(bytes, at))?;
-        at = past_at(bytes, at);
+    for line in Reader::new(bytes, 0) {
+        say_part(rt, line)?;
     }
     Ok(())
 }
 
 fn ask_lines<R: Files + Print>(rt: &R, line: &[u8]) -> io::Result<()> {
     let mut bytes = [0u8; ROOM];
-    let n = read_file(rt, word(line, 1), &mut bytes).size;
+    let n = size_read(read_file(rt, word(line, 1), &mut bytes));
     say(rt, b":\n")?;
     hand_out(rt, &bytes[0..n])
 }
@@ -108,37 +105,27 @@ fn ask_lines<R: Files + Print>(rt: &R, line: &[u8]) -> io::Result<()> {
 fn ask<R: Files + Print>(rt: &R, line: &[u8]) -> io::Result<()> {
     let what = word(line, 0);
     say(rt, line)?;
-    if is_same(what, b"find") {
-        ask_find(rt, line)
-    } else if is_same(what, b"in_force") {
-        ask_in_force(rt, line)
-    } else if is_same(what, b"field") {
-        ask_field(rt, line)
-    } else if is_same(what, b"lines") {
-        ask_lines(rt, line)
-    } else {
-        say(rt, b": no enquiry\n")
+    match what {
+        b"find" => ask_find(rt, line),
+        b"in_force" => ask_in_force(rt, line),
+        b"field" => ask_field(rt, line),
+        b"lines" => ask_lines(rt, line),
+        _ => say(rt, b": no enquiry\n"),
     }
 }
 
 // One line of the input: a comment (`#`), or an enquiry.
 fn enquiry<R: Files + Print>(rt: &R, line: &[u8]) -> io::Result<()> {
-    if line.is_empty() {
-        return Ok(());
-    }
-    if line[0] == b'#' {
-        say_line(rt, line)
-    } else {
-        ask(rt, line)
+    match line {
+        [] => Ok(()),
+        [b'#', ..] => say_line(rt, line),
+        _ => ask(rt, line),
     }
 }
 
 fn enquiries<R: Files + Print>(rt: &R, s: &[u8]) -> io::Result<()> {
-    let mut at = 0;
-    while at < s.len() {
-        let end = plain_end(s, at);
-        enquiry(rt, &s[at..end])?;
-        at = end + 1;
+    for line in s.split_inclusive(|b| !is_plain_byte(*b)) {
+        enquiry(rt, &line[..plain_end(line, 0)])?;
     }
     Ok(())
 }

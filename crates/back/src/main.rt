@@ -7,7 +7,7 @@
 // printed whole.
 use answers::numbers::Answer;
 use loader::load;
-use night::input::read_file;
+use night::input::{read_file, size_read};
 use printed::bare::bare_length;
 use shown::built::put_text;
 use shown::said::{say, say_number, say_numbers};
@@ -31,12 +31,12 @@ fn say_answer<R: Print>(rt: &R, what: &[u8], a: Answer) -> io::Result<()> {
 fn is_as_stood(a: &[u8], b: &[u8]) -> bool {
     let n = bare_length(a);
     let m = bare_length(b);
-    text::order::is_same(&a[0..n], &b[0..m])
+    a[0..n] == b[0..m]
 }
 
 // Whether an undo is the file itself.
 fn say_which<R: Print>(rt: &R, undone: &[u8], file: &[u8]) -> io::Result<()> {
-    if text::order::is_same(undone, file) {
+    if undone == file {
         say(rt, b", the file itself")
     } else {
         say(rt, b", another file")
@@ -48,7 +48,11 @@ fn say_undo<R: Print>(rt: &R, undone: &[u8], file: &[u8]) -> io::Result<()> {
     let k = bare_length(undone);
     say(rt, b"; its undo")?;
     say_which(rt, &undone[0..k], file)?;
-    say_answer(rt, b", and checked: ", check_file(&undone[0..k]))?;
+    say_answer(
+        rt,
+        b", and checked: ",
+        Answer::from(check_file(&undone[0..k])),
+    )?;
     say(rt, b"\n")
 }
 
@@ -61,10 +65,10 @@ fn forward<R: Files + Print>(
     undone: &mut [u8],
 ) -> io::Result<()> {
     let mut file = [0u8; ROOM];
-    let m = read_file(rt, name, &mut file).size;
+    let m = size_read(read_file(rt, name, &mut file));
     let n = bare_length(holding);
     say(rt, name)?;
-    let answer = load(&holding[0..n], &file[0..m], &mut *next, &mut *undone);
+    let answer = Answer::from(load(&holding[0..n], &file[0..m], &mut *next, &mut *undone));
     say_answer(rt, b" taken: ", answer)?;
     say_undo(rt, &*undone, &file[0..m])
 }
@@ -72,7 +76,7 @@ fn forward<R: Files + Print>(
 // How long the undo of an undo is, beside what is always enough for it.
 fn say_again<R: Files + Print>(rt: &R, again: &[u8], name: &[u8], undone: usize) -> io::Result<()> {
     let mut file = [0u8; ROOM];
-    let m = read_file(rt, name, &mut file).size;
+    let m = size_read(read_file(rt, name, &mut file));
     say(rt, b"; its own undo has ")?;
     say_number(rt, bare_length(again) as u64)?;
     say(rt, b" bytes of ")?;
@@ -95,7 +99,7 @@ fn back<R: Files + Print>(
     let n = bare_length(holding);
     let m = bare_length(undone);
     say(rt, name)?;
-    let answer = load(&holding[0..n], &undone[0..m], &mut *out, &mut again);
+    let answer = Answer::from(load(&holding[0..n], &undone[0..m], &mut *out, &mut again));
     say_answer(rt, b" handed back: ", answer)?;
     if is_as_stood(&*out, stood) {
         say(rt, b" same")?;
@@ -111,9 +115,9 @@ fn worked<R: Files + Print>(rt: &R) -> io::Result<()> {
     let mut file = [0u8; ROOM];
     let mut next = [0u8; ROOM];
     let mut undone = [0u8; ROOM];
-    let n = read_file(rt, b"worked/holding.csv", &mut holding).size;
-    let m = read_file(rt, b"worked/change.csv", &mut file).size;
-    let answer = load(&holding[0..n], &file[0..m], &mut next, &mut undone);
+    let n = size_read(read_file(rt, b"worked/holding.csv", &mut holding));
+    let m = size_read(read_file(rt, b"worked/change.csv", &mut file));
+    let answer = Answer::from(load(&holding[0..n], &file[0..m], &mut next, &mut undone));
     say_answer(rt, b"The undo of the worked example: ", answer)?;
     say(rt, b"\n")?;
     let k = bare_length(&undone);
@@ -143,7 +147,7 @@ fn nights<R: Files + Print>(
 fn main(rt: HostRuntime) -> io::Result<()> {
     let mut holding = [0u8; ROOM];
     let mut home = [0u8; ROOM];
-    read_file(&rt, b"holding.csv", &mut holding);
+    let _ = read_file(&rt, b"holding.csv", &mut holding);
     nights(&rt, b"1.csv2.csv3.csv4.csv5.csv6.csv", &holding, &mut home)?;
     if is_as_stood(&home, &holding) {
         say(&rt, b"home\n")?;

@@ -1,12 +1,16 @@
 -- One outcome only: any two outcomes that meet what is claimed of an operation are equal, in the numbers answered, in the bytes left, and for
 -- a part that is handed back in its bytes and in where it stands.
-use Rattle.std.specs.Prelude.{◌≡◌, Bool, List, ℕ}
-use Rattle.std.proofs.Common.{sym, ap₂, ◌∙◌}
+use Rattle.std.specs.Prelude.{◌≡◌, Bool, List, ℕ, Result}
+use Rattle.std.proofs.Common.{sym, ap, ap₂, ◌∙◌}
 use Rattle.std.specs.Borrow.{Bor}
 use Rattle.meaning.specs.Table.{scottish}
 use Rattle.meaning.specs.Enquiries.{Found, find, in_force, field_of}
+use Rattle.answers.specs.declared.refusal.Refusal.{Refusal}
+use Rattle.answers.specs.declared.numbers.Counts.{Counts}
 use Rattle.answers.specs.declared.numbers.Answer.{Answer}
 use Rattle.answers.specs.declared.numbers.Verdict.{Verdict}
+use Rattle.answers.specs.Meant.{answer_said, numbers_meant}
+use Rattle.answers.proofs.SaidLaws.{said_one}
 use Rattle.enquiries.specs.Handed.{Handed, lent_as}
 use Rattle.claims.specs.CheckClaims.{FileClaims, HoldingClaims}
 use Rattle.claims.specs.LoadClaims.{LoadClaims}
@@ -34,6 +38,10 @@ load_once old file room undo_room r s out put undo rest o p = (
   one_outcome _ out put o.outcome.1 p.outcome.1,
   one_outcome _ undo rest o.outcome.2 p.outcome.2,
 )
+
+-- what is taken, or refused, is told by those numbers, so there is one of it only
+pub outcome_once : (x y : Result Counts Refusal) → answer_said x ≡ answer_said y → x ≡ y
+outcome_once x y e = said_one x y (ap numbers_meant e)
 
 -- the numbers, the part's bytes, its block and its place in it
 abbrev pub SameHanded : (a b : List ℕ) (r p : Bor (List ℕ)) → Type 0

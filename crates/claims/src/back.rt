@@ -9,7 +9,7 @@ use loader::load;
 use printed::bare::bare_length;
 
 // What load answered to a file, and to its undo.
-#[derive(Clone, Copy)]
+#[derive(Clone, Copy, Debug, PartialEq, Eq)]
 pub struct Returned {
     pub taken: Answer,
     pub back: Answer,
@@ -21,7 +21,7 @@ fn hand_in(left: &[u8], undone: &[u8], old: &mut [u8], again: &mut [u8]) -> Answ
 {
     let n = bare_length(left);
     let m = bare_length(undone);
-    load(&left[0..n], &undone[0..m], &mut *old, &mut *again)
+    Answer::from(load(&left[0..n], &undone[0..m], &mut *old, &mut *again))
 }
 
 // Loads a file, and hands the undo that this leaves in over the holding that it leaves.
@@ -36,7 +36,7 @@ pub fn handed_back(
     ensures { BackClaims holding.now file.now (length new.old) (length old.old) (length again.old)
         result.taken result.back old.new again.new }
 {
-    let taken = load(holding, file, &mut *new, &mut *undone);
+    let taken = Answer::from(load(holding, file, &mut *new, &mut *undone));
     let back = hand_in(&*new, &*undone, &mut *old, &mut *again);
     Returned { taken, back }
 }

@@ -9,12 +9,12 @@ use volume::check::check_file;
 pub fn checked_file(file: &[u8]) -> Answer
     ensures { FileClaims file.now result }
 {
-    check_file(file)
+    Answer::from(check_file(file))
 }
 
 // The check of a holding.
 pub fn checked_holding(holding: &[u8]) -> Verdict
     ensures { HoldingClaims holding.now result }
 {
-    check_holding(holding)
+    Verdict::from(check_holding(holding))
 }

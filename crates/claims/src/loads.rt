@@ -9,5 +9,5 @@ use loader::load;
 pub fn loaded(holding: &[u8], file: &[u8], out: &mut [u8], undo: &mut [u8]) -> Answer
     ensures { LoadClaims holding.now file.now (length out.old) (length undo.old) result out.new undo.new }
 {
-    load(holding, file, &mut *out, &mut *undo)
+    Answer::from(load(holding, file, &mut *out, &mut *undo))
 }

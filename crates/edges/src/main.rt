@@ -4,6 +4,7 @@
 // them; a title that begins with `holding` has a holding below it, any other a file. What is too long to store is built here.
 ghost use Rattle.std.specs.Prelude.{◌≤◌, length};
 
+use answers::numbers::{Answer, Verdict};
 use holding::check::check_holding;
 use shown::asked::{MOST_ASKED, read_full};
 use shown::built::{put_holding, put_lines, put_text, put_value};
@@ -14,12 +15,12 @@ use volume::check::check_file;
 
 // The numbers of the check of a file.
 fn answer_file<R: Print>(rt: &R, file: &[u8]) -> io::Result<()> {
-    say_numbers(rt, check_file(file))
+    say_numbers(rt, Answer::from(check_file(file)))
 }
 
 // The three numbers of the check of a holding.
 fn answer_holding<R: Print>(rt: &R, held: &[u8]) -> io::Result<()> {
-    let v = check_holding(held);
+    let v = Verdict::from(check_holding(held));
     say_three(rt, v.code, v.line, v.field)
 }
 
@@ -56,28 +57,17 @@ fn long_holding<R: Print>(rt: &R, count: u64) -> io::Result<()> {
     say(rt, b"\n")
 }
 
-// Whether bytes begin with these words.
-fn begins(s: &[u8], words: &[u8]) -> bool {
-    let n = words.len();
-    if s.len() < n {
-        return false;
-    }
-    text::order::is_same(&s[0..n], words)
-}
-
 // Where the block that starts at `at` ends: at the next line of equals signs, or where the input does.
 fn block_end(s: &[u8], at: usize) -> usize
     requires { at ≤ length s.now }
     ensures { (at ≤ result) × (result ≤ length s.now) }
 {
-    let mut i = at;
-    while i < s.len() {
-        if begins(&s[i..], b"====\n") {
+    for i in at..s.len() {
+        if s[i..].starts_with(b"====\n") {
             return i;
         }
-        i += 1;
     }
-    i
+    s.len()
 }
 
 // One block: its title and its answer.
@@ -90,7 +80,7 @@ fn block<R: Print>(rt: &R, b: &[u8]) -> io::Result<()> {
         answer_file(rt, &b[end..])?;
     } else {
         let from = end + 1;
-        if begins(title, b"holding") {
+        if title.starts_with(b"holding") {
             answer_holding(rt, &b[from..])?;
         } else {
             answer_file(rt, &b[from..])?;

@@ -1,61 +1,71 @@
 -- The laws of what is found, and of the part that is handed back.
-use mathlib.Core.Path.{◌≡◌, refl, ap, ◌∙◌, subst}
-use mathlib.Core.Bool.{Bool, true, false}
+use mathlib.Core.Path.{◌≡◌, refl, sym, ap, ◌∙◌, subst}
+use mathlib.Core.Bool.{true, false}
 use mathlib.Core.List.{List}
-use Prim.Native.Nat.{ℕ, ◌+◌, ◌-◌, ◌≤◌}
+use Prim.Native.Nat.{ℕ, ◌-◌, ◌≤◌}
 use native.Mathlib.Omega.{arith}
 use borrow.Author.Rules.{rules}
 use borrow.Author.Tests.{le-leb}
 use denote.Ref.{Bor}
 use lib.ListN.{length, get_or, length-take, length-drop}
+use Rattle.std.specs.Prelude.{Option, Some, None, Result, Ok, Err, IsSome, IsErrAnd}
 use Rattle.meaning.specs.Lines.{lines_of}
-use Rattle.meaning.specs.Enquiries.{Found, refusal, part_of}
-use Rattle.meaning.specs.Answers as meant
-use Rattle.meaning.specs.Answers.{no_fault, three_of}
+use Rattle.meaning.specs.Enquiries.{refusal, part_of}
 use Rattle.answers.specs.declared.refusal.Refusal.{Refusal}
 use Rattle.answers.specs.declared.numbers.Verdict.{Verdict}
-use Rattle.answers.specs.Meant.{refusal_of, refusal_meant, verdict_of, verdict_list}
+use Rattle.answers.specs.Meant.{refusal_meant, verdict_said, verdict_list}
 use Rattle.text.specs.Parts.{StandsIn}
 use Rattle.enquiries.specs.declared.lines.Span.{Span}
-use Rattle.enquiries.specs.declared.finding.Finding.{Finding}
-use Rattle.enquiries.specs.Finding.{in_file, slice_of, finding_of}
-use Rattle.enquiries.specs.Handed.{Handed, LineIs}
+use Rattle.enquiries.specs.declared.finding.Side.{Side}
+use Rattle.enquiries.specs.declared.finding.Side.TheVariants.{Holding}
+use Rattle.enquiries.specs.declared.finding.Part.{Part}
+use Rattle.enquiries.specs.Finding.{slice_meant, part_meant, found_said}
+use Rattle.enquiries.specs.Handed.{Handed, LineSpan, LineIs}
 use Rattle.enquiries.proofs.LineSeekLaws.{no_line}
 
--- a refusal
-pub found_nothing : (r : meant.Refusal) (v : Verdict) → v ≡ verdict_of (three_of r) → record { answer = v; infile = false; start = 0; size = 0 } ≡ finding_of (refusal r)
-unfolding finding_of refusal
-found_nothing r v e = rw e
-
--- of a refusal that was made before
-pub refusal_made : (r : Refusal) (q : meant.Refusal) (x : Finding) → x ≡ finding_of (refusal (refusal_meant r)) → r ≡ refusal_of q → x ≡ finding_of (refusal q)
-refusal_made r q x e h = e ∙ ap (λ y. finding_of (refusal (refusal_meant y))) h
-
 -- a line that is there
-pub found_line : (s : List ℕ) (n : ℕ) (b : Bool) (t : Span) (v : Verdict) → v ≡ verdict_of no_fault → 1 ≤ n → n ≤ length (lines_of s) → LineIs s n t
-    → record { answer = v; infile = b; start = t.start; size = t.end - t.start } ≡ finding_of (part_of (slice_of b) (lines_of s) (n - 1))
-unfolding finding_of part_of
-found_line s n b t v z u k i =
-    let o : t.known ≡ true = i.exists ∙ rw (le-leb 1 n u, le-leb n (length (lines_of s)) k) in
-    let y : t.end - t.start ≡ length (get_or (lines_of s) (n - 1) no_line).text = omega (arith, simp (length-take, length-drop) at (ap length (i.text o)), i.from, i.within) in
-    rw (z, ← (i.starts o), ← y) (side b)
-  where
-    side : (b : Bool) → ◌≡◌ {A = Finding} (record { answer = verdict_of no_fault; infile = b; start = t.start; size = t.end - t.start }) (record { answer = verdict_of no_fault; infile = in_file (slice_of b); start = t.start; size = t.end - t.start })
-    side true = refl
-    side false = refl
+module _ (s : List ℕ) (n : ℕ) (o : Option Span) (i : LineIs s n o) where
+  -- is found
+  pub line_there : 1 ≤ n → n ≤ length (lines_of s) → IsSome o
+  line_there u k = go o i
+    where
+      go : (o : Option Span) → LineIs s n o → IsSome o
+      go (Some t) i = refl
+      go None i = absurd (let z : true ≡ false = sym (rw (le-leb 1 n u, le-leb n (length (lines_of s)) k)) ∙ i in let y : ◌≡◌ {A = ℕ} 1 0 = cc in omega arith)
 
-pub ruleset finding = (rules, found_nothing, found_line)
+  -- where it stands
+  pub line_span : (t : Span) → o ≡ Some t → LineSpan s n t
+  line_span t e = subst (LineIs s n) e i
+
+  -- and is that part
+  pub found_line : (b : Side) (t : Span) → o ≡ Some t → part_meant (record { side = b; start = t.start; size = t.end - t.start }) ≡ part_of (slice_meant b) (lines_of s) (n - 1)
+  unfolding part_of
+  found_line b t e =
+      let l = line_span t e in
+      let y : t.end - t.start ≡ length (get_or (lines_of s) (n - 1) no_line).text = omega (arith, simp (length-take, length-drop) at (ap length l.text), l.from) in
+      rw (← l.starts, ← y)
+
+pub ruleset finding = (rules, line_there, line_span, found_line)
+
+-- ---- a refusal
+
+-- one that is passed on
+pub refused_on : (x : Result Part Refusal) (d : Refusal) → IsErrAnd x (λ e. e ≡ d) → found_said x ≡ refusal (refusal_meant d)
+refused_on (Ok p) d h = absurd h
+refused_on (Err e) d h = ap (λ r. refusal (refusal_meant r)) h
+
+-- its part is one of the holding
+pub side_refused : (o : Result Part Refusal) (r : Refusal) → o ≡ Err r → slice_meant Holding ≡ (found_said o).slice
+unfolding refusal
+side_refused o r e = rw e
+
+pub ruleset sides = (rules, side_refused)
 
 -- ---- the part
 
--- by its start and its size
-pub hand_part : (p s : Bor (List ℕ)) (a n : ℕ) → StandsIn p s a (a + n - a) → StandsIn p s a n
-hand_part p s a n h = let e : a + n - a ≡ n = omega arith in subst (λ (m : ℕ). StandsIn p s a m) e h
+-- a refusal hands back an empty one
+pub hand_none : (s p : Bor (List ℕ)) (o : Result Part Refusal) (r : Refusal) (v : Verdict) (x : List ℕ) → o ≡ Err r → v ≡ verdict_said {T = Part} (Err r) → x ≡ verdict_list v → StandsIn p s 0 0 → Handed (found_said o) s p x
+unfolding refusal
+hand_none s p o r v x e f w h = rw e (record { numbers = w ∙ ap verdict_list f; part = h })
 
-module _ (f : Found) (g : Finding) (p : Bor (List ℕ)) (x : List ℕ) (e : g ≡ finding_of f) (w : x ≡ verdict_list g.answer) where
-  -- of what was lent
-  pub hand_found : (s : Bor (List ℕ)) → StandsIn p s g.start g.size → Handed f s p x
-  unfolding finding_of
-  hand_found s h = record { numbers = w ∙ ap (λ y. verdict_list y.answer) e; part = subst (λ (y : Finding). StandsIn p s y.start y.size) e h }
-
-pub ruleset handing = (rules, hand_part)
+pub ruleset handing = (rules, hand_none)

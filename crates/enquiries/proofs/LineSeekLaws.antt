@@ -1,6 +1,6 @@
 -- The laws of the walk to a line.
 use mathlib.Core.Path.{◌≡◌, refl, sym, ap, ◌∙◌}
-use mathlib.Core.Bool.{Bool, true, false, ◌&&◌}
+use mathlib.Core.Bool.{true, false, ◌&&◌}
 use mathlib.Core.List.{List, [], ◌∷◌}
 use Prim.Native.Nat.{ℕ, zero, suc, ◌+◌, ◌-◌, ◌≤◌, ◌<◌}
 use native.Mathlib.Decide.{dec_le}
@@ -15,7 +15,7 @@ use Rattle.meaning.specs.Lines.{Line, lines_of}
 use Rattle.meaning.specs.Enquiries.{spanned}
 use Rattle.text.specs.Places.{line_len, line_end}
 use Rattle.text.proofs.LineLaws.{lines_at, lines_end}
-use Rattle.enquiries.specs.Handed.{LineIs}
+use Rattle.enquiries.specs.Handed.{LineSpan}
 
 -- no line
 abbrev pub no_line : Line
@@ -81,13 +81,13 @@ seek_turn b n at (suc m) e s h q z = rw (less, next) (record {
         omega (arith, rw (d, l) at w)
 
 -- here it is
-pub seek_here : (b : List ℕ) (n at left e : ℕ) → Seeking b n at left → at < length b → e ≡ line_end b at → left ≡ 0 → at ≤ e → e ≤ length b → LineIs b n (record { known = true; start = at; end = e })
+pub seek_here : (b : List ℕ) (n at left e : ℕ) → Seeking b n at left → at < length b → e ≡ line_end b at → left ≡ 0 → at ≤ e → e ≤ length b → LineSpan b n (record { start = at; end = e })
 unfolding spanned
 seek_here b n at (suc m) e s h q z a l = absurd (omega arith)
 seek_here b n at zero e s h q z a l = record {
-  exists = sym there ∙ s.exists;
-  starts = λ t. sym (add-zero at) ∙ s.starts there;
-  text = λ t. rw size (ap (λ x. x.text) (rw split at s.text));
+  exists = sym s.exists ∙ there;
+  starts = sym (add-zero at) ∙ s.starts there;
+  text = rw size (ap (λ x. x.text) (rw split at s.text));
   from = a;
   within = l;
 }
@@ -102,17 +102,11 @@ seek_here b n at zero e s h q z a l = record {
     size = omega arith
 
 -- past the last line there is none
-pub seek_none : (b : List ℕ) (n at left : ℕ) → Seeking b n at left → length b ≤ at → LineIs b n (record { known = false; start = 0; end = 0 })
-seek_none b n at left s h = record { exists = sym (le-ltb left 0 (omega arith)) ∙ (rw (lines_end b at h) at s.exists); starts = λ t. absurd (never t); text = λ t. absurd (never t); from = omega arith; within = omega arith }
-  where
-    never : ◌≡◌ {A = Bool} false true → ⊥
-    never t = let z : ◌≡◌ {A = ℕ} 0 1 = cc in omega arith
+pub seek_none : (b : List ℕ) (n at left : ℕ) → Seeking b n at left → length b ≤ at → (leb 1 n && leb n (length (lines_of b))) ≡ false
+seek_none b n at left s h = sym (rw (lines_end b at h) at s.exists) ∙ le-ltb left 0 (omega arith)
 
 -- nor is there a line 0
-pub seek_zero : (b : List ℕ) (n : ℕ) → n < 1 → LineIs b n (record { known = false; start = 0; end = 0 })
-seek_zero b n h = record { exists = rw (lt-leb 1 n h); starts = λ t. absurd (never t); text = λ t. absurd (never t); from = omega arith; within = omega arith }
-  where
-    never : ◌≡◌ {A = Bool} false true → ⊥
-    never t = let z : ◌≡◌ {A = ℕ} 0 1 = cc in omega arith
+pub seek_zero : (b : List ℕ) (n : ℕ) → n < 1 → (leb 1 n && leb n (length (lines_of b))) ≡ false
+seek_zero b n h = rw (lt-leb 1 n h)
 
 pub ruleset seekline = (rules, seek_start, seek_turn, seek_here, seek_none, seek_zero)

@@ -10,8 +10,6 @@ use Rattle.meaning.specs.Lines.{Line, lines_of}
 use Rattle.meaning.specs.Enquiries.{Slice, first, second, Found, refusal, spanned}
 use Rattle.laws.specs.LinesAndFields.{unlines, lines_join}
 use Rattle.meaning.specs.Answers.{Refusal}
-use Rattle.enquiries.specs.declared.finding.Finding.{Finding}
-use Rattle.enquiries.specs.Finding.{finding_of}
 use Rattle.enquiries.specs.Handed.{lent_as}
 use Rattle.enquiries.proofs.LineSeekLaws.{no_line}
 
@@ -46,8 +44,7 @@ line_within b i = subst (λ (x : List ℕ). spanned (take i (lines_of b)) + leng
 -- ---- a finding
 
 -- a part of either of the same
-pub either : (a : List ℕ) (f : Found) (g : Finding) → g ≡ finding_of f → Within f a a → g.start + g.size ≤ length a
-unfolding finding_of
+pub either : (a : List ℕ) (f g : Found) → g ≡ f → Within f a a → g.start + g.size ≤ length a
 either a f g e w = rw e (side f.slice w)
   where
     side : (z : Slice) → f.start + f.size ≤ length (lent_as z a a) → f.start + f.size ≤ length a

@@ -1,5 +1,5 @@
 -- What an enquiry hands back, by the meaning's answer.
-use Rattle.std.specs.Prelude.{◌≡◌, true, false, ◌&&◌, List, [], ℕ, ◌-◌, ◌≤◌, leb, length, get_or, take, drop}
+use Rattle.std.specs.Prelude.{◌≡◌, true, false, ◌&&◌, List, [], ℕ, ◌-◌, ◌≤◌, leb, length, get_or, take, drop, Option, Some, None}
 use Rattle.std.specs.Borrow.{Bor}
 use Rattle.meaning.specs.Lines.{lines_of}
 use Rattle.meaning.specs.Enquiries.{Slice, first, second, Found, spanned}
@@ -21,10 +21,15 @@ lent_as second s t = t
 abbrev pub HandedOf : Found → Bor (List ℕ) → Bor (List ℕ) → Bor (List ℕ) → List ℕ → Type 0
 HandedOf f s t r answer = Handed f (lent_as f.slice s t) r answer
 
--- line n of some bytes, counted from 1: whether there is one, and where it stands
-pub record LineIs (b : List ℕ) (n : ℕ) (r : Span) : Type 0 where
-  pub exists : r.known ≡ (leb 1 n && leb n (length (lines_of b)))
-  pub starts : r.known ≡ true → r.start ≡ spanned (take (n - 1) (lines_of b))
-  pub text : r.known ≡ true → take (r.end - r.start) (drop r.start b) ≡ (get_or (lines_of b) (n - 1) (record { text = []; ended = false })).text
-  pub from : r.start ≤ r.end
-  pub within : r.end ≤ length b
+-- line n of some bytes, counted from 1, stands there
+pub record LineSpan (b : List ℕ) (n : ℕ) (s : Span) : Type 0 where
+  pub exists : (leb 1 n && leb n (length (lines_of b))) ≡ true
+  pub starts : s.start ≡ spanned (take (n - 1) (lines_of b))
+  pub text : take (s.end - s.start) (drop s.start b) ≡ (get_or (lines_of b) (n - 1) (record { text = []; ended = false })).text
+  pub from : s.start ≤ s.end
+  pub within : s.end ≤ length b
+
+-- line n of some bytes, counted from 1: where it stands, if there is one
+abbrev pub LineIs : List ℕ → ℕ → Option Span → Type 0
+LineIs b n (Some s) = LineSpan b n s
+LineIs b n None = (leb 1 n && leb n (length (lines_of b))) ≡ false

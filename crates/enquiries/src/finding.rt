@@ -1,45 +1,46 @@
-// What an enquiry finds, before a part is handed back: three numbers, and where the part stands.
+// What an enquiry finds, before it is handed back: where a part stands.
 ghost use Rattle.std.specs.Prelude.{◌≡◌, ◌≤◌, ◌-◌, length};
 ghost use Rattle.meaning.specs.Lines.{lines_of};
-ghost use Rattle.meaning.specs.Enquiries.{refusal, part_of};
-ghost use Rattle.answers.specs.Meant.{refusal_meant};
-ghost use Rattle.enquiries.specs.Finding.{slice_of, finding_of};
+ghost use Rattle.meaning.specs.Enquiries.{part_of};
+ghost use Rattle.enquiries.specs.Finding.{slice_meant, part_meant, found_said};
 
 use crate::lines::line_at;
-use answers::numbers::{Verdict, faulted, passed};
 use answers::refusal::Refusal;
 
-// The three numbers; whether the part stands in the file, its start and its size.
-#[derive(Clone, Copy)]
-pub struct Finding {
-    pub answer: Verdict,
-    pub infile: bool,
+// Which of the slices that are lent a part stands in: the holding, or the bytes of which a field is asked, or else the file.
+#[derive(Clone, Copy, Debug, PartialEq, Eq)]
+pub enum Side {
+    Holding,
+    File,
+}
+
+// A part: its start and its size in one of the slices.
+#[derive(Clone, Copy, Debug, PartialEq, Eq)]
+pub struct Part {
+    pub side: Side,
     pub start: usize,
     pub size: usize,
 }
 
-// A refusal: an empty part.
-pub fn refusal(why: Refusal) -> Finding
-    ensures { result ≡ finding_of (refusal (refusal_meant why)) }
+// Line n of the holding or of the file, counted from 1, without CR LF.
+pub fn line_found(s: &[u8], n: u64, side: Side) -> Part
+    requires { (1 ≤ n) × (n ≤ length (lines_of s.now)) }
+    ensures { part_meant result ≡ part_of (slice_meant side) (lines_of s.now) (n - 1) }
 {
-    Finding {
-        answer: faulted(why),
-        infile: false,
-        start: 0,
-        size: 0,
+    let line = line_at(s, n).unwrap();
+    Part {
+        side,
+        start: line.start,
+        size: line.end - line.start,
     }
 }
 
-// Line n of the holding or of the file, counted from 1, without CR LF.
-pub fn line_found(s: &[u8], n: u64, infile: bool) -> Finding
-    requires { (1 ≤ n) × (n ≤ length (lines_of s.now)) }
-    ensures { result ≡ finding_of (part_of (slice_of infile) (lines_of s.now) (n - 1)) }
+// The side on which that stands; the empty part of a refusal is one of the holding.
+pub fn side_of(found: Result<Part, Refusal>) -> Side
+    ensures { slice_meant result ≡ (found_said found).slice }
 {
-    let line = line_at(s, n);
-    Finding {
-        answer: passed(),
-        infile,
-        start: line.start,
-        size: line.end - line.start,
+    match found {
+        Ok(part) => part.side,
+        Err(_) => Side::Holding,
     }
 }

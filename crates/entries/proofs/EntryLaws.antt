@@ -1,7 +1,7 @@
 -- The laws of lines and entries: which line an entry names, and the keys of both.
 use mathlib.Core.List.{List, [], ◌∷◌}
 use mathlib.Core.Path.{◌≡◌, refl, sym, ap, ◌∙◌}
-use Prim.Native.Nat.{ℕ, ◌-◌, ◌/◌, ◌%◌, ◌<◌, ◌+◌}
+use Prim.Native.Nat.{ℕ, ◌-◌, ◌/◌, ◌%◌, ◌≤◌, ◌<◌, ◌+◌, max}
 use native.Mathlib.Omega.{arith}
 use borrow.Author.Rules.{rules}
 use borrow.Author.Tests.{eq-eqb, ne_eqb}
@@ -10,7 +10,7 @@ use Rattle.base.proofs.Walk.{at_end_lem}
 use Rattle.theory.specs.Lex.{cmp_n, lex}
 use Rattle.theory.specs.Tri.{Tri}
 use Rattle.meaning.specs.Lines.{identifier}
-use Rattle.meaning.specs.Records.{content_of}
+use Rattle.meaning.specs.Records.{Rec, content_of}
 use Rattle.meaning.specs.Kinds.{Kind}
 use Rattle.meaning.specs.Format.{kind_of}
 use Rattle.meaning.specs.Table.{scottish}
@@ -35,6 +35,26 @@ entry_held h f v e = rw (eq-eqb (v % 2) 0 e)
 pub entry_filed : (h f : List ℕ) (v : ℕ) → (v % 2 ≡ 0 → ⊥) → record_of h f v ≡ rec_of (line_at f (v / 2))
 unfolding record_of
 entry_filed h f v e = rw (ne_eqb (v % 2) 0 e)
+
+-- so its line is looked for in the one
+pub line_held : (h f s : List ℕ) (v : ℕ) → v % 2 ≡ 0 → s ≡ h → (rec_of (line_at s (v / 2)) ≡ record_of h f v) × (length s ≤ max (length h) (length f))
+line_held h f s v e q = (rw q (sym (entry_held h f v e)), omega (arith, ap length q))
+
+-- or in the other
+pub line_filed : (h f s : List ℕ) (v : ℕ) → (v % 2 ≡ 0 → ⊥) → s ≡ f → (rec_of (line_at s (v / 2)) ≡ record_of h f v) × (length s ≤ max (length h) (length f))
+line_filed h f s v e q = (rw q (sym (entry_filed h f v e)), omega (arith, ap length q))
+
+-- its key is that of its line
+pub key_entry : (x y : Rec) (r : List ℕ) → x ≡ y → r ≡ key_numbers x → r ≡ key_numbers y
+key_entry x y r e u = u ∙ ap key_numbers e
+
+pub ruleset entrykey = (rules, key_entry)
+
+-- and another is compared to it as to that
+pub order_entry : (x y : Rec) (k : List ℕ) (o : Tri) → x ≡ y → o ≡ lex k (key_numbers x) → o ≡ lex k (key_numbers y)
+order_entry x y k o e u = u ∙ ap (λ r. lex k (key_numbers r)) e
+
+pub ruleset keyagainst = (rules, order_entry)
 
 -- the entry of a line of the holding
 pub entry_even : (h f : List ℕ) (at v : ℕ) → v ≡ at + at → record_of h f v ≡ rec_of (line_at h at)
@@ -138,23 +158,3 @@ module _ (k : Kind) (c : List ℕ) (l : Layout) (e : l ≡ laid_out k) (x y seco
   rest_third third n q u = rw (← e, ← p, ← q) (lex_after x second (y ∷ []) (third ∷ []) o n (lex_last y third o u))
 
 pub ruleset restorder = (rules, rest_second, rest_third)
-
--- an even entry's key is read in the holding
-pub key_held_lem : (h f r : List ℕ) (v : ℕ) → v % 2 ≡ 0 → r ≡ key_numbers (rec_of (line_at h (v / 2))) → r ≡ key_numbers (record_of h f v)
-key_held_lem h f r v e u = u ∙ rw (entry_held h f v e)
-
--- an odd one's in the file
-pub key_filed : (h f r : List ℕ) (v : ℕ) → (v % 2 ≡ 0 → ⊥) → r ≡ key_numbers (rec_of (line_at f (v / 2))) → r ≡ key_numbers (record_of h f v)
-key_filed h f r v e u = u ∙ rw (entry_filed h f v e)
-
-pub ruleset entrykey = (rules, key_held_lem, key_filed)
-
--- a key is compared to an even entry's in the holding
-pub order_held : (h f : List ℕ) (j : List ℕ) (o : Tri) (v : ℕ) → v % 2 ≡ 0 → o ≡ lex j (key_numbers (rec_of (line_at h (v / 2)))) → o ≡ lex j (key_numbers (record_of h f v))
-order_held h f j o v e u = u ∙ rw (entry_held h f v e)
-
--- and to an odd one's in the file
-pub order_filed : (h f : List ℕ) (j : List ℕ) (o : Tri) (v : ℕ) → (v % 2 ≡ 0 → ⊥) → o ≡ lex j (key_numbers (rec_of (line_at f (v / 2)))) → o ≡ lex j (key_numbers (record_of h f v))
-order_filed h f j o v e u = u ∙ rw (entry_filed h f v e)
-
-pub ruleset keyagainst = (rules, order_held, order_filed)

@@ -2,12 +2,12 @@
 use mathlib.Core.Path.{◌≡◌, refl, sym, ap, ◌∙◌}
 use mathlib.Core.Bool.{Bool, true, false, not}
 use mathlib.Core.List.{List, [], ◌∷◌, nil≢cons}
-use Prim.Native.Nat.{ℕ, zero, suc, ◌+◌, ◌-◌, ◌≤◌, ◌<◌}
+use Prim.Native.Nat.{ℕ, zero, suc, ◌+◌, ◌-◌, ◌≤◌, ◌<◌, min}
 use native.Mathlib.Decide.{dec_lt}
 use native.Mathlib.Nat.{add-zero}
 use native.Mathlib.Omega.{arith}
 use borrow.Author.Rules.{rules}
-use borrow.Author.Tests.{not-true, not-false, eq-eqb, ne_eqb, lt-ltb, le-ltb}
+use borrow.Author.Tests.{eq-eqb, ne_eqb, lt-ltb, le-ltb}
 use lib.Dec.{ltb}
 use lib.ListN.{length, get_or, take, drop, length-take}
 use lib.Seq.{take-take}
@@ -33,7 +33,13 @@ line_over s i h = rw (at_end_lem s i h)
 pub start_end : (s : List ℕ) (at : ℕ) → length s < at → line_at s (length s) ≡ line_at s at
 start_end s at h = line_over s (length s) (omega arith) ∙ sym (line_over s at (omega arith))
 
-pub ruleset starts = (rules, start_end)
+-- and none is read beyond
+pub start_min : (s : List ℕ) (at r : ℕ) → r ≡ min at (length s) → (line_at s r ≡ line_at s at) × (r ≤ length s)
+start_min s at r e = (go (dec_lt (length s) at), omega arith)
+  where
+    go : Dec (length s < at) → line_at s r ≡ line_at s at
+    go (yes h) = let z : r ≡ length s = omega arith in rw z (start_end s at h)
+    go (no h) = let z : r ≡ at = omega arith in rw z
 
 -- where a CR LF stands a line is at its end
 line_ends : (s : List ℕ) (i : ℕ) (c : Bool) → c ≡ ends_here (drop i s) → c ≡ true → line_at s i ≡ []
@@ -134,8 +140,6 @@ module _ (s : List ℕ) (q : Bool) (i x : ℕ) (e : end_in s q i ≡ x) where
       pub end_other : (get_or s i 0 ≡ 44 → ⊥) → (get_or s i 0 ≡ 34 → ⊥) → c ≡ false → end_in s q (i + 1) ≡ x
       end_other m n t = end_pass q (pass_other s q i h m n c p t)
 
-pub ruleset within = (rules, not-true, not-false, end_done, end_over, end_comma, end_quoted, end_quote)
-
 -- ---- past a field at once
 
 -- a line is at its end, or has a byte
@@ -212,8 +216,6 @@ module _ (s : List ℕ) (i left : ℕ) (x : List ℕ) (v : after_fields left (li
     -- else a field is passed with its comma
     pub past_turn : e < length s → get_or s e 0 ≡ 44 → after_fields (left - 1) (line_at s (e + 1)) ≡ x
     past_turn m c = past _ s (length s) false i (omega arith) (λ a b d. rw (q, d) first_off) (λ a b. absurd (nil≢cons (sym (rw q a) ∙ line_byte s e m (λ z. omega arith))))
-
-pub ruleset pasts = (rules, past_done, past_over, past_ends, past_turn)
 
 -- three fields on the content stands
 pub content_three : (t : List ℕ) → after_fields 3 t ≡ content_of t

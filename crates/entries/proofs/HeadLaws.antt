@@ -3,10 +3,12 @@ use mathlib.Core.Path.{◌≡◌, refl, sym, ap, subst, ◌∙◌}
 use mathlib.Core.Bool.{Bool, true, false, not, ◌&&◌}
 use mathlib.Core.Option.{Option, none, some}
 use mathlib.Core.List.{List, [], ◌∷◌}
+use Rattle.std.specs.Prelude as std
+use Rattle.std.specs.Prelude.{Some, None}
+use Rattle.std.specs.Option.{unwrap_or}
 use Prim.Native.Nat.{ℕ, suc, ◌+◌, ◌-◌, ◌≤◌, ◌<◌}
 use native.Mathlib.Omega.{arith}
 use borrow.Author.Rules.{rules}
-use borrow.Author.Tests.{not-true, not-false}
 use lib.Dec.{T, eqb, leb, ltb, leb→le, eqb→eq}
 use lib.ListN.{length, get_or, take, drop}
 use Rattle.base.specs.Lists.{pick, all, up_to}
@@ -21,12 +23,51 @@ use Rattle.laws.specs.LinesAndFields.{quiet, no_quote}
 use Rattle.text.specs.Places.{field_len}
 use Rattle.text.proofs.FieldLaws.{fields_next}
 use Rattle.layout.specs.declared.kinds.Kind as code
-use Rattle.layout.specs.declared.kinds.KindFound as found
-use Rattle.layout.specs.declared.kinds.KindFound.TheVariants.{Known, Unknown}
 use Rattle.layout.specs.Meant.{kind_meant, kind_found}
 use Rattle.entries.specs.Entries.{known, line_at}
 use Rattle.entries.specs.Fields.{after_fields, first_field, paired, lettered}
 use Rattle.entries.proofs.FieldLaws.{end_in, end_over, end_comma, end_quote, past_turn, first_here}
+
+-- ---- tests, one after another
+
+-- a test that is met leaves it to the next
+pub and_then : (p v c : Bool) → p ≡ true → v ≡ c → v ≡ (p && c)
+and_then p v c t e = rw t e
+
+-- one that is not decides
+pub and_not : (p v c : Bool) → p ≡ false → v ≡ false → v ≡ (p && c)
+and_not p v c f e = rw f e
+
+-- with its own answer
+pub and_same : (p v c : Bool) → p ≡ false → v ≡ p → v ≡ (p && c)
+and_same p v c f e = and_not p v c f (e ∙ f)
+
+-- three of them leave it to a fourth, or decide
+pub three : (a b c d u v : Bool) → u ≡ (a && b) → v ≡ (u && c) → (v ≡ true → d ≡ (a && (b && (c && d)))) × (v ≡ false → v ≡ (a && (b && (c && d))))
+three a b c d u v e f = go a b c (f ∙ ap (λ z. z && c) e)
+  where
+    no : {A : Type 0} → v ≡ false → v ≡ true → A
+    no q t = let z : ◌≡◌ {A = Bool} false true = sym q ∙ t in cc
+
+    go : (a b c : Bool) → v ≡ ((a && b) && c) → (v ≡ true → d ≡ (a && (b && (c && d)))) × (v ≡ false → v ≡ (a && (b && (c && d))))
+    go true true true q = (λ t. refl, λ f. no f q)
+    go true true false q = (λ t. no q t, λ f. f)
+    go true false c q = (λ t. no q t, λ f. f)
+    go false b c q = (λ t. no q t, λ f. f)
+
+-- and so do four to a fifth
+pub four : (a b c d e u v w : Bool) → u ≡ (a && b) → v ≡ (u && c) → w ≡ (v && d) → (w ≡ true → e ≡ (a && (b && (c && (d && e))))) × (w ≡ false → w ≡ (a && (b && (c && (d && e)))))
+four a b c d e u v w p q r = go a b c d (r ∙ ap (λ z. z && d) (q ∙ ap (λ z. z && c) p))
+  where
+    no : {A : Type 0} → w ≡ false → w ≡ true → A
+    no q t = let z : ◌≡◌ {A = Bool} false true = sym q ∙ t in cc
+
+    go : (a b c d : Bool) → w ≡ (((a && b) && c) && d) → (w ≡ true → e ≡ (a && (b && (c && (d && e))))) × (w ≡ false → w ≡ (a && (b && (c && (d && e)))))
+    go true true true true q = (λ t. refl, λ f. no f q)
+    go true true true false q = (λ t. no q t, λ f. f)
+    go true true false d q = (λ t. no q t, λ f. f)
+    go true false c d q = (λ t. no q t, λ f. f)
+    go false b c d q = (λ t. no q t, λ f. f)
 
 -- ---- a line that begins as a held one does
 
@@ -67,15 +108,6 @@ pub pair_room : (s : List ℕ) (at : ℕ) (b : Bool) → b ≡ paired s at → b
 pair_room s at b p t = omega (arith, (pair_told s at (subst T (sym t ∙ p) tt)).room)
 
 pub ruleset pairing = (rules, pair_end, pair_room)
-
--- a line is a held one's where both beginnings are there
-pub head_not : (p b c : Bool) → b ≡ p → b ≡ false → false ≡ (p && c)
-head_not p b c e t = rw (sym e ∙ t)
-
-pub head_both : (p b c a : Bool) → b ≡ p → b ≡ true → a ≡ c → a ≡ (p && c)
-head_both p b c a e t u = rw (sym e ∙ t) u
-
-pub ruleset headings = (rules, not-true, not-false, head_not, head_both)
 
 -- seven bytes on two fields are passed
 head_passed : (s : List ℕ) (at : ℕ) → T (paired s at && lettered s at) → (line_at s (at + 7) ≡ after_fields 2 (line_at s at)) × (at + 7 ≤ length s)
@@ -138,16 +170,16 @@ kind_first t = go (kind_of scottish (identifier t)) (kind_of scottish (first_fie
     go none (some k) e f = ap (kind_of scottish) (quiet_first t (rw (kind_out scottish (first_field t) k f) (all_map quiet no_quote (λ x. and_r (not (eqb x 44)) (not (eqb x 34))) (ident k) (ident_quiet k))))
     go none none e f = f ∙ sym e
 
-pub kind_by_first : (t f : List ℕ) (r : found.KindFound) → f ≡ first_field t → kind_found r ≡ kind_of scottish f → kind_found r ≡ kind_of scottish (identifier t)
+pub kind_by_first : (t f : List ℕ) (r : std.Option code.Kind) → f ≡ first_field t → kind_found r ≡ kind_of scottish f → kind_found r ≡ kind_of scottish (identifier t)
 kind_by_first t f r q g = g ∙ rw q (kind_first t)
 
-module _ (t : List ℕ) (r : found.KindFound) (g : kind_found r ≡ kind_of scottish (identifier t)) where
-  -- the kind of a line is its identifier's
-  pub kind_known : (k : code.Kind) → r ≡ Known k → kind_meant k ≡ known (kind_of scottish (identifier t))
-  kind_known k u = rw (← g, u)
+module _ (t : List ℕ) (r : std.Option code.Kind) (g : kind_found r ≡ kind_of scottish (identifier t)) where
+  -- the kind of a line is its identifier's; an unknown one is taken for a header's
+  pub kind_known : (h k : code.Kind) → kind_meant h ≡ header → k ≡ unwrap_or r h → kind_meant k ≡ known (kind_of scottish (identifier t))
+  kind_known h k z u = ap kind_meant u ∙ go r ∙ ap known g
+    where
+      go : (o : std.Option code.Kind) → kind_meant (unwrap_or o h) ≡ known (kind_found o)
+      go (Some x) = refl
+      go None = z
 
-  -- an unknown one is taken for a header's
-  pub kind_unknown : r ≡ Unknown → header ≡ known (kind_of scottish (identifier t))
-  kind_unknown u = rw (← g, u)
-
-pub ruleset kinding = (rules, kind_by_first, kind_known, kind_unknown)
+pub ruleset kinding = (rules, kind_by_first, kind_known)

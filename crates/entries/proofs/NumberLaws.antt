@@ -2,16 +2,17 @@
 use mathlib.Core.Path.{◌≡◌, refl, sym, ◌∙◌}
 use mathlib.Core.Bool.{Bool, true, false, not, ◌||◌}
 use mathlib.Core.List.{List, []}
-use Prim.Native.Nat.{ℕ, suc, ◌+◌, ◌-◌, ◌*◌, ◌≤◌, ◌<◌}
+use Prim.Native.Nat.{ℕ, suc, ◌+◌, ◌-◌, ◌*◌, ◌≤◌, ◌<◌, min, ◌^◌}
+use mir.Syntax.{w64}
+use mir.Val.{Fits}
 use native.Mathlib.Decide.{dec_lt}
-use native.Mathlib.Nat.{add-zero}
 use native.Mathlib.Omega.{arith}
 use borrow.Author.Rules.{rules}
-use borrow.Author.Tests.{eq-eqb, lt-ltb, le-ltb}
-use lib.Dec.{T, eqb, ltb}
+use borrow.Author.Tests.{eq-eqb}
+use lib.Dec.{T, eqb}
 use lib.ListN.{length, get_or, take}
 use lib.Seq.{take-nil}
-use Rattle.base.specs.Lists.{pick, zeros}
+use Rattle.base.specs.Lists.{zeros}
 use Rattle.theory.specs.Decimal.{value, value_f}
 use Rattle.meaning.specs.Lines.{is_sep, fields_of}
 use Rattle.meaning.specs.Forms.{Form, is_textual, is_empty}
@@ -30,57 +31,58 @@ use Rattle.entries.specs.Entries.{line_at}
 use Rattle.entries.specs.Fields.{after_fields, first_field}
 use Rattle.entries.proofs.FieldLaws.{pass_over, line_over, line_byte, field_after}
 
--- ---- room
-
-pub room_short_lem : (n : ℕ) → n < 16 → n ≡ pick (ltb n 16) n 16
-room_short_lem n h = rw (lt-ltb n 16 h)
-
-pub room_long : (n : ℕ) → 16 ≤ n → 16 ≡ pick (ltb n 16) n 16
-room_long n h = rw (le-ltb n 16 h)
-
-pub ruleset rooms = (rules, room_short_lem, room_long)
-
--- ---- the walk of a number, k bytes on
+-- ---- the walk of a number, at i
 
 -- the bytes that are left of it
 abbrev pub left_of : List ℕ → ℕ → ℕ → List ℕ
-left_of s at k = take (16 - k) (first_field (line_at s (at + k)))
+left_of s at i = take (16 - (i - at)) (first_field (line_at s i))
 
 -- at the start all are
-pub value_start : (s : List ℕ) (at : ℕ) → value_f 0 (left_of s at 0) ≡ value (take 16 (first_field (line_at s at)))
+pub value_start : (s : List ℕ) (at : ℕ) → value_f 0 (left_of s at at) ≡ value (take 16 (first_field (line_at s at)))
 unfolding value
-value_start s at = rw (add-zero at)
+value_start s at = let z : 16 - (at - at) ≡ 16 = omega arith in rw z
 
-module _ (s : List ℕ) (at k v x : ℕ) (e : value_f v (left_of s at k) ≡ x) where
-  module _ (most : ℕ) (h : at + most ≤ length s) (l : most ≤ 16) (m : k < most) where
+module _ (s : List ℕ) (at i v x : ℕ) (e : value_f v (left_of s at i) ≡ x) (a : at ≤ i) (most : ℕ) (q : most ≡ min (length s) (at + 16)) where
+  module _ (m : i < most) where
     -- a comma ends it
-    pub value_comma : get_or s (at + k) 0 ≡ 44 → v ≡ x
+    pub value_comma : get_or s i 0 ≡ 44 → v ≡ x
     unfolding value_f first_field field_len is_sep
-    value_comma c = rw (line_byte s (at + k) (omega arith) (λ z. absurd (omega arith)), eq-eqb (get_or s (at + k) 0) 44 c, take-nil {A = ℕ} (16 - k)) at e
+    value_comma c = rw (line_byte s i (omega arith) (λ z. absurd (omega arith)), eq-eqb (get_or s i 0) 44 c, take-nil {A = ℕ} (16 - (i - at))) at e
 
     -- a byte above is a digit more
-    pub value_turn : (d : ℕ) → 48 ≤ get_or s (at + k) 0 → d ≡ get_or s (at + k) 0 - 48 → value_f (v * 10 + d) (left_of s at (k + 1)) ≡ x
+    pub value_turn : (d : ℕ) → 48 ≤ get_or s i 0 → d ≡ get_or s i 0 - 48 → value_f (v * 10 + d) (left_of s at (i + 1)) ≡ x
     unfolding value_f first_field field_len
-    value_turn d b q =
-        let p = pass_over s false (at + k) (omega arith) (omega arith) in
-        let n : 16 - k ≡ suc (16 - (k + 1)) = omega arith in
-        let z : at + (k + 1) ≡ at + k + 1 = omega arith in
-        rw (q, z) (rw (n, p.byte, p.joins, p.turns) at e)
+    value_turn d b r =
+        let p = pass_over s false i (omega arith) (omega arith) in
+        let n : 16 - (i - at) ≡ suc (16 - (i + 1 - at)) = omega arith in
+        rw r (rw (n, p.byte, p.joins, p.turns) at e)
+
+    module _ (w : v + 23 ≤ 23 * 10 ^ (i - at)) where
+      -- which is little enough for as many
+      pub worth_next : (d : ℕ) → d ≤ 207 → v * 10 + d + 23 ≤ 23 * 10 ^ (i + 1 - at)
+      worth_next d h = let z : i + 1 - at ≡ i - at + 1 = omega arith in rw z (worth_turn v (i - at) d w h)
+
+      -- so that it can be written
+      pub next_fits : (d : ℕ) → d ≤ 207 → Fits w64 (v * 10 + d)
+      next_fits d h = worth_fits v (i - at) 16 d w (omega arith) (omega arith) h
+
+      pub tenfold_fits : Fits w64 (v * 10)
+      tenfold_fits = ten_fits v (i - at) 16 w (omega arith) (omega arith)
 
   -- no room is left for more
-  pub value_done : (most : ℕ) → most ≡ pick (ltb (length s - at) 16) (length s - at) 16 → at ≤ length s → most ≤ k → v ≡ x
+  pub value_done : at ≤ length s → i ≤ most → most ≤ i → v ≡ x
   unfolding value_f first_field
-  value_done most q a h = go (dec_lt (length s - at) 16)
+  value_done b g h = go (dec_lt (length s) (at + 16))
     where
-      go : Dec (length s - at < 16) → v ≡ x
-      go (yes l) = let m : most ≡ length s - at = q ∙ rw (lt-ltb (length s - at) 16 l) in rw (line_over s (at + k) (omega arith), take-nil {A = ℕ} (field_len false []), take-nil {A = ℕ} (16 - k)) at e
-      go (no l) = let m : most ≡ 16 = q ∙ rw (le-ltb (length s - at) 16 (omega arith)) in let n : 16 - k ≡ 0 = omega arith in rw n at e
+      go : Dec (length s < at + 16) → v ≡ x
+      go (yes l) = rw (line_over s i (omega arith), take-nil {A = ℕ} (field_len false []), take-nil {A = ℕ} (16 - (i - at))) at e
+      go (no l) = let n : 16 - (i - at) ≡ 0 = omega arith in rw n at e
 
 -- another byte leaves it to the field
 pub value_field : (f t : List ℕ) (n : ℕ) → f ≡ first_field t → n ≡ value (take 16 f) → n ≡ value (take 16 (first_field t))
 value_field f t n p e = rw (← p) e
 
-pub ruleset valuing = (rules, value_start, value_comma, value_turn, value_done, value_field, worth_turn, worth_fits, ten_fits)
+pub ruleset valuing = (rules, value_start, value_comma, value_turn, value_done, value_field, worth_next, next_fits, tenfold_fits)
 
 -- ---- the number of a field
 

@@ -1,34 +1,36 @@
 -- The laws of references: what a field refers to, and what a record does.
-use mathlib.Core.Path.{◌≡◌, refl, sym, subst, ◌∙◌}
-use mathlib.Core.Bool.{Bool, true, false}
+use mathlib.Core.Path.{◌≡◌, refl, sym, ap, subst, ◌∙◌}
+use mathlib.Core.Bool.{Bool, true, false, ◌&&◌}
 use mathlib.Core.Option.{Option, none, some}
 use mathlib.Core.List.{List, [], ◌∷◌}
-use Prim.Native.Nat.{ℕ, ◌-◌, ◌/◌, ◌%◌, ◌≤◌}
+use Rattle.std.specs.Prelude as std
+use Prim.Native.Nat.{ℕ, ◌-◌, ◌≤◌}
 use borrow.Author.Rules.{rules}
-use borrow.Author.Tests.{not-true, not-false}
+use borrow.Author.Tests.{not-true, not-false, eq-eqb, ne_eqb}
+use native.Mathlib.Omega.{arith}
+use lib.Dec.{eqb}
 use lib.ListN.{get_or}
 use Rattle.base.specs.Lists.{pick}
-use Rattle.theory.specs.Tri.{is_eq}
-use Rattle.theory.specs.Lex.{lex}
+use Rattle.theory.specs.Tri.{Tri, lt, eq, gt, is_eq}
+use Rattle.theory.specs.Lex.{cmp_n, Is, and_then, lex}
+use Rattle.theory.specs.LexLaws.{cmp_n_is}
 use Rattle.meaning.specs.Lines.{identifier}
 use Rattle.meaning.specs.Forms.{Form, is_empty}
 use Rattle.meaning.specs.Kinds.{Kind}
 use Rattle.meaning.specs.Format.{kind_of}
 use Rattle.meaning.specs.Table.{scottish}
-use Rattle.text.specs.declared.order.Order.{Order}
-use Rattle.text.specs.Order.{tri_of}
+use Rattle.meaning.specs.Records.{Rec}
 use Rattle.layout.specs.declared.records.Layout.{Layout}
 use Rattle.layout.specs.Rows.{row_of, laid_out}
 use Rattle.keys.specs.declared.Key.{Key}
-use Rattle.keys.specs.declared.Referred.{Referred}
 use Rattle.keys.specs.Numbers.{number_of, key_list, referred_as, key_numbers, ref_at}
 use Rattle.keys.proofs.KeyLaws.{refs_are}
-use Rattle.keys.proofs.RowLaws.{ref_beyond, ref_low, ref_none, ref_some}
-use Rattle.entries.specs.Entries.{known, rec_of, line_at, record_of}
+use Rattle.keys.proofs.RowLaws.{ref_low, ref_none, ref_some}
+use Rattle.entries.specs.Entries.{known, rec_of, line_at}
 use Rattle.entries.specs.Fields.{after_fields, first_field, by_field}
 use Rattle.entries.specs.declared.references.Named.{Named}
 use Rattle.entries.specs.References.{RefersAs}
-use Rattle.entries.proofs.EntryLaws.{entry_held, entry_filed, rec_at}
+use Rattle.entries.proofs.EntryLaws.{rec_at}
 use Rattle.entries.proofs.NumberLaws.{number_placed_lem, empty_placed}
 
 -- ---- what a field refers to
@@ -60,32 +62,53 @@ module _ (k : Kind) (s : List ℕ) (c j : ℕ) (l : Layout) (e : l ≡ laid_out 
       go true b = ref_none k (line_at s c) j l e h true (empty_placed k s c place i m p u w true (sym b)) refl
       go false b = ref_some k (line_at s c) j l e h false (empty_placed k s c place i m p u w false (sym b)) (number_of m (first_field (line_at s i))) refl (number_placed_lem k s c place i m p u w (number_of m (first_field (line_at s i))) refl)
 
-pub ruleset rowat = (rules, ref_beyond, ref_low, at_field)
+pub ruleset rowat = (rules, ref_low, at_field)
 
--- two keys are the same where they are compared so
-pub same_told : (x y : List ℕ) (o p : Order) (b : Bool) → tri_of o ≡ lex x y → o ≡ p → b ≡ is_eq (tri_of p) → b ≡ is_eq (lex x y)
-same_told x y o p b t q h = rw (← t, q) h
+-- ---- keys that are the same
 
-pub ruleset samekey = (rules, same_told)
+same_number : (x y : ℕ) → eqb x y ≡ is_eq (cmp_n x y)
+same_number x y = go (cmp_n x y) (cmp_n_is x y)
+  where
+    go : (c : Tri) → Is c x y → eqb x y ≡ is_eq c
+    go lt h = ne_eqb x y (λ z. absurd (omega arith))
+    go eq h = eq-eqb x y h
+    go gt h = ne_eqb x y (λ z. absurd (omega arith))
+
+same_then : (c d : Tri) → (is_eq c && is_eq d) ≡ is_eq (and_then c d)
+unfolding and_then
+same_then lt d = refl
+same_then eq d = refl
+same_then gt d = refl
+
+-- two keys are the same where their numbers are
+pub same_key : (a b c d x y z w : ℕ) (r : Bool) → r ≡ (eqb a x && (eqb b y && (eqb c z && eqb d w))) → r ≡ is_eq (lex (a ∷ b ∷ c ∷ d ∷ []) (x ∷ y ∷ z ∷ w ∷ []))
+unfolding lex and_then
+same_key a b c d x y z w r e =
+    e
+    ∙ rw (same_number a x, same_number b y, same_number c z, same_number d w)
+    (ap (λ l. is_eq (cmp_n a x) && (is_eq (cmp_n b y) && l)) (last (cmp_n c z) (cmp_n d w))
+    ∙ ap (λ l. is_eq (cmp_n a x) && l) (same_then (cmp_n b y) _)
+    ∙ same_then (cmp_n a x) _)
+  where
+    last : (c d : Tri) → (is_eq c && is_eq d) ≡ is_eq (and_then c (and_then d eq))
+    last c lt = same_then c lt
+    last c eq = same_then c eq
+    last c gt = same_then c gt
 
 -- ---- what a record refers to
 
 -- the record of the line at an offset by its two rows
-pub refers_at : (s : List ℕ) (at i c : ℕ) (k : Kind) (own : Key) (first second : Referred) → line_at s i ≡ line_at s at → k ≡ known (kind_of scottish (identifier (line_at s i))) → line_at s c ≡ after_fields 3 (line_at s i)
+pub refers_at : (s : List ℕ) (at i c : ℕ) (k : Kind) (own : Key) (first second : std.Option Key) → line_at s i ≡ line_at s at → k ≡ known (kind_of scottish (identifier (line_at s i))) → line_at s c ≡ after_fields 3 (line_at s i)
     → key_list own ≡ key_numbers (record { kind = k; content = line_at s c }) → referred_as first ≡ ref_at k (line_at s c) 0 → referred_as second ≡ ref_at k (line_at s c) 1
-    → RefersAs (rec_of (line_at s at)) (record { own = own; first = first; second = second })
+    → RefersAs (rec_of (line_at s at)) (record { own = own; to = first ∷ (second ∷ []) })
 refers_at s at i c k own first second p q u v w x =
     let r : record { kind = k; content = line_at s c } ≡ rec_of (line_at s at) = rw u (rec_at s at i k p q) in
-    subst (λ y. RefersAs y (record { own = own; first = first; second = second })) r (record { own = v; refs = rw (w, x) (sym (refs_are (record { kind = k; content = line_at s c }))) })
+    subst (λ y. RefersAs y (record { own = own; to = first ∷ (second ∷ []) })) r (record { own = v; refs = rw (w, x) (sym (refs_are (record { kind = k; content = line_at s c }))) })
 
 pub ruleset atrefers = (rules, refers_at)
 
--- an even entry's record is read in the holding
-pub refers_held : (h f : List ℕ) (v : ℕ) (r : Named) → v % 2 ≡ 0 → RefersAs (rec_of (line_at h (v / 2))) r → RefersAs (record_of h f v) r
-refers_held h f v r e u = subst (λ x. RefersAs x r) (sym (entry_held h f v e)) u
+-- an entry's record by its line
+pub refers_entry : (x y : Rec) (r : Named) → x ≡ y → RefersAs x r → RefersAs y r
+refers_entry x y r e u = subst (λ x. RefersAs x r) e u
 
--- an odd one's in the file
-pub refers_filed : (h f : List ℕ) (v : ℕ) (r : Named) → (v % 2 ≡ 0 → ⊥) → RefersAs (rec_of (line_at f (v / 2))) r → RefersAs (record_of h f v) r
-refers_filed h f v r e u = subst (λ x. RefersAs x r) (sym (entry_filed h f v e)) u
-
-pub ruleset entryrefers = (rules, refers_held, refers_filed)
+pub ruleset entryrefers = (rules, refers_entry)

@@ -1,8 +1,9 @@
 -- The laws of tags: where they differ they stand in the order of keys, and an even one is of one key only.
 use mathlib.Core.Path.{◌≡◌, refl, sym, ap, ◌∙◌, subst}
-use mathlib.Core.Bool.{Bool, true, false, ◌&&◌}
+use mathlib.Core.Bool.{Bool, true, false, not, ◌&&◌}
 use mathlib.Core.Option.{Option, none, some}
 use mathlib.Core.List.{List, [], ◌∷◌}
+use Rattle.std.specs.Prelude.{Some, None}
 use Prim.Native.Nat.{ℕ, ◌+◌, ◌-◌, ◌*◌, ◌/◌, ◌%◌, ◌≤◌, ◌<◌}
 use native.Mathlib.Decide.{dec_le}
 use native.Mathlib.Nat.{lt_of_not-le}
@@ -11,7 +12,7 @@ use native.Mathlib.Omega.{arith}
 use borrow.Author.Rules.{rules}
 use borrow.Author.Tests.{le-leb, lt-leb, eq-eqb, ne_eqb}
 use mir.Syntax.{w64}
-use mir.Val.{Fits}
+use mir.Val.{Fits, bool_byte as from_bool}
 use lib.Dec.{eqb, eqb→eq}
 use lib.ListN.{get_or}
 use Rattle.base.specs.Lists.{pick}
@@ -22,7 +23,6 @@ use Rattle.meaning.specs.Kinds.{Kind}
 use Rattle.meaning.specs.Records.{Rec}
 use Rattle.layout.specs.Rows.{laid_out}
 use Rattle.keys.specs.declared.Key.{Key}
-use Rattle.keys.specs.declared.Referred.TheVariants.{To, Nothing}
 use Rattle.keys.specs.Numbers.{key_list, key_numbers, referred_as, ref_at}
 use Rattle.keys.specs.Places.{number_at, empty_at}
 use Rattle.keys.proofs.RowLaws.{ref_none, ref_some}
@@ -32,22 +32,27 @@ use Rattle.entries.proofs.EntryLaws.{key_numbers_lem}
 
 -- ---- a key that is more than its first two numbers
 
--- a second number
-pub loose_second : (c d : ℕ) → (c ≡ 0 → ⊥) → 1 ≡ looseness c d
-unfolding looseness
-loose_second c d n = rw (ne_eqb c 0 n)
-
--- or a third
-pub loose_third : (c d : ℕ) → c ≡ 0 → (d ≡ 0 → ⊥) → 1 ≡ looseness c d
-unfolding looseness
-loose_third c d e n = rw (eq-eqb c 0 e, ne_eqb d 0 n)
-
--- or neither
+-- of neither there is none
 pub loose_none : (c d : ℕ) → c ≡ 0 → d ≡ 0 → 0 ≡ looseness c d
 unfolding looseness
 loose_none c d e f = rw (eq-eqb c 0 e, eq-eqb d 0 f)
 
-pub ruleset loosely = (rules, loose_second, loose_third, loose_none)
+-- one is not zero where the first is not
+pub loose_one : (c d : ℕ) (b : Bool) → (c ≡ 0 → ⊥) → b ≡ not (eqb c 0) → b ≡ not (eqb c 0 && eqb d 0)
+loose_one c d b n e = e ∙ rw (ne_eqb c 0 n)
+
+-- or where the second is not
+pub loose_other : (c d : ℕ) (b : Bool) → c ≡ 0 → b ≡ not (eqb d 0) → b ≡ not (eqb c 0 && eqb d 0)
+loose_other c d b z e = e ∙ rw (eq-eqb c 0 z)
+
+-- it is whether one of them is
+pub loose_told : (c d r : ℕ) (b : Bool) → r ≡ from_bool b → b ≡ not (eqb c 0 && eqb d 0) → (r ≡ looseness c d) × (r ≤ 1)
+unfolding looseness
+loose_told c d r b e q = go (eqb c 0 && eqb d 0) (e ∙ ap from_bool q)
+  where
+    go : (p : Bool) → r ≡ from_bool (not p) → (r ≡ pick p 0 1) × (r ≤ 1)
+    go true e = (e, omega (arith, e))
+    go false e = (e, omega (arith, e))
 
 -- what it says
 loose_cases : (c d : ℕ) → looseness c d ≤ 1 × (looseness c d ≡ 0 → (c ≡ 0) × (d ≡ 0))
@@ -283,12 +288,12 @@ pub ruleset tagorder = (rules, tags_before, tags_after, tags_same)
 -- ---- of what is referred to
 
 -- the tag of no key says that nothing is
-pub untag_none : (v : ℕ) → v ≡ no_tag → ref_tagged v ≡ Nothing
+pub untag_none : (v : ℕ) → v ≡ no_tag → ref_tagged v ≡ None
 unfolding ref_tagged
 untag_none v e = rw (eq-eqb v no_tag e)
 
 -- another its key
-pub untag_some : (v : ℕ) → (v ≡ no_tag → ⊥) → ref_tagged v ≡ To (key_tagged v)
+pub untag_some : (v : ℕ) → (v ≡ no_tag → ⊥) → ref_tagged v ≡ Some (key_tagged v)
 unfolding ref_tagged
 untag_some v n = rw (ne_eqb v no_tag n)
 

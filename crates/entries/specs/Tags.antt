@@ -1,11 +1,11 @@
 -- A number for each key, whose order agrees with the order of keys.
+use Rattle.std.specs.Prelude as std
+use Rattle.std.specs.Prelude.{Some, None}
 use Rattle.std.specs.Prelude.{◌≡◌, ◌&&◌, List, ℕ, ◌+◌, ◌*◌, ◌/◌, ◌%◌, leb, eqb, get_or}
 use Rattle.std.proofs.Math.Option.{Option, none, some}
 use Rattle.base.specs.Lists.{pick}
 use Rattle.meaning.specs.Records.{Rec}
 use Rattle.keys.specs.declared.Key.{Key}
-use Rattle.keys.specs.declared.Referred.{Referred}
-use Rattle.keys.specs.declared.Referred.TheVariants.{To, Nothing}
 use Rattle.keys.specs.Numbers.{key_list, key_numbers, ref_at}
 
 -- the tags of one kind
@@ -39,8 +39,8 @@ abbrev pub key_tagged : ℕ → Key
 key_tagged v = record { kind = v / span; first = v % span / 2; second = 0; third = 0 }
 
 -- what an even tag says is referred to
-unfoldable pub ref_tagged : ℕ → Referred
-ref_tagged v = pick (eqb v no_tag) Nothing (To (key_tagged v))
+unfoldable pub ref_tagged : ℕ → std.Option Key
+ref_tagged v = pick (eqb v no_tag) None (Some (key_tagged v))
 
 -- a tag is that of no key, or an even one
 pub record Tells (v : ℕ) : Type 0 where

@@ -10,10 +10,7 @@ use text::lines::ends_at;
 pub fn line_start(bytes: &[u8], at: usize) -> usize
     ensures { (line_at bytes.now result ≡ line_at bytes.now at) × (result ≤ length bytes.now) }
 {
-    if bytes.len() < at {
-        return bytes.len();
-    }
-    at
+    at.min(bytes.len())
 }
 
 // Where the field at `at` ends: at the next separator, or where the line does. Most bytes are above commas, quotes and line ends.
@@ -22,31 +19,22 @@ pub fn field_end(bytes: &[u8], at: usize) -> usize
     ensures { (result ≡ at + field_len false (line_at bytes.now at)) × (at ≤ result) × (result ≤ length bytes.now) }
 {
     let mut quoted = false;
-    let mut i = at;
-    while i < bytes.len() {
+    for i in at..bytes.len() {
         let b = bytes[i];
-        if 44 < b {
-            i += 1;
+        if b'-' <= b {
             continue;
         }
-        if b == 44 {
+        if b == b',' {
             if !quoted {
                 return i;
             }
-            i += 1;
-            continue;
-        }
-        if b == 34 {
+        } else if b == b'"' {
             quoted = !quoted;
-            i += 1;
-            continue;
-        }
-        if ends_at(bytes, i) {
+        } else if ends_at(bytes, i) {
             return i;
         }
-        i += 1;
     }
-    i
+    bytes.len()
 }
 
 // Where what stands in the line after `count` fields starts.
@@ -54,18 +42,13 @@ pub fn past_fields(bytes: &[u8], at: usize, count: usize) -> usize
     requires { at ≤ length bytes.now }
     ensures { (line_at bytes.now result ≡ after_fields count (line_at bytes.now at)) × (result ≤ length bytes.now) }
 {
-    let mut left = count;
     let mut i = at;
-    while 0 < left {
+    for _ in 0..count {
         let end = field_end(bytes, i);
-        if bytes.len() <= end {
-            return end;
-        }
-        if bytes[end] != 44 {
+        if bytes.len() <= end || bytes[end] != b',' {
             return end;
         }
         i = end + 1;
-        left -= 1;
     }
     i
 }

@@ -8,23 +8,14 @@ ghost use Rattle.entries.specs.Entries.{known, line_at};
 ghost use Rattle.entries.specs.Fields.{after_fields, first_field, paired, lettered};
 
 use crate::fields::{first_field, past_fields};
-use layout::kinds::{Kind, KindFound};
+use layout::kinds::Kind;
 
 // Whether the line at `at` begins with two bytes before a comma, as that of every known kind does.
 fn is_paired(bytes: &[u8], at: usize) -> bool
     requires { at ≤ length bytes.now }
     ensures { result ≡ paired bytes.now at }
 {
-    if bytes.len() - at < 3 {
-        return false;
-    }
-    if bytes[at] <= 44 {
-        return false;
-    }
-    if bytes[at + 1] <= 44 {
-        return false;
-    }
-    bytes[at + 2] == 44
+    3 <= bytes.len() - at && 44 < bytes[at] && 44 < bytes[at + 1] && bytes[at + 2] == b','
 }
 
 // Whether a byte between quotes before a comma follows on that.
@@ -32,19 +23,11 @@ fn is_lettered(bytes: &[u8], at: usize) -> bool
     requires { at ≤ length bytes.now }
     ensures { result ≡ lettered bytes.now at }
 {
-    if bytes.len() - at < 7 {
-        return false;
-    }
-    if bytes[at + 3] != 34 {
-        return false;
-    }
-    if bytes[at + 4] <= 44 {
-        return false;
-    }
-    if bytes[at + 5] != 34 {
-        return false;
-    }
-    bytes[at + 6] == 44
+    7 <= bytes.len() - at
+        && bytes[at + 3] == b'"'
+        && 44 < bytes[at + 4]
+        && bytes[at + 5] == b'"'
+        && bytes[at + 6] == b','
 }
 
 // Whether the line at `at` begins as a held one does.
@@ -52,10 +35,7 @@ fn is_headed(bytes: &[u8], at: usize) -> bool
     requires { at ≤ length bytes.now }
     ensures { result ≡ (paired bytes.now at && lettered bytes.now at) }
 {
-    if !is_paired(bytes, at) {
-        return false;
-    }
-    is_lettered(bytes, at)
+    is_paired(bytes, at) && is_lettered(bytes, at)
 }
 
 // Where the content of the line at `at` starts: what stands after its third field.
@@ -85,8 +65,5 @@ pub fn kind_at(bytes: &[u8], at: usize) -> Kind
     requires { at ≤ length bytes.now }
     ensures { kind_meant result ≡ known (kind_of scottish (identifier (line_at bytes.now at))) }
 {
-    match layout::check::kind_of(identifier_at(bytes, at)) {
-        KindFound::Known(kind) => kind,
-        KindFound::Unknown => Kind::Header,
-    }
+    layout::check::kind_of(identifier_at(bytes, at)).unwrap_or(Kind::Header)
 }

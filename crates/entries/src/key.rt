@@ -11,26 +11,24 @@ ghost use Rattle.entries.specs.Fields.{after_fields, rest_numbers};
 use crate::fields::line_start;
 use crate::heads::{content_at, kind_at};
 use crate::numbers::{first_number, number_at};
+use crate::record::line_of;
 use keys::Key;
 use layout::kinds::{HeldKind, Kind};
 use layout::records::Layout;
 use layout::rules::layout;
-use text::order::{Order, numbers};
+use std::cmp::Ordering;
+use text::order::numbers;
 
 // The key, by its kind's layout, of a record whose content stands in the line from `content` on.
 fn key_by(l: Layout, kind: Kind, bytes: &[u8], content: usize) -> Key
     requires { (content ≤ length bytes.now) × (l ≡ laid_out (kind_meant kind)) }
     ensures { key_list result ≡ key_numbers (record { kind = kind_meant kind; content = line_at bytes.now content }) }
 {
-    let places = l.key;
-    let first = number_at(kind, bytes, content, places[0]);
-    let second = number_at(kind, bytes, content, places[1]);
-    let third = number_at(kind, bytes, content, places[2]);
     Key {
         kind: l.number,
-        first: first,
-        second: second,
-        third: third,
+        first: number_at(kind, bytes, content, l.key[0]),
+        second: number_at(kind, bytes, content, l.key[1]),
+        third: number_at(kind, bytes, content, l.key[2]),
     }
 }
 
@@ -63,20 +61,16 @@ pub fn record_key(bytes: &[u8], at: usize) -> Key
 pub fn entry_key(holding: &[u8], file: &[u8], entry: u64) -> Key
     ensures { key_list result ≡ key_numbers (record_of holding.now file.now entry) }
 {
-    let at = (entry / 2) as usize;
-    if entry % 2 == 0 {
-        return record_key(holding, at);
-    }
-    record_key(file, at)
+    let (bytes, at) = line_of(holding, file, entry);
+    record_key(bytes, at)
 }
 
 // How the second and third numbers of a key stand to those of a record whose content stands in the line from `content` on.
-fn rest_against(kind: Kind, bytes: &[u8], content: usize, key: Key) -> Order
+fn rest_against(kind: Kind, bytes: &[u8], content: usize, key: Key) -> Ordering
     requires { content ≤ length bytes.now }
     ensures { tri_of result ≡ lex (key.second ∷ (key.third ∷ [])) (rest_numbers (kind_meant kind) (line_at bytes.now content)) }
 {
-    let l = layout(kind);
-    let places = l.key;
+    let places = layout(kind).key;
     let second = number_at(kind, bytes, content, places[1]);
     if key.second != second {
         return numbers(key.second, second);
@@ -86,13 +80,13 @@ fn rest_against(kind: Kind, bytes: &[u8], content: usize, key: Key) -> Order
 
 // How a key stands to that of a record of a kind in the line from `start` on: no field is read where the kinds tell, and no second
 // field where the first ones do.
-fn against_at(kind: Kind, bytes: &[u8], start: usize, key: Key) -> Order
+fn against_at(kind: Kind, bytes: &[u8], start: usize, key: Key) -> Ordering
     requires { start ≤ length bytes.now }
     ensures { tri_of result ≡ lex (key_list key) (key_numbers (record { kind = kind_meant kind; content = after_fields 3 (line_at bytes.now start) })) }
 {
-    let l = layout(kind);
-    if key.kind != l.number {
-        return numbers(key.kind, l.number);
+    let number = layout(kind).number;
+    if key.kind != number {
+        return numbers(key.kind, number);
     }
     let content = content_at(bytes, start);
     let first = first_number(kind, bytes, content);
@@ -103,7 +97,7 @@ fn against_at(kind: Kind, bytes: &[u8], start: usize, key: Key) -> Order
 }
 
 // How a key stands to that of the record whose line starts at `at`.
-pub fn against_line(bytes: &[u8], at: usize, key: Key) -> Order
+pub fn against_line(bytes: &[u8], at: usize, key: Key) -> Ordering
     ensures { tri_of result ≡ lex (key_list key) (key_numbers (rec_of (line_at bytes.now at))) }
 {
     let start = line_start(bytes, at);
@@ -111,12 +105,9 @@ pub fn against_line(bytes: &[u8], at: usize, key: Key) -> Order
 }
 
 // How a key stands to an entry's.
-pub fn against(holding: &[u8], file: &[u8], entry: u64, key: Key) -> Order
+pub fn against(holding: &[u8], file: &[u8], entry: u64, key: Key) -> Ordering
     ensures { tri_of result ≡ lex (key_list key) (key_numbers (record_of holding.now file.now entry)) }
 {
-    let at = (entry / 2) as usize;
-    if entry % 2 == 0 {
-        return against_line(holding, at, key);
-    }
-    against_line(file, at, key)
+    let (bytes, at) = line_of(holding, file, entry);
+    against_line(bytes, at, key)
 }

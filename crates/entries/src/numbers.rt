@@ -1,6 +1,5 @@
 // The number of the field at an offset of a line, by which keys compare it.
-ghost use Rattle.std.specs.Prelude.{◌≡◌, ◌+◌, ◌-◌, ◌≤◌, ltb, length, get_or, take};
-ghost use Rattle.base.specs.Lists.{pick};
+ghost use Rattle.std.specs.Prelude.{◌≡◌, ◌≤◌, length, get_or, take};
 ghost use Rattle.theory.specs.Decimal.{value};
 ghost use Rattle.form.specs.Meant.{meant};
 ghost use Rattle.layout.specs.Meant.{kind_meant};
@@ -16,44 +15,22 @@ use keys::numbers::{form_at, plain_number, text_number};
 use layout::kinds::Kind;
 use layout::rules::layout;
 
-// The value of a byte that stands no lower than the digits do.
-fn digit_above(b: u8) -> u64
-    requires { 48 ≤ b }
-    ensures { (result ≡ b - 48) × (result ≤ 207) }
-{
-    b as u64 - 48
-}
-
-// How many bytes from `at` on are a number's at most.
-fn room(bytes: &[u8], at: usize) -> usize
-    requires { at ≤ length bytes.now }
-    ensures { (result ≡ pick (ltb (length bytes.now - at) 16) (length bytes.now - at) 16) × (at + result ≤ length bytes.now) × (result ≤ 16) }
-{
-    let left = bytes.len() - at;
-    if left < 16 {
-        return left;
-    }
-    16
-}
-
 // The value of the field at `at`, or of its first 16 bytes: digit by digit up to a comma, or by the field where another byte comes first.
 pub fn value_at(bytes: &[u8], at: usize) -> u64
     requires { at ≤ length bytes.now }
     ensures { result ≡ value (take 16 (first_field (line_at bytes.now at))) }
 {
-    let most = room(bytes, at);
+    let most = bytes.len().min(at + 16);
     let mut value: u64 = 0;
-    let mut i = 0;
-    while i < most {
-        let b = bytes[at + i];
-        if b < 48 {
-            if b == 44 {
+    for i in at..most {
+        let b = bytes[i];
+        if b < b'0' {
+            if b == b',' {
                 return value;
             }
             return plain_number(first_field(bytes, at));
         }
-        value = value * 10 + digit_above(b);
-        i += 1;
+        value = value * 10 + u64::from(b - b'0');
     }
     value
 }
@@ -75,9 +52,7 @@ pub fn first_number(kind: Kind, bytes: &[u8], content: usize) -> u64
     requires { content ≤ length bytes.now }
     ensures { result ≡ number_at (kind_meant kind) (line_at bytes.now content) (get_or (laid_out (kind_meant kind)).key 0 0) }
 {
-    let l = layout(kind);
-    let places = l.key;
-    let place = places[0];
+    let place = layout(kind).key[0];
     if place == 4 {
         return value_at(bytes, content);
     }

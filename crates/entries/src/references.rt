@@ -13,22 +13,22 @@ use crate::fields::{first_field, line_start, past_fields};
 use crate::heads::{content_at, kind_at};
 use crate::key::key_at;
 use crate::numbers::number_here;
+use crate::record::line_of;
 use form::Form;
+use keys::Key;
 use keys::numbers::form_at;
-use keys::{Key, Referred};
 use layout::kinds::Kind;
 use layout::rules::layout;
-use text::order::Order;
 
 // What the field at `at`, of that form, makes a record refer to of a kind's number.
-fn reference_by(form: Form, bytes: &[u8], at: usize, to: u64) -> Referred
+fn reference_by(form: Form, bytes: &[u8], at: usize, to: u64) -> Option<Key>
     requires { at ≤ length bytes.now }
     ensures { referred_as result ≡ by_field (meant form) (first_field (line_at bytes.now at)) to }
 {
     if form::is_empty(form, first_field(bytes, at)) {
-        return Referred::Nothing;
+        return None;
     }
-    Referred::To(Key {
+    Some(Key {
         kind: to,
         first: number_here(form, bytes, at),
         second: 0,
@@ -37,34 +37,28 @@ fn reference_by(form: Form, bytes: &[u8], at: usize, to: u64) -> Referred
 }
 
 // What the table's row j makes a record refer to whose content stands in the line from `content` on.
-fn reference_at(kind: Kind, bytes: &[u8], content: usize, j: usize) -> Referred
-    requires { content ≤ length bytes.now }
+fn reference_at(kind: Kind, bytes: &[u8], content: usize, j: usize) -> Option<Key>
+    requires { (content ≤ length bytes.now) × (j ≤ 1) }
     ensures { referred_as result ≡ ref_at (kind_meant kind) (line_at bytes.now content) j }
 {
-    if 1 < j {
-        return Referred::Nothing;
-    }
     let l = layout(kind);
-    let places = l.by;
-    let place = places[j];
+    let place = l.by[j];
     if place < 4 {
-        return Referred::Nothing;
+        return None;
     }
-    let kinds = l.to;
     reference_by(
         form_at(kind, place - 1),
         bytes,
         past_fields(bytes, content, place - 4),
-        kinds[j],
+        l.to[j],
     )
 }
 
 // A record's own key, and what its two rows of the table make it refer to.
-#[derive(Clone, Copy)]
+#[derive(Clone, Copy, Debug, PartialEq, Eq)]
 pub struct Named {
     pub own: Key,
-    pub first: Referred,
-    pub second: Referred,
+    pub to: [Option<Key>; 2],
 }
 
 // What the record whose line starts at `at` refers to.
@@ -76,8 +70,10 @@ fn references_at(bytes: &[u8], at: usize) -> Named
     let content = content_at(bytes, start);
     Named {
         own: key_at(kind, bytes, content),
-        first: reference_at(kind, bytes, content, 0),
-        second: reference_at(kind, bytes, content, 1),
+        to: [
+            reference_at(kind, bytes, content, 0),
+            reference_at(kind, bytes, content, 1),
+        ],
     }
 }
 
@@ -85,20 +81,13 @@ fn references_at(bytes: &[u8], at: usize) -> Named
 pub fn references(holding: &[u8], file: &[u8], entry: u64) -> Named
     ensures { RefersAs (record_of holding.now file.now entry) result }
 {
-    let at = (entry / 2) as usize;
-    if entry % 2 == 0 {
-        return references_at(holding, at);
-    }
-    references_at(file, at)
+    let (bytes, at) = line_of(holding, file, entry);
+    references_at(bytes, at)
 }
 
 // Whether two keys are the same.
 pub fn is_same_key(a: Key, b: Key) -> bool
     ensures { result ≡ is_eq (lex (key_list a) (key_list b)) }
 {
-    match keys::order(a, b) {
-        Order::Before => false,
-        Order::Same => true,
-        Order::After => false,
-    }
+    a == b
 }

@@ -17,19 +17,13 @@ const FIRSTS: u64 = 36028797018963967;
 const KINDS: u64 = 255;
 
 // The tag of no key: even, and above those of all keys that have an even one.
-pub const NO_TAG: u64 = 18446744073709551614;
+pub const NO_TAG: u64 = u64::MAX - 1;
 
 // 0 where a key's second and third number are both 0, so that its first two are all of it.
 fn looseness(second: u64, third: u64) -> u64
     ensures { (result ≡ looseness second third) × (result ≤ 1) }
 {
-    if second != 0 {
-        return 1;
-    }
-    if third != 0 {
-        return 1;
-    }
-    0
+    u64::from(second != 0 || third != 0)
 }
 
 // A key's tag: its kind's number times the span, and twice its first number, with one more where other keys have the same two. What is
@@ -38,7 +32,7 @@ pub fn tag(key: Key) -> u64
     ensures { result ≡ tag_of (key_list key) }
 {
     if KINDS <= key.kind {
-        return 18446744073709551615;
+        return u64::MAX;
     }
     if FIRSTS <= key.first {
         return key.kind * SPAN + (SPAN - 1);

@@ -1,52 +1,49 @@
 -- The laws of one field of a line.
-use mathlib.Core.Path.{◌≡◌, refl, sym, ap, ◌∙◌}
+use mathlib.Core.Path.{◌≡◌, refl, ap, ◌∙◌, subst}
 use mathlib.Core.Bool.{Bool, true, false, not, ◌&&◌}
 use mathlib.Core.List.{List, []}
 use Prim.Native.Nat.{ℕ, ◌+◌, ◌-◌, ◌≤◌, ◌<◌}
 use native.Mathlib.Omega.{arith}
 use borrow.Author.Rules.{rules}
-use borrow.Author.Tests.{not-true, not-false, lt-ltb, le-leb, lt-leb}
+use borrow.Author.Tests.{lt-ltb, le-leb, lt-leb}
 use lib.Dec.{leb}
 use lib.ListN.{length, get_or, take, drop, length-take, length-drop}
+use Rattle.std.specs.Prelude.{Option, Some, None, Result, Ok, Err}
+use Rattle.std.specs.Option.{ok_or}
 use Rattle.base.specs.Lists.{pick}
 use Rattle.meaning.specs.Lines.{fields_of, odd_quotes}
 use Rattle.meaning.specs.Enquiries.{Found, first, refusal, fields_spanned, field_part, field_in, field_of}
 use Rattle.meaning.specs.Answers.{no_fault, alone}
 use Rattle.meaning.specs.Codes.{no_such_part}
-use Rattle.answers.specs.declared.numbers.Verdict.{Verdict}
-use Rattle.answers.specs.Meant.{verdict_of}
-use Rattle.enquiries.proofs.HandLaws.{refusal_made}
+use Rattle.answers.specs.declared.refusal.Refusal.{Refusal}
+use Rattle.answers.specs.Meant.{refusal_meant}
 use Rattle.text.specs.Places.{field_count, field_end, field_start, FieldAt}
 use Rattle.enquiries.specs.declared.lines.Span.{Span}
-use Rattle.enquiries.specs.declared.finding.Finding.{Finding}
-use Rattle.enquiries.specs.Finding.{finding_of}
-use Rattle.enquiries.specs.Handed.{LineIs}
-use Rattle.field.specs.FieldIs.{FieldIs}
-
--- nothing is known of what is not there
-never : {X : Type 0} → ◌≡◌ {A = Bool} false true → X
-never t = absurd (let z : ◌≡◌ {A = ℕ} 0 1 = cc in omega arith)
+use Rattle.enquiries.specs.declared.finding.Side.TheVariants.{Holding}
+use Rattle.enquiries.specs.Finding.{part_meant}
+use Rattle.enquiries.specs.Handed.{LineSpan, LineIs}
+use Rattle.field.specs.FieldIs.{FieldSpan, FieldIs}
 
 -- there is no field 0
-pub field_zero : (t : List ℕ) (n : ℕ) → n < 1 → FieldIs t n (record { known = false; start = 0; end = 0 })
-field_zero t n h = record { exists = go (not (odd_quotes t)); starts = never; size = never; from = omega arith; within = omega arith }
+pub field_zero : (t : List ℕ) (n : ℕ) → n < 1 → FieldIs t n None
+field_zero t n h = go (not (odd_quotes t))
   where
-    go : (b : Bool) → false ≡ (b && (leb 1 n && leb n (length (fields_of t))))
+    go : (b : Bool) → (b && (leb 1 n && leb n (length (fields_of t)))) ≡ false
     go true = rw (lt-leb 1 n h)
     go false = refl
 
-module _ (t : List ℕ) (n c : ℕ) (h : 1 ≤ n) (e : c ≡ field_count t) where
+module _ (t : List ℕ) (n k c : ℕ) (h : 1 ≤ n) (m : k ≡ n - 1) (e : c ≡ field_count t) where
   -- none past the last, and none where quotes are odd
-  pub field_past : c ≤ n - 1 → FieldIs t n (record { known = false; start = 0; end = 0 })
+  pub field_past : c ≤ k → FieldIs t n None
   unfolding field_count
-  field_past l = record { exists = go (odd_quotes t) e; starts = never; size = never; from = omega arith; within = omega arith }
+  field_past l = go (odd_quotes t) e
     where
-      go : (b : Bool) → c ≡ pick b 0 (length (fields_of t)) → false ≡ (not b && (leb 1 n && leb n (length (fields_of t))))
+      go : (b : Bool) → c ≡ pick b 0 (length (fields_of t)) → (not b && (leb 1 n && leb n (length (fields_of t)))) ≡ false
       go true q = refl
       go false q = rw (le-leb 1 n h, lt-leb n (length (fields_of t)) (omega arith))
 
   -- where there are enough, the quotes are even
-  counts : n - 1 < c → (odd_quotes t ≡ false) × (c ≡ length (fields_of t))
+  counts : k < c → (odd_quotes t ≡ false) × (c ≡ length (fields_of t))
   unfolding field_count
   counts l = go (odd_quotes t) refl e
     where
@@ -55,21 +52,21 @@ module _ (t : List ℕ) (n c : ℕ) (h : 1 ≤ n) (e : c ≡ field_count t) wher
       go false o q = (o, q)
 
   -- else it stands from its start to its end
-  pub field_there : (a f : ℕ) → n - 1 < c → FieldAt t (n - 1) a → f ≡ field_end t a → a ≤ f → f ≤ length t → FieldIs t n (record { known = true; start = a; end = f })
+  pub field_there : (a f : ℕ) → k < c → FieldAt t k a → f ≡ field_end t a → a ≤ f → f ≤ length t → FieldSpan t n (record { start = a; end = f })
   unfolding field_start
   field_there a f l p q u v =
       let w = counts l in
       record {
         exists = rw (w.0, le-leb 1 n h, le-leb n (length (fields_of t)) (omega arith));
-        starts = λ _. p.starts ∙ rw (lt-ltb (n - 1) (length (fields_of t)) (omega arith));
-        size = λ _. sized w;
+        starts = rw (← m) (p.starts ∙ rw (lt-ltb k (length (fields_of t)) (omega arith)));
+        size = rw (← m) (sized w);
         from = u;
         within = v;
       }
     where
-      sized : (odd_quotes t ≡ false) × (c ≡ length (fields_of t)) → f - a ≡ length (get_or (fields_of t) (n - 1) [])
+      sized : (odd_quotes t ≡ false) × (c ≡ length (fields_of t)) → f - a ≡ length (get_or (fields_of t) k [])
       sized w =
-          let s : length (take (f - a) (drop a t)) ≡ length (get_or (fields_of t) (n - 1) []) = ap length (rw (← q) at p.stands) in
+          let s : length (take (f - a) (drop a t)) ≡ length (get_or (fields_of t) k []) = ap length (rw (← q) at p.stands) in
           omega (arith, simp (length-take, length-drop) at s)
 
 pub ruleset fieldat = (rules, field_zero, field_past, field_there)
@@ -89,29 +86,52 @@ in_line at t f = go (odd_quotes t)
     go true = refl
     go false = refl
 
-module _ (b : List ℕ) (l f : ℕ) (x : Finding) (r : Span) (w : LineIs b l r) where
+module _ (b : List ℕ) (l f : ℕ) (o : Option Span) (w : LineIs b l o) (e : Refusal) where
   -- no such line
-  pub found_no_line : r.known ≡ false → x ≡ finding_of (refusal (alone no_such_part)) → x ≡ finding_of (field_of b l f)
+  pub found_no_line : (d : Refusal) → ok_or o e ≡ Err d → refusal_meant e ≡ alone no_such_part → refusal (refusal_meant d) ≡ field_of b l f
   unfolding field_of
-  found_no_line k s = rw (sym w.exists ∙ k) s
+  found_no_line d k s = go o w k
+    where
+      go : (o : Option Span) → LineIs b l o → ok_or o e ≡ Err d → refusal (refusal_meant d) ≡ field_of b l f
+      go None w k = let z : e ≡ d = cc in rw (w, ← z, s)
+      go (Some r) w k = absurd (let z : ◌≡◌ {A = Result Span Refusal} (Ok r) (Err d) = k in cc)
 
-  -- the line's bytes
-  abbrev text : List ℕ
-  text = take (r.end - r.start) (drop r.start b)
+  module _ (r : Span) (k : ok_or o e ≡ Ok r) where
+    -- the line
+    pub line_found : LineSpan b l r
+    line_found = go o w k
+      where
+        go : (o : Option Span) → LineIs b l o → ok_or o e ≡ Ok r → LineSpan b l r
+        go None w k = absurd (let z : ◌≡◌ {A = Result Span Refusal} (Err e) (Ok r) = k in cc)
+        go (Some s) w k = let z : s ≡ r = cc in subst (LineSpan b l) z w
 
-  module _ (k : r.known ≡ true) (q : Span) (v : FieldIs text f q) where
+    -- the line's bytes
+    abbrev text : List ℕ
+    text = take (r.end - r.start) (drop r.start b)
+
     -- the line is there
     in_bytes : field_of b l f ≡ field_in r.start text f
     unfolding field_of
-    in_bytes = rw (sym w.exists ∙ k, ← (w.starts k), ← (w.text k))
+    in_bytes = let m = line_found in rw (m.exists, ← m.starts, ← m.text)
 
-    -- no such field
-    pub found_no_field : q.known ≡ false → x ≡ finding_of (refusal (alone no_such_part)) → x ≡ finding_of (field_of b l f)
-    found_no_field m s = rw (in_bytes, in_line r.start text f, sym v.exists ∙ m) s
+    module _ (p : Option Span) (v : FieldIs text f p) where
+      -- no such field
+      pub found_no_field : (d : Refusal) → ok_or p e ≡ Err d → refusal_meant e ≡ alone no_such_part → refusal (refusal_meant d) ≡ field_of b l f
+      found_no_field d m s = rw (in_bytes, in_line r.start text f) (go p v m)
+        where
+          go : (p : Option Span) → FieldIs text f p → ok_or p e ≡ Err d → refusal (refusal_meant d) ≡ pick (not (odd_quotes text) && (leb 1 f && leb f (length (fields_of text)))) (there r.start text f) (refusal (alone no_such_part))
+          go None v m = let z : e ≡ d = cc in rw (v, ← z, s)
+          go (Some q) v m = absurd (let z : ◌≡◌ {A = Result Span Refusal} (Ok q) (Err d) = m in cc)
 
-    -- the field, where it stands
-    pub found_field : q.known ≡ true → (y : Verdict) → y ≡ verdict_of no_fault → record { answer = y; infile = false; start = r.start + q.start; size = q.end - q.start } ≡ finding_of (field_of b l f)
-    unfolding finding_of
-    found_field m y z = rw (z, in_bytes, in_line r.start text f, sym v.exists ∙ m, ← (v.starts m), ← (v.size m)) refl
+      -- the field, where it stands
+      pub field_found : (q : Span) → ok_or p e ≡ Ok q → FieldSpan text f q
+      field_found q m = go p v m
+        where
+          go : (p : Option Span) → FieldIs text f p → ok_or p e ≡ Ok q → FieldSpan text f q
+          go None v m = absurd (let z : ◌≡◌ {A = Result Span Refusal} (Err e) (Ok q) = m in cc)
+          go (Some s) v m = let z : s ≡ q = cc in subst (FieldSpan text f) z v
 
-pub ruleset fieldfound = (rules, refusal_made, not-true, not-false, found_no_line, found_no_field, found_field)
+      pub found_field : (q : Span) → ok_or p e ≡ Ok q → part_meant (record { side = Holding; start = r.start + q.start; size = q.end - q.start }) ≡ field_of b l f
+      found_field q m = let g = field_found q m in rw (in_bytes, in_line r.start text f, g.exists, ← g.starts, ← g.size) refl
+
+pub ruleset fieldfound = (rules, found_no_line, line_found, found_no_field, field_found, found_field)

@@ -10,15 +10,12 @@ use lib.Dec.{leb}
 use lib.ListN.{length, get_or, take, length-append}
 use Rattle.base.specs.Lists.{pick}
 use Rattle.meaning.specs.Lines.{lines_of, fields_of, odd_quotes}
-use Rattle.meaning.specs.Enquiries.{first, refusal, spanned, fields_spanned, field_part, field_in, field_of}
+use Rattle.meaning.specs.Enquiries.{Found, first, refusal, spanned, fields_spanned, field_part, field_in, field_of}
 use Rattle.meaning.specs.Answers.{no_fault, alone}
 use Rattle.laws.specs.LinesAndFields.{commas, fields_commas}
 use Rattle.meaning.specs.Codes.{no_such_part}
-use Rattle.enquiries.specs.declared.finding.Finding.{Finding}
-use Rattle.enquiries.specs.Finding.{finding_of}
 use Rattle.enquiries.proofs.LineSeekLaws.{no_line}
 use Rattle.enquiries.proofs.WithinLaws.{Within, nothing, line_within, either}
-use Rattle.enquiries.proofs.HandLaws.{hand_found}
 
 -- what stands before a field's end is no longer than the line
 fields_fit : (fs : List (List ℕ)) (j : ℕ) → j < length fs → fields_spanned (take j fs) + length (get_or fs j []) ≤ length (commas fs)
@@ -57,7 +54,7 @@ field_within a b l f = line (leb 1 l && leb l (length (lines_of a)))
     line false = nothing (alone no_such_part) a b
 
 -- a field
-pub field_fits : (a : List ℕ) (l f : ℕ) (g : Finding) → g ≡ finding_of (field_of a l f) → g.start + g.size ≤ length a
+pub field_fits : (a : List ℕ) (l f : ℕ) (g : Found) → g ≡ field_of a l f → g.start + g.size ≤ length a
 field_fits a l f g e = either a (field_of a l f) g e (field_within a a l f)
 
-pub ruleset handing = (rules, hand_found, field_fits)
+pub ruleset handing = (rules, field_fits)

@@ -1,18 +1,18 @@
 -- The laws of find: where a key stands among the records of a sound holding.
 use mathlib.Core.Path.{◌≡◌, refl, sym, ap, ◌∙◌, subst}
 use mathlib.Core.Bool.{Bool, true, false}
-use mathlib.Core.Option.{Option, none, some}
+use mathlib.Core.Option.{Option, none, some, some-injective}
 use mathlib.Core.List.{List, [], ◌∷◌}
 use Prim.Native.Nat.{ℕ, suc, ◌+◌, ◌-◌, ◌≤◌, ◌<◌}
 use native.Mathlib.Nat.{add-zero}
 use native.Mathlib.Numerals.{add-one}
 use native.Mathlib.Omega.{arith}
 use borrow.Author.Rules.{rules}
-use borrow.Author.Tests.{not-true, not-false, eq-eqb, ne_eqb}
+use borrow.Author.Tests.{eq-eqb, ne_eqb}
 use lib.Dec.{T, eqb, eqb→eq}
 use lib.ListN.{length}
 use Rattle.base.specs.Lists.{pick, all, same, some?, bytes, zeros}
-use Rattle.base.specs.Tests.{T_true}
+use Rattle.base.specs.Tests.{T_true, some≢none}
 use Rattle.base.specs.ListLaws.{same_eq, same_refl}
 use Rattle.theory.specs.Tri.{Tri, lt, eq, gt, is_eq}
 use Rattle.theory.specs.Lex.{lex}
@@ -40,24 +40,30 @@ use Rattle.laws.specs.SoundHolding.{held_is_sound}
 use Rattle.laws.specs.Body.{fine}
 use Rattle.laws.specs.Scottish.{scottish_regular}
 use Rattle.meaning.specs.Codes.{key_absent, holding_unsound, kind_not_asked}
+use Rattle.meaning.specs.Answers as meant
 use Rattle.meaning.specs.Answers.{of_line, at_line, alone}
-use Rattle.enquiries.proofs.HandLaws.{refusal_made}
-use Rattle.holding.specs.declared.read.Held.{Held}
-use Rattle.holding.specs.Read.{fault_of, records_of, HeldIs}
-use Rattle.holding.proofs.ReadLaws.{held_sound, held_state, held_ordered}
+use Rattle.answers.specs.declared.refusal.Refusal.{Refusal}
+use Rattle.answers.specs.Meant.{refusal_meant}
+use Rattle.enquiries.proofs.HandLaws.{refused_on}
+use Rattle.std.specs.Prelude as std
+use Rattle.std.specs.Prelude.{Some, None, Result, Ok, Err, IsErrAnd}
+use Rattle.std.specs.Bool.{then_some}
+use Rattle.std.specs.Option.{ok_or}
+use Rattle.holding.specs.Read.{records_of, HeldIs}
+use Rattle.holding.proofs.ReadLaws.{held_state, held_ordered, Refused}
 use Rattle.places.specs.Places.{says}
 use Rattle.places.specs.Ordered.{Ordered}
 use Rattle.layout.specs.Rows.{padded}
-use Rattle.enquiries.specs.declared.finding.Finding.{Finding}
-use Rattle.enquiries.specs.Finding.{finding_of}
-use Rattle.find.specs.Found.{line_found, Enquired}
+use Rattle.enquiries.specs.declared.finding.Part.{Part}
+use Rattle.enquiries.specs.Finding.{found_said}
+use Rattle.find.specs.Found.{line_found, Enquired, unopened, OpenedAs}
 
 -- ---- the kinds that can be asked for
 
 -- a street
-pub asked_street : (k n : ℕ) → n ≡ 11 → k ≡ n → true ≡ some? (numbered_among enquiries k)
+pub asked_street : (k n : ℕ) → n ≡ 11 → k ≡ n → eqb k n ≡ some? (numbered_among enquiries k)
 unfolding numbered_among enquiries ident bytes value value_f
-asked_street k n e q = rw (eq-eqb k 11 (q ∙ e))
+asked_street k n e q = eq-eqb k n q ∙ rw (eq-eqb k 11 (q ∙ e))
 
 -- else a BLPU
 pub asked_blpu : (k n m : ℕ) → n ≡ 11 → m ≡ 21 → (k ≡ n → ⊥) → eqb k m ≡ some? (numbered_among enquiries k)
@@ -117,14 +123,19 @@ held_rank q i (r ∷ rs) a = go (lex q (key_of scottish r)) refl (held_rank q (s
         let m : suc i + rank (keyed scottish) q rs ≡ i + suc (rank (keyed scottish) q rs) = omega arith in
         unfold gets ranks in rw (apart_same q (key_of scottish r) gt e no_gt) (ih ∙ ap (λ (x : ℕ). pick (some? (get (keyed scottish) q rs)) (some x) none) m)
 
+-- the place of a line that is counted from 1
+abbrev pub place_of : std.Option ℕ → Option ℕ
+place_of (Some n) = some (n - 1)
+place_of None = none
+
 -- so its line is one more
-held_line_lem : (a q : List ℕ) (st : List Rec) → T (all (fine scottish) st) → Asc (keyed scottish) st → Agree a q → held_at scottish q 0 st ≡ pick (eqb (line_found a st) 0) none (some (line_found a st - 1))
+held_line_lem : (a q : List ℕ) (st : List Rec) → T (all (fine scottish) st) → Asc (keyed scottish) st → Agree a q → held_at scottish q 0 st ≡ place_of (line_found a st)
 unfolding line_found
 held_line_lem a q st f asc e =
     held_rank q 0 st asc ∙ rw (get_alike st f a q e, rank_alike st f a q e) (go (some? (get (keyed scottish) q st)) (rank (keyed scottish) q st))
   where
-    go : (b : Bool) (n : ℕ) → pick b (some (0 + n)) none ≡ pick (eqb (pick b (suc n) 0) 0) none (some (pick b (suc n) 0 - 1))
-    go true n = let m : 0 + n ≡ suc n - 1 = omega arith in rw (ne_eqb (suc n) 0 (λ u. omega arith)) (ap some m)
+    go : (b : Bool) (n : ℕ) → pick b (some (0 + n)) none ≡ place_of (pick b (Some (suc n)) None)
+    go true n = let m : 0 + n ≡ suc n - 1 = omega arith in ap some m
     go false n = refl
 
 -- a kind that can be asked for, and that a number is its key
@@ -159,14 +170,6 @@ no_kind kind b e f = go (numbered_among enquiries kind) (sym e ∙ f)
     go none z = refl
     go (some k) z = let y : ◌≡◌ {A = Bool} true false = z in absurd (let x : ◌≡◌ {A = ℕ} 0 1 = cc in omega arith)
 
--- a fault that was read is that of an unsound holding
-pub unsounds : (h : List ℕ) (r : Held) (a o t : List ℕ) → HeldIs h r a o t → (r.line ≡ 0 → ⊥) → read_holding scottish h ≡ unsound r.line
-unsounds h r a o t w z = go (read_holding scottish h) w.line
-  where
-    go : (u : meaning.Held) → r.line ≡ fault_of u → u ≡ unsound r.line
-    go (sound st) q = absurd (unfold fault_of in z q)
-    go (unsound m) q = ap unsound (sym (unfold fault_of in q))
-
 -- a key that stands has fewer records before it than there are
 rank_in : (k : List ℕ) (st : List Rec) → some? (get numbered k st) ≡ true → rank numbered k st < length st
 unfolding get rank
@@ -179,13 +182,13 @@ rank_in k (x ∷ xs) e = go (lex k (key_numbers x)) e (rank_in k xs)
     go gt e ih = unfold gets ranks in omega (arith, ih e)
 
 -- so its line is one of theirs
-line_in : (k : List ℕ) (st : List Rec) → (line_found k st ≡ 0 → ⊥) → line_found k st ≤ length st
+line_in : (k : List ℕ) (st : List Rec) (l : ℕ) → line_found k st ≡ Some l → (1 ≤ l) × (l ≤ length st)
 unfolding line_found
-line_in k st n = go (some? (get numbered k st)) (λ e. rank_in k st e) n
+line_in k st l n = go (some? (get numbered k st)) (λ e. rank_in k st e) n
   where
-    go : (b : Bool) → (b ≡ true → rank numbered k st < length st) → (pick b (suc (rank numbered k st)) 0 ≡ 0 → ⊥) → pick b (suc (rank numbered k st)) 0 ≤ length st
-    go true h n = omega (arith, h refl)
-    go false h n = absurd (n refl)
+    go : (b : Bool) → (b ≡ true → rank numbered k st < length st) → pick b (Some (suc (rank numbered k st))) None ≡ Some l → (1 ≤ l) × (l ≤ length st)
+    go true h n = let e : suc (rank numbered k st) ≡ l = cc in (omega (arith, e), omega (arith, e, h refl))
+    go false h n = absurd (let z : ◌≡◌ {A = std.Option ℕ} None (Some l) = n in cc)
 
 -- a holding has as many lines as records
 count_lines : (n : ℕ) (st : List Rec) → length (ends_all (change_texts n (as_inserts st))) ≡ length st
@@ -195,85 +198,116 @@ count_lines n (r ∷ rs) = ap suc (count_lines (suc n) rs)
 
 -- ---- the held line
 
-module _ (s a o : List ℕ) (r : Held) (kind n : ℕ) (w : Enquired s a o r kind) where
+module _ (s a o : List ℕ) (r kind n : ℕ) (w : Enquired s a o r kind) where
   -- the holding's records
   abbrev st : List Rec
   st = records_of (read_holding scottish s)
 
-  sounds : read_holding scottish s ≡ sound st
-  sounds = held_sound s (sym w.read.line ∙ w.sound)
-
   state : Sound (keyed scottish) (fine scottish) (held_tests scottish) st
-  state = held_state s a o w.counts r w.read w.sound
+  state = held_state s a o w.counts r w.read
 
   -- they are few
-  pub held_few : r.count ≤ most_records
-  held_few = (w.read.listed w.sound).few
+  pub held_few : r ≤ most_records
+  held_few = w.read.listed.few
 
   -- and their entries are in order
-  pub asked_ordered : Ordered s s a o r.count
-  asked_ordered = held_ordered s a o w.counts r w.read w.sound s w.space
+  pub asked_ordered : Ordered s s a o r
+  asked_ordered = held_ordered s a o w.counts r w.read s w.space
 
-  module _ (k : List ℕ) (y : k ≡ kind ∷ n ∷ 0 ∷ 0 ∷ []) (l : ℕ) (g : l ≡ line_found k (says s s a r.count)) where
-    here : l ≡ line_found (kind ∷ n ∷ 0 ∷ 0 ∷ []) st
-    here = g ∙ ap (line_found k) ((w.read.listed w.sound).says s) ∙ ap (λ j. line_found j st) y
+  -- what find says of it
+  pub find_held : held_part s (held_at scottish (kind ∷ n ∷ []) 0 st) ≡ find scottish s kind n
+  unfolding find find_kind find_in
+  find_held =
+      let k = asked_is kind w.asked in
+      sym
+      (ap (find_kind scottish s n) k.known
+      ∙ ap (find_in scottish s (value (ident k.named) ∷ n ∷ [])) w.read.sound
+      ∙ ap (λ v. held_part s (held_at scottish (v ∷ n ∷ []) 0 st)) (sym k.number))
+
+  module _ (k : List ℕ) (y : k ≡ kind ∷ n ∷ 0 ∷ 0 ∷ []) (g : std.Option ℕ) (f : g ≡ line_found k (says s s a r)) (e : Refusal) (q : Result ℕ Refusal) (p : q ≡ ok_or g e) where
+    here : g ≡ line_found (kind ∷ n ∷ 0 ∷ 0 ∷ []) st
+    here = f ∙ ap (line_found k) (w.read.listed.says s) ∙ ap (λ j. line_found j st) y
 
     -- the key's place among them
-    place : held_at scottish (kind ∷ n ∷ []) 0 st ≡ pick (eqb l 0) none (some (l - 1))
-    place = held_line_lem (kind ∷ n ∷ 0 ∷ 0 ∷ []) (kind ∷ n ∷ []) st state.fines state.asc (asked_agrees kind n (asked_is kind w.asked)) ∙ ap (λ (x : ℕ). pick (eqb x 0) none (some (x - 1))) (sym here)
+    place : held_at scottish (kind ∷ n ∷ []) 0 st ≡ place_of g
+    place = held_line_lem (kind ∷ n ∷ 0 ∷ 0 ∷ []) (kind ∷ n ∷ []) st state.fines state.asc (asked_agrees kind n (asked_is kind w.asked)) ∙ ap place_of (sym here)
 
-    -- its line is one of the holding's
-    pub held_in : (l ≡ 0 → ⊥) → l ≤ length (lines_of s)
-    held_in u = omega (arith, here, line_in (kind ∷ n ∷ 0 ∷ 0 ∷ []) st (λ v. u (here ∙ v)), ap length (held_is_sound scottish scottish_regular s st sounds).lines, count_lines 1 st)
+    -- 11 for an absent key
+    pub held_absent : refusal_meant e ≡ alone key_absent → (d : Refusal) → q ≡ Err d → (x : Result Part Refusal) → IsErrAnd x (λ b. b ≡ d) → found_said x ≡ held_part s (held_at scottish (kind ∷ n ∷ []) 0 st)
+    unfolding held_part
+    held_absent u d z x h = refused_on x d h ∙ go g place (sym p ∙ z)
+      where
+        go : (g : std.Option ℕ) → held_at scottish (kind ∷ n ∷ []) 0 st ≡ place_of g → ok_or g e ≡ Err d → refusal (refusal_meant d) ≡ held_part s (held_at scottish (kind ∷ n ∷ []) 0 st)
+        go (Some l) i z = absurd (let v : ◌≡◌ {A = Result ℕ Refusal} (Ok l) (Err d) = z in cc)
+        go None i z = let v : e ≡ d = cc in rw i (ap (λ r. refusal (refusal_meant r)) (sym v) ∙ ap refusal u)
 
-    module _ (x : Finding) where
-      -- 11 for an absent key
-      pub held_absent : l ≡ 0 → x ≡ finding_of (refusal (alone key_absent)) → x ≡ finding_of (held_part s (held_at scottish (kind ∷ n ∷ []) 0 st))
+    module _ (l : ℕ) (z : q ≡ Ok l) where
+      stands : g ≡ Some l
+      stands = go g (sym p ∙ z)
+        where
+          go : (g : std.Option ℕ) → ok_or g e ≡ Ok l → g ≡ Some l
+          go (Some m) z = let v : m ≡ l = cc in ap Some v
+          go None z = absurd (let v : ◌≡◌ {A = Result ℕ Refusal} (Err e) (Ok l) = z in cc)
+
+      -- its line is one of the holding's
+      pub held_in : (1 ≤ l) × (l ≤ length (lines_of s))
+      held_in =
+          let i = line_in (kind ∷ n ∷ 0 ∷ 0 ∷ []) st l (sym here ∙ stands) in
+          (i.0, omega (arith, i.1, ap length (held_is_sound scottish scottish_regular s st w.read.sound).lines, count_lines 1 st))
+
+      -- and is handed back
+      pub held_there : part_of first (lines_of s) (l - 1) ≡ held_part s (held_at scottish (kind ∷ n ∷ []) 0 st)
       unfolding held_part
-      held_absent u v = rw (place, eq-eqb l 0 u) v
+      held_there = rw (place, stands)
 
-      -- else its line
-      pub held_there : (l ≡ 0 → ⊥) → x ≡ finding_of (part_of first (lines_of s) (l - 1)) → x ≡ finding_of (held_part s (held_at scottish (kind ∷ n ∷ []) 0 st))
-      unfolding held_part
-      held_there u v = rw (place, ne_eqb l 0 u) v
+pub ruleset held = (rules, held_few, asked_ordered, held_absent, held_in, held_there)
 
-pub ruleset held = (rules, refusal_made, held_few, asked_ordered, held_in, held_absent, held_there)
+-- ---- what comes first
 
--- ---- find
-
--- what is read of a sound holding serves an enquiry
-pub enquired : (h a o c : List ℕ) (r : Held) (kind : ℕ) (b : Bool) → b ≡ some? (numbered_among enquiries kind) → b ≡ true → HeldIs h r a o c → r.line ≡ 0 → most_records ≤ length a → Enquired h a o r kind
-enquired h a o c r kind b e t w z l = record { asked = sym e ∙ t; counts = c; read = w; sound = z; space = l }
-
-module _ (s : List ℕ) (kind n : ℕ) (x : Finding) (b : Bool) (e : b ≡ some? (numbered_among enquiries kind)) where
+module _ (h a o : List ℕ) (kind : ℕ) (b : Bool) (e : b ≡ some? (numbered_among enquiries kind)) where
   -- 15 for a kind that can't be asked for
-  pub find_other : b ≡ false → x ≡ finding_of (refusal (alone kind_not_asked)) → x ≡ finding_of (find scottish s kind n)
-  unfolding find find_kind
-  find_other f w = rw (no_kind kind b e f) w
+  pub opened_other : b ≡ false → (r : Refusal) → refusal_meant r ≡ alone kind_not_asked → unopened (numbered_among enquiries kind) (read_holding scottish h) ≡ some (refusal_meant r)
+  unfolding unopened
+  opened_other f r u = rw (no_kind kind b e f, ← u)
 
-  -- 14 for an unsound holding
-  pub find_unsound : (r : Held) (a o t : List ℕ) → b ≡ true → HeldIs s r a o t → (r.line ≡ 0 → ⊥) → x ≡ finding_of (refusal (at_line r.line (of_line holding_unsound))) → x ≡ finding_of (find scottish s kind n)
-  unfolding find find_kind find_in
-  find_unsound r a o t f h z w = rw ((asked_is kind (sym e ∙ f)).known, unsounds s r a o t h z) w
+  -- 14 for an unsound holding, else it may be searched
+  pub opened : b ≡ true → (t : List ℕ) (r : Result ℕ ℕ) → HeldIs h r a o t → (q : Result ℕ Refusal) → Refused r q → most_records ≤ length a → OpenedAs h a o kind q
+  unfolding unopened
+  opened f t (Ok n) w q m l = rw m (record { asked = sym e ∙ f; counts = t; read = w; space = l })
+  opened f t (Err n) w (Ok x) m l = absurd m
+  opened f t (Err n) w (Err d) m l = rw ((asked_is kind (sym e ∙ f)).known, w, m)
 
-  -- else the held line
-  pub find_held : (r : Held) (a o t : List ℕ) → b ≡ true → HeldIs s r a o t → r.line ≡ 0 → x ≡ finding_of (held_part s (held_at scottish (kind ∷ n ∷ []) 0 (records_of (read_holding scottish s))))
-      → x ≡ finding_of (find scottish s kind n)
-  unfolding find find_kind find_in
-  find_held r a o t f h z w = let k = asked_is kind (sym e ∙ f) in rw (k.known, held_sound s (sym h.line ∙ z), ← k.number) w
+pub ruleset opens = (rules, opened_other, opened)
 
-pub ruleset finds = (rules, refusal_made, not-true, not-false, find_other, find_unsound, find_held)
+-- find says as much
+pub find_unopened : (h : List ℕ) (kind n : ℕ) (r : meant.Refusal) → unopened (numbered_among enquiries kind) (read_holding scottish h) ≡ some r → refusal r ≡ find scottish h kind n
+unfolding find find_kind find_in unopened
+find_unopened h kind n r e = asked (numbered_among enquiries kind) e
+  where
+    holds : (k : Kind) (q : List ℕ) (u : meaning.Held) → unopened (some k) u ≡ some r → refusal r ≡ find_in scottish h q u
+    holds k q (sound l) e = absurd (some≢none (sym e))
+    holds k q (unsound m) e = ap refusal (sym (some-injective (at_line m (of_line holding_unsound)) r e))
+
+    asked : (o : Option Kind) → unopened o (read_holding scottish h) ≡ some r → refusal r ≡ find_kind scottish h n o
+    asked none e = ap refusal (sym (some-injective (alone kind_not_asked) r e))
+    asked (some k) e = holds k (value (ident k) ∷ n ∷ []) (read_holding scottish h) e
+
+-- the answer of either
+pub open_refused : (h a o : List ℕ) (kind : ℕ) (q : Result ℕ Refusal) (d : Refusal) → OpenedAs h a o kind q → q ≡ Err d → unopened (numbered_among enquiries kind) (read_holding scottish h) ≡ some (refusal_meant d)
+open_refused h a o kind q d w e = subst (OpenedAs h a o kind) e w
+
+pub open_found : (h a o : List ℕ) (kind : ℕ) (q : Result ℕ Refusal) (n : ℕ) → OpenedAs h a o kind q → q ≡ Ok n → Enquired h a o n kind
+open_found h a o kind q n w e = subst (OpenedAs h a o kind) e w
 
 -- ---- the line of a key
 
--- one more than how many stand before it
-pub line_stands : (k : List ℕ) (st : List Rec) (i : ℕ) (b : Bool) → i ≡ rank numbered k st → b ≡ some? (get numbered k st) → b ≡ true → i + 1 ≡ line_found k st
+-- one more than how many stand before it, if it stands
+pub line_told : (k : List ℕ) (st : List Rec) (i : ℕ) (b : Bool) → i ≡ rank numbered k st → b ≡ some? (get numbered k st) → (r : std.Option ℕ) → r ≡ then_some b (i + 1) → r ≡ line_found k st
 unfolding line_found
-line_stands k st i b p q t = rw (← q, t, ← p) (add-one i)
+line_told k st i b p q r e = e ∙ rw (← q, ← p) (go b)
+  where
+    go : (c : Bool) → then_some c (i + 1) ≡ pick c (Some (suc i)) None
+    go true = ap Some (add-one i)
+    go false = refl
 
--- or none
-pub line_absent : (k : List ℕ) (st : List Rec) (b : Bool) → b ≡ some? (get numbered k st) → b ≡ false → 0 ≡ line_found k st
-unfolding line_found
-line_absent k st b q t = rw (← q, t)
-
-pub ruleset found = (rules, line_stands, line_absent)
+pub ruleset found = (rules, line_told)

@@ -9,13 +9,10 @@ use Rattle.meaning.specs.Lines.{lines_of}
 use Rattle.meaning.specs.Kinds.{Kind, numbered_among}
 use Rattle.meaning.specs.Table.{enquiries, scottish}
 use Rattle.meaning.specs.Holding.{Held, sound, unsound, read_holding}
-use Rattle.meaning.specs.Enquiries.{first, part_of, held_at, held_part, find_in, find_kind, find}
+use Rattle.meaning.specs.Enquiries.{Found, first, part_of, held_at, held_part, find_in, find_kind, find}
 use Rattle.meaning.specs.Codes.{key_absent, holding_unsound, kind_not_asked}
 use Rattle.meaning.specs.Answers.{of_line, at_line, alone}
-use Rattle.enquiries.specs.declared.finding.Finding.{Finding}
-use Rattle.enquiries.specs.Finding.{finding_of}
 use Rattle.enquiries.proofs.WithinLaws.{Within, nothing, line_within, either}
-use Rattle.enquiries.proofs.HandLaws.{hand_found}
 
 first_within : (a b : List ℕ) (i : ℕ) → Within (part_of first (lines_of a) i) a b
 unfolding part_of
@@ -40,7 +37,7 @@ find_within a b kind n = asked (numbered_among enquiries kind)
     asked (some k) = holds _ (read_holding scottish a)
 
 -- the line that find finds
-pub find_fits : (a : List ℕ) (kind n : ℕ) (g : Finding) → g ≡ finding_of (find scottish a kind n) → g.start + g.size ≤ length a
+pub find_fits : (a : List ℕ) (kind n : ℕ) (g : Found) → g ≡ find scottish a kind n → g.start + g.size ≤ length a
 find_fits a kind n g e = either a (find scottish a kind n) g e (find_within a a kind n)
 
-pub ruleset handing = (rules, hand_found, find_fits)
+pub ruleset handing = (rules, find_fits)

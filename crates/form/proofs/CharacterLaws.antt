@@ -5,14 +5,15 @@ use mathlib.Core.List.{List, [], ◌∷◌}
 use Prim.Native.Nat.{ℕ, zero, suc, ◌+◌, ◌-◌, ◌≤◌, ◌<◌}
 use native.Mathlib.Omega.{arith}
 use borrow.Author.Rules.{rules}
-use borrow.Author.Tests.{not-true, not-false, le-leb, lt-leb, ne_eqb}
-use lib.Dec.{T, leb, ltb, eqb, leb→le, le→leb, ltb→lt, leb-zero, leb-suc-zero, leb-suc-suc, eqb→eq}
+use borrow.Author.Tests.{not-true, not-false, le-leb, lt-leb, lt-ltb, le-ltb, ne_eqb}
+use lib.Dec.{T, leb, ltb, eqb, leb→le, le→leb, ltb→lt, lt→ltb, eqb-suc-zero, leb-zero, leb-suc-zero, leb-suc-suc, eqb→eq}
 use lib.ListN.{length, get_or, take, drop, length-drop}
-use lib.Seq.{take_all, drop-drop}
+use lib.Seq.{take_all}
 use Rattle.base.specs.Lists.{all, pick}
-use Rattle.base.specs.Tests.{and_l, and_r, T_true}
+use Rattle.base.specs.Tests.{and_l, and_r, same_test, T_true}
+use Rattle.std.specs.Prelude.{Option, Some, None, unwrap_or, is_some}
+use Rattle.std.specs.Bool.{then_some}
 use Rattle.base.specs.ListLaws.{all_map}
-use Rattle.base.proofs.Walk.{at_end_lem}
 use Rattle.meaning.specs.Characters.{Range, ◌to◌, is_in, tail, characters, starts, follows, at_most}
 use Rattle.meaning.specs.Forms.{is_text_byte, by_characters}
 use Rattle.laws.specs.Ascii.{is_ascii, ascii_starts, ascii_follows, ascii_most}
@@ -20,18 +21,6 @@ use Rattle.form.specs.Characters.{is_ascii_text, in_first, in_each, character_le
 use Rattle.form.proofs.FirstByteLaws.{low_ascii, beyond}
 
 -- ---- a text of ASCII
-
--- whether a byte is one of it, by the code's two tests
-module _ (x : ℕ) (b : Bool) (q : b ≡ is_text_byte x) where
-  pub ascii_no : b ≡ false → false ≡ is_ascii_text x
-  unfolding is_ascii_text
-  ascii_no e = rw (sym q ∙ e)
-
-  pub ascii_yes : b ≡ true → ltb x 127 ≡ is_ascii_text x
-  unfolding is_ascii_text
-  ascii_yes e = rw (sym q ∙ e)
-
-pub ruleset ascii_text = (rules, not-true, not-false, ascii_no, ascii_yes)
 
 -- it is ASCII
 text_ascii : (x : ℕ) → T (is_ascii_text x) → T (is_ascii x)
@@ -131,74 +120,77 @@ each_after (r ∷ rs) (y ∷ u) t n =
 
 -- ---- how many bytes the first character has
 
-module _ (t : List ℕ) (h : 1 ≤ length t) where
-  abbrev first : ℕ
-  first = get_or t 0 0
+-- no bytes begin with none
+pub length_empty : (t : List ℕ) → length t ≤ 0 → None ≡ character_length t
+unfolding character_length
+length_empty [] h = refl
+length_empty (x ∷ t) h = absurd (omega arith)
 
-  -- what follows the first byte
+-- a first byte x, and what follows it
+module _ (t : List ℕ) (h : 0 < length t) (x : ℕ) (p : x ≡ get_or t 0 0) where
   abbrev wants : List Range
-  wants = follows characters first
+  wants = follows characters x
 
   -- ASCII is one byte
-  length_low : first < 0x80 → character_length t ≡ pick (is_text_byte first) 1 0
+  pub length_ascii : x < 0x80 → then_some {T = ℕ} (is_text_byte x) 1 ≡ character_length t
   unfolding character_length in_each
-  length_low l = go t h l
+  length_ascii l = rw p (go t h (rw p at l))
     where
-      go : (t : List ℕ) → 1 ≤ length t → get_or t 0 0 < 0x80 → character_length t ≡ pick (is_text_byte (get_or t 0 0)) 1 0
+      chosen : (b : Bool) → then_some {T = ℕ} b 1 ≡ pick b (Some 1) None
+      chosen true = refl
+      chosen false = refl
+
+      go : (t : List ℕ) → 0 < length t → get_or t 0 0 < 0x80 → then_some {T = ℕ} (is_text_byte (get_or t 0 0)) 1 ≡ character_length t
       go [] h l = absurd (omega arith)
-      go (x ∷ u) h l = let a = low_ascii x l in rw (ascii_follows x a, ascii_starts x a, and-true (is_text_byte x))
+      go (x ∷ u) h l = let a = low_ascii x l in rw (ascii_follows x a, ascii_starts x a, and-true (is_text_byte x)) (chosen (is_text_byte x))
 
-  pub length_ascii : first < 0x80 → (b : Bool) → b ≡ is_text_byte first → b ≡ true → 1 ≡ character_length t
-  length_ascii l b q e = rw (length_low l, sym q ∙ e)
-
-  pub length_control : first < 0x80 → (b : Bool) → b ≡ is_text_byte first → b ≡ false → 0 ≡ character_length t
-  length_control l b q e = rw (length_low l, sym q ∙ e)
-
-  module _ (l : 0x80 ≤ first) (n : ℕ) (q : n ≡ length wants) where
+  module _ (l : 0x80 ≤ x) (n : ℕ) (q : n ≡ length wants) where
     -- nothing begins so
-    pub length_none : n ≡ 0 → 0 ≡ character_length t
+    pub length_none : n ≡ 0 → None ≡ character_length t
     unfolding character_length
-    length_none e = go t l (sym q ∙ e)
+    length_none e = go t (rw p at l) (rw p at (sym q ∙ e))
       where
-        go : (t : List ℕ) → 0x80 ≤ get_or t 0 0 → length (follows characters (get_or t 0 0)) ≡ 0 → 0 ≡ character_length t
+        go : (t : List ℕ) → 0x80 ≤ get_or t 0 0 → length (follows characters (get_or t 0 0)) ≡ 0 → None ≡ character_length t
         go [] l z = refl
         go (x ∷ u) l z = rw (high_starts x l, z, and-false (is_text_byte x))
 
-    module _ (m : n ≡ 0 → ⊥) where
+    module _ (m : 0 < n) where
       -- the second byte is as it is wanted, and tails come after it
-      length_high : character_length t ≡ pick (leb (n + 1) (length t) && (in_first wants (get_or t 1 0) && all (is_in tail) (take (n + 1 - 2) (drop 2 t)))) (n + 1) 0
+      length_high :
+          character_length t ≡ pick (ltb n (length t) && (in_first wants (get_or t 1 0) && all (is_in tail) (take (n + 1 - 2) (drop 2 t)))) (Some (n + 1)) None
       unfolding character_length
-      length_high = go t h l n q (omega arith)
+      length_high = rw p (go t h (rw p at l) n (rw p at q) m)
         where
-          go : (t : List ℕ) → 1 ≤ length t → 0x80 ≤ get_or t 0 0 → (n : ℕ) → n ≡ length (follows characters (get_or t 0 0)) → 1 ≤ n
+          go : (t : List ℕ) → 0 < length t → 0x80 ≤ get_or t 0 0 → (n : ℕ) → n ≡ length (follows characters (get_or t 0 0)) → 0 < n
               → character_length t
-              ≡ pick (leb (n + 1) (length t) && (in_first (follows characters (get_or t 0 0)) (get_or t 1 0) && all (is_in tail) (take (n + 1 - 2) (drop 2 t)))) (n + 1) 0
+              ≡ pick (ltb n (length t) && (in_first (follows characters (get_or t 0 0)) (get_or t 1 0) && all (is_in tail) (take (n + 1 - 2) (drop 2 t)))) (Some (n + 1)) None
           go [] h l n q m = absurd (omega arith)
           go (x ∷ u) h l n q m =
               let z : n + 1 - 2 ≡ n - 1 = omega arith in
               let y : n + 1 ≡ suc n = omega arith in
               let c = follows characters x in
-              rw (z, y, q, high_text x l, high_starts x l, le-leb 1 (length c) (omega (arith, q)), each_after c u (table_wanted x) (omega (arith, q)), leb-suc-suc (length c) (length u))
+              let v : leb (length c) (length u) ≡ ltb (length c) (suc (length u)) = same_test (leb (length c) (length u)) (ltb (length c) (suc (length u))) (λ k. lt→ltb (length c) (suc (length u)) (omega (arith, leb→le (length c) (length u) k))) (λ k. le→leb (length c) (length u) (omega (arith, ltb→lt (length c) (suc (length u)) k))) in
+              rw (z, y, q, high_text x l, high_starts x l, le-leb 1 (length c) (omega (arith, q)), each_after c u (table_wanted x) (omega (arith, q)), v)
 
       -- the bytes end before it does
-      pub length_cut : length t ≤ n → 0 ≡ character_length t
-      length_cut e = rw (length_high, lt-leb (n + 1) (length t) (omega arith))
+      pub length_cut : length t ≤ n → None ≡ character_length t
+      length_cut e = rw (length_high, le-ltb n (length t) e)
 
       module _ (k : n < length t) (c : Bool) (r : c ≡ in_first wants (get_or t 1 0)) where
         -- the second byte is another
-        pub length_second : c ≡ false → 0 ≡ character_length t
-        length_second e = rw (length_high, le-leb (n + 1) (length t) (omega arith), sym r ∙ e)
+        pub length_second : c ≡ false → None ≡ character_length t
+        length_second e = rw (length_high, lt-ltb n (length t) k, sym r ∙ e)
 
         module _ (e : c ≡ true) (d : Bool) (s : d ≡ all (is_in tail) (take (n + 1 - 2) (drop 2 t))) where
           -- one of those after it is no tail
-          pub length_third : d ≡ false → 0 ≡ character_length t
-          length_third f = rw (length_high, le-leb (n + 1) (length t) (omega arith), sym r ∙ e, sym s ∙ f)
+          pub length_third : d ≡ false → None ≡ character_length t
+          length_third f = rw (length_high, lt-ltb n (length t) k, sym r ∙ e, sym s ∙ f)
 
           -- the character is whole
-          pub length_whole : d ≡ true → n + 1 ≡ character_length t
-          length_whole f = rw (length_high, le-leb (n + 1) (length t) (omega arith), sym r ∙ e, sym s ∙ f)
+          pub length_whole : d ≡ true → Some (n + 1) ≡ character_length t
+          length_whole f = rw (length_high, lt-ltb n (length t) k, sym r ∙ e, sym s ∙ f)
 
-pub ruleset character = (rules, not-true, not-false, length_ascii, length_control, length_none, length_cut, length_second, length_third, length_whole)
+pub ruleset character = (rules, not-true, not-false, length_empty, length_ascii, length_none, length_cut, length_second, length_third, length_whole)
 
 -- ---- one character after another
 
@@ -251,86 +243,90 @@ one_more w x u =
     go true true false e = and-false (all is_text_byte u)
     go true true true e = rw (e tt)
 
--- no character stands in front: no text
-next_none : (w : ℕ) (r : List ℕ) → 1 ≤ length r → character_length r ≡ 0 → by_characters w r ≡ false
+-- a value is not the lack of one, and is itself
+some_none : (a : ℕ) → Some a ≡ None → ⊥
+some_none a e = subst (λ o. T (is_some o)) e tt
+
+some_same : (a b : ℕ) → Some a ≡ Some b → a ≡ b
+some_same a b e = ap (λ (o : Option ℕ). unwrap_or o 0) e
+
+-- no character stands in front: a text only where nothing does
+pub next_none : (w : ℕ) (r : List ℕ) → character_length r ≡ None → eqb (length r) 0 ≡ by_characters w r
 unfolding by_characters at_most character_length
-next_none w [] h e = absurd (omega arith)
-next_none zero (x ∷ u) h e = and-false (all is_text_byte (x ∷ u))
-next_none (suc w) (x ∷ u) h e = one_more w x u ∙ ap (λ b. b && by_characters w (drop (length (follows characters x)) u)) (go (stands x u) e)
+next_none w [] e = refl
+next_none zero (x ∷ u) e = eqb-suc-zero (length u) ∙ sym (and-false (all is_text_byte (x ∷ u)))
+next_none (suc w) (x ∷ u) e = eqb-suc-zero (length u) ∙ sym (one_more w x u ∙ ap (λ b. b && by_characters w (drop (length (follows characters x)) u)) (go (stands x u) e))
   where
-    go : (b : Bool) → pick b (suc (length (follows characters x))) 0 ≡ 0 → b ≡ false
-    go true e = absurd (omega (arith, e))
+    go : (b : Bool) → pick b (Some (suc (length (follows characters x)))) None ≡ None → b ≡ false
+    go true e = absurd (some_none _ e)
     go false e = refl
 
--- a character stands in front, but none may
-next_full : (r : List ℕ) → 1 ≤ length r → by_characters 0 r ≡ false
-unfolding by_characters at_most
-next_full [] h = absurd (omega arith)
-next_full (x ∷ u) h = and-false (all is_text_byte (x ∷ u))
+module _ (r : List ℕ) (n : ℕ) (e : character_length r ≡ Some n) where
+  -- a character stands in front, but none may
+  pub next_full : false ≡ by_characters 0 r
+  unfolding by_characters at_most character_length
+  next_full = go r e
+    where
+      go : (r : List ℕ) → character_length r ≡ Some n → false ≡ by_characters 0 r
+      go [] e = absurd (some_none n (sym e))
+      go (x ∷ u) e = sym (and-false (all is_text_byte (x ∷ u)))
 
--- one may: what is after it decides
-next_more : (w : ℕ) (r : List ℕ) → (character_length r ≡ 0 → ⊥) → by_characters (suc w) r ≡ by_characters w (drop (character_length r) r)
-unfolding character_length
-next_more w [] n = absurd (n refl)
-next_more w (x ∷ u) n = go (stands x u) (one_more w x u) n
-  where
-    k : ℕ
-    k = length (follows characters x)
+  -- one may: what is after it decides
+  pub next_more : (w : ℕ) → by_characters (suc w) r ≡ by_characters w (drop n r)
+  unfolding character_length
+  next_more w = go r e
+    where
+      go : (r : List ℕ) → character_length r ≡ Some n → by_characters (suc w) r ≡ by_characters w (drop n r)
+      go [] e = absurd (some_none n (sym e))
+      go (x ∷ u) e = by_test (stands x u) (one_more w x u) e
+        where
+          k : ℕ
+          k = length (follows characters x)
 
-    go : (b : Bool) → by_characters (suc w) (x ∷ u) ≡ (b && by_characters w (drop k u)) → (pick b (suc k) 0 ≡ 0 → ⊥)
-        → by_characters (suc w) (x ∷ u) ≡ by_characters w (drop (pick b (suc k) 0) (x ∷ u))
-    go true e n = e
-    go false e n = absurd (n refl)
+          by_test : (b : Bool) → by_characters (suc w) (x ∷ u) ≡ (b && by_characters w (drop k u)) → pick b (Some (suc k)) None ≡ Some n
+              → by_characters (suc w) (x ∷ u) ≡ by_characters w (drop n (x ∷ u))
+          by_test true o e = rw (← some_same (suc k) n e) o
+          by_test false o e = absurd (some_none n (sym e))
 
--- it is not longer than the bytes
-next_short : (r : List ℕ) → character_length r ≤ length r
-unfolding character_length
-next_short [] = omega arith
-next_short (x ∷ u) = go (stands x u) refl
-  where
-    go : (b : Bool) → stands x u ≡ b → pick b (suc (length (follows characters x))) 0 ≤ suc (length u)
-    go true e =
-        let s : T (stands x u) = subst T (sym e) tt in
-        let i = and_r (starts characters x) (in_each (follows characters x) u) (and_r (is_text_byte x) (starts characters x && in_each (follows characters x) u) s) in
-        omega (arith, each_short (follows characters x) u i)
-    go false e = omega arith
+  -- it is not longer than the bytes
+  pub next_short : (1 ≤ n) × (n ≤ length r)
+  unfolding character_length
+  next_short = go r e
+    where
+      go : (r : List ℕ) → character_length r ≡ Some n → (1 ≤ n) × (n ≤ length r)
+      go [] e = absurd (some_none n (sym e))
+      go (x ∷ u) e = by_test (stands x u) refl e
+        where
+          by_test : (b : Bool) → stands x u ≡ b → pick b (Some (suc (length (follows characters x)))) None ≡ Some n → (1 ≤ n) × (n ≤ suc (length u))
+          by_test true q e =
+              let s : T (stands x u) = subst T (sym q) tt in
+              let i = and_r (starts characters x) (in_each (follows characters x) u) (and_r (is_text_byte x) (starts characters x && in_each (follows characters x) u) s) in
+              let z = some_same _ n e in
+              (omega arith, omega (arith, each_short (follows characters x) u i))
+          by_test false q e = absurd (some_none n (sym e))
 
--- the loop: past i bytes, and with so many characters left, what is left decides
-module _ (t : List ℕ) (w : ℕ) where
-  abbrev pub Left : ℕ → ℕ → Type 0
-  Left i left = (by_characters left (drop i t) ≡ by_characters w t) × (i ≤ length t)
+-- the loop: with so many characters left, what is left decides
+module _ (t r : List ℕ) (w left : ℕ) (v : by_characters left r ≡ by_characters w t) where
+  -- no character stands in front
+  pub left_none : character_length r ≡ None → eqb (length r) 0 ≡ by_characters w t
+  left_none e = next_none left r e ∙ v
 
-  module _ (i left : ℕ) (v : Left i left) where
-    -- nothing is left
-    pub left_none : length t ≤ i → true ≡ by_characters w t
-    unfolding by_characters at_most
-    left_none h = rw (at_end_lem t i h) at v.0
+  module _ (n : ℕ) (e : character_length r ≡ Some n) where
+    -- one too many
+    pub left_wide : left ≡ 0 → false ≡ by_characters w t
+    left_wide z = next_full r n e ∙ ap (λ k. by_characters k r) (sym z) ∙ v
 
-    module _ (h : i < length t) (n : ℕ) (q : n ≡ character_length (take (length t - i) (drop i t))) where
-      -- the bytes that are left
-      rest : 1 ≤ length (drop i t)
-      rest = rw (length-drop i t) (omega arith)
+    -- one more, of n bytes
+    pub left_within : n ≤ length r
+    left_within = (next_short r n e).1
 
-      next : n ≡ character_length (drop i t)
-      next = let e : take (length t - i) (drop i t) ≡ drop i t = take_all (length t - i) (drop i t) (rw (length-drop i t) (omega arith)) in rw e at q
+    whole : take (length r - n) (drop n r) ≡ drop n r
+    whole = take_all (length r - n) (drop n r) (rw (length-drop n r) (omega arith))
 
-      -- the character does not pass the end
-      pub left_within : i + n ≤ length t
-      left_within = omega (arith, next, next_short (drop i t), length-drop i t)
+    pub left_less : length (take (length r - n) (drop n r)) < length r
+    left_less = rw (whole, length-drop n r) (omega (arith, (next_short r n e).0, (next_short r n e).1))
 
-      -- no character
-      pub left_broken : n ≡ 0 → false ≡ by_characters w t
-      left_broken e = sym (next_none left (drop i t) rest (sym next ∙ e)) ∙ v.0
+    pub left_more : (left ≡ 0 → ⊥) → by_characters (left - 1) (take (length r - n) (drop n r)) ≡ by_characters w t
+    left_more k = let z : suc (left - 1) ≡ left = omega arith in rw (whole, ← next_more r n e (left - 1), z) v
 
-      -- one too many
-      pub left_wide : left ≡ 0 → false ≡ by_characters w t
-      left_wide e = sym (next_full (drop i t) rest) ∙ ap (λ k. by_characters k (drop i t)) (sym e) ∙ v.0
-
-      -- one more, of n bytes
-      pub left_more : (n ≡ 0 → ⊥) → (left ≡ 0 → ⊥) → Left (i + n) (left - 1)
-      left_more m k =
-          let z : suc (left - 1) ≡ left = omega arith in
-          let e = next_more (left - 1) (drop i t) (λ a. m (next ∙ a)) in
-          (rw (← next, drop-drop n i t, z) at (sym e) ∙ v.0, left_within)
-
-pub ruleset counting = (rules, left_none, left_broken, left_wide, left_more)
+pub ruleset counting = (rules, left_none, left_wide, left_within, left_less, left_more)

@@ -1,16 +1,16 @@
 -- RFC 3629's table, as the code asks it: how many bytes follow a character's first byte, and which may come second.
-use mathlib.Core.Path.{◌≡◌, refl, sym, ◌∙◌, subst}
-use mathlib.Core.Bool.{Bool, true, false, and-true, and-false}
+use mathlib.Core.Path.{◌≡◌, refl, ◌∙◌}
+use mathlib.Core.Bool.{Bool, true, false, and-false}
 use mathlib.Core.List.{List, [], ◌∷◌, ◌++◌}
 use Prim.Native.Nat.{ℕ, ◌≤◌, ◌<◌}
 use native.Mathlib.Decide.{dec_le}
 use native.Mathlib.Omega.{arith}
 use borrow.Author.Rules.{rules}
-use borrow.Author.Tests.{not-true, not-false, le-leb, lt-leb}
+use borrow.Author.Tests.{le-leb, lt-leb}
 use lib.Dec.{T, leb, ltb, leb→le, le→leb, ltb→lt}
 use lib.ListN.{length, take, drop}
 use Rattle.base.specs.Lists.{all}
-use Rattle.base.specs.Tests.{and_l, and_r, T_true}
+use Rattle.base.specs.Tests.{and_l, and_r}
 use Rattle.meaning.specs.Characters.{Range, ◌to◌, is_in, tail, characters, follows}
 use Rattle.laws.specs.Ascii.{is_ascii, ascii_follows}
 use Rattle.form.specs.Characters.{in_first}
@@ -177,67 +177,56 @@ module _ (x : ℕ) where
         ]
       ]
 
--- what is no tail is in no range of tails
-no_tail : (a b y : ℕ) → 0x80 ≤ a → b ≤ 0xBF → false ≡ is_in tail y → false ≡ is_in (a to b) y
-no_tail a b y l h e =
-    elim (dec_le a y) [
-      | yes c ↦ elim (dec_le y b) [ yes d ↦ e ∙ within 0x80 0xBF y (omega arith) (omega arith) ∙ sym (within a b y c d) | no d ↦ sym (beyond a b y (omega arith)) ]
-      | no c ↦ sym (below a b y (omega arith))
-    ]
+-- the row that each of the four has
+module _ (x : ℕ) where
+  -- after E0 less would be overlong
+  pub row_e0 : x ≡ 0xE0 → follows characters x ≡ 0xA0 to 0xBF ∷ tail ∷ []
+  unfolding follows characters is_in
+  row_e0 e = rw e
 
--- the ends of a tail's range
-tail_low : (y : ℕ) → true ≡ is_in tail y → leb 0x80 y ≡ true
-unfolding is_in
-tail_low y e = T_true (leb 0x80 y) (and_l (leb 0x80 y) (leb y 0xBF) (subst T e tt))
+  -- after ED more would be a surrogate
+  pub row_ed : x ≡ 0xED → follows characters x ≡ 0x80 to 0x9F ∷ tail ∷ []
+  unfolding follows characters is_in
+  row_ed e = rw e
 
-tail_high : (y : ℕ) → true ≡ is_in tail y → leb y 0xBF ≡ true
-unfolding is_in
-tail_high y e = T_true (leb y 0xBF) (and_r (leb 0x80 y) (leb y 0xBF) (subst T e tt))
+  -- after F0 less would be overlong
+  pub row_f0 : x ≡ 0xF0 → follows characters x ≡ 0x90 to 0xBF ∷ tail ∷ tail ∷ []
+  unfolding follows characters is_in
+  row_f0 e = rw e
 
-module _ (x y : ℕ) (n : 1 ≤ length (follows characters x)) (t : Bool) (q : t ≡ is_in tail y) where
-  -- what is no tail comes second nowhere
-  pub second_none : t ≡ false → false ≡ in_first (follows characters x) y
-  unfolding follows characters is_in in_first
-  second_none h = go (leads x n)
-    where
-      go : Leads x → false ≡ in_first (follows characters x) y
-      go (e0 e) = rw e (no_tail 0xA0 0xBF y (omega arith) (omega arith) (sym h ∙ q))
-      go (ed e) = rw e (no_tail 0x80 0x9F y (omega arith) (omega arith) (sym h ∙ q))
-      go (f0 e) = rw e (no_tail 0x90 0xBF y (omega arith) (omega arith) (sym h ∙ q))
-      go (f4 e) = rw e (no_tail 0x80 0x8F y (omega arith) (omega arith) (sym h ∙ q))
-      go (other rs e) = rw e (sym h ∙ q)
+  -- after F4 more would be above U+10FFFF
+  pub row_f4 : x ≡ 0xF4 → follows characters x ≡ 0x80 to 0x8F ∷ tail ∷ tail ∷ []
+  unfolding follows characters is_in
+  row_f4 e = rw e
 
-  module _ (h : t ≡ true) where
-    -- after E0 less would be overlong
-    pub second_e0 : x ≡ 0xE0 → leb 0xA0 y ≡ in_first (follows characters x) y
-    unfolding follows characters is_in in_first
-    second_e0 e = rw (e, tail_high y (sym h ∙ q)) (sym (and-true (leb 0xA0 y)))
-
-    -- after ED more would be a surrogate
-    pub second_ed : x ≡ 0xED → leb y 0x9F ≡ in_first (follows characters x) y
-    unfolding follows characters is_in in_first
-    second_ed e = rw (e, tail_low y (sym h ∙ q))
-
-    -- after F0 less would be overlong
-    pub second_f0 : x ≡ 0xF0 → leb 0x90 y ≡ in_first (follows characters x) y
-    unfolding follows characters is_in in_first
-    second_f0 e = rw (e, tail_high y (sym h ∙ q)) (sym (and-true (leb 0x90 y)))
-
-    -- after F4 more would be above U+10FFFF
-    pub second_f4 : x ≡ 0xF4 → leb y 0x8F ≡ in_first (follows characters x) y
-    unfolding follows characters is_in in_first
-    second_f4 e = rw (e, tail_low y (sym h ∙ q))
-
-    -- after any other a tail will do
-    pub second_other : (x ≡ 0xE0 → ⊥) → (x ≡ 0xED → ⊥) → (x ≡ 0xF0 → ⊥) → (x ≡ 0xF4 → ⊥) → true ≡ in_first (follows characters x) y
+module _ (x y : ℕ) where
+  module _ (a b : ℕ) (rs : List Range) (e : follows characters x ≡ a to b ∷ rs) where
+    -- the second byte is in the row's range
+    pub second_in : a ≤ y → y ≤ b → true ≡ in_first (follows characters x) y
     unfolding in_first
-    second_other a b c d = go (leads x n)
-      where
-        go : Leads x → true ≡ in_first (follows characters x) y
-        go (e0 e) = absurd (a e)
-        go (ed e) = absurd (b e)
-        go (f0 e) = absurd (c e)
-        go (f4 e) = absurd (d e)
-        go (other rs e) = rw e (sym h ∙ q)
+    second_in l h = rw (e, within a b y l h)
 
-pub ruleset second = (rules, not-true, not-false, second_none, second_e0, second_ed, second_f0, second_f4, second_other)
+    -- or below it
+    pub second_below : y < a → false ≡ in_first (follows characters x) y
+    unfolding in_first
+    second_below h = rw (e, below a b y h)
+
+    -- or above it
+    pub second_above : b < y → false ≡ in_first (follows characters x) y
+    unfolding in_first
+    second_above h = rw (e, beyond a b y h)
+
+  -- after any other a tail comes second
+  pub second_other :
+      1 ≤ length (follows characters x) → (x ≡ 0xE0 → ⊥) → (x ≡ 0xED → ⊥) → (x ≡ 0xF0 → ⊥) → (x ≡ 0xF4 → ⊥) → is_in tail y ≡ in_first (follows characters x) y
+  unfolding in_first
+  second_other n a b c d = go (leads x n)
+    where
+      go : Leads x → is_in tail y ≡ in_first (follows characters x) y
+      go (e0 e) = absurd (a e)
+      go (ed e) = absurd (b e)
+      go (f0 e) = absurd (c e)
+      go (f4 e) = absurd (d e)
+      go (other rs e) = rw e
+
+pub ruleset second = (rules, row_e0, row_ed, row_f0, row_f4, second_in, second_below, second_above, second_other)

@@ -11,7 +11,6 @@ use lib.ListN.{length, get_or}
 use Rattle.base.specs.Lists.{all, same, part}
 use Rattle.base.specs.Tests.{and_in, and_l, and_r, same_test, T_true}
 use Rattle.base.specs.ListLaws.{all_map, all_append, append_all, same_eq}
-use Rattle.number.proofs.ByteLaws.{places}
 use Rattle.meaning.specs.Characters.{at_most}
 use Rattle.meaning.specs.Forms.{is_digit, is_digits, is_text_byte, quoted, inside, by_characters, is_text, is_key}
 use Rattle.laws.specs.Digits.{digit_high}
@@ -115,6 +114,3 @@ module _ (letter : ℕ) (f : List ℕ) where
           rw (quotes f (omega arith), z)
           (reorder (eqb (get_or f 0 0) 34) (eqb (get_or f 15 0) 34) (by_characters 14 (inside f)) (is_ascii_text letter)
           (is_digits 4 (part f 1 5)) (same (part f 5 6) (letter ∷ [])) (is_digits 9 (part f 6 15)) (within n))
-
--- for the tests in their order: `search keyed depth 24`, where many have passed with `fits 20000`
-pub ruleset keyed = (key_tests_lem, places)

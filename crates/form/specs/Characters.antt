@@ -1,5 +1,5 @@
 -- The character that stands in front of bytes.
-use Rattle.std.specs.Prelude.{Bool, true, false, ◌&&◌, List, [], ◌∷◌, ℕ, suc, ltb, length}
+use Rattle.std.specs.Prelude.{Bool, true, false, ◌&&◌, List, [], ◌∷◌, ℕ, suc, ltb, length, Option, Some, None}
 use Rattle.base.specs.Lists.{pick}
 use Rattle.meaning.specs.Characters.{Range, is_in, characters, starts, follows}
 use Rattle.meaning.specs.Forms.{is_text_byte}
@@ -19,7 +19,7 @@ in_each [] t = true
 in_each (r ∷ rs) [] = false
 in_each (r ∷ rs) (x ∷ t) = is_in r x && in_each rs t
 
--- how many bytes the first character of a text has; 0 where the bytes begin with none
-unfoldable pub character_length : List ℕ → ℕ
-character_length [] = 0
-character_length (x ∷ t) = pick (is_text_byte x && (starts characters x && in_each (follows characters x) t)) (suc (length (follows characters x))) 0
+-- how many bytes the first character of a text has; `None` where the bytes begin with none
+unfoldable pub character_length : List ℕ → Option ℕ
+character_length [] = None
+character_length (x ∷ t) = pick (is_text_byte x && (starts characters x && in_each (follows characters x) t)) (Some (suc (length (follows characters x)))) None

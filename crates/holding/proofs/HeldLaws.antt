@@ -5,7 +5,6 @@ use mathlib.Core.Option.{Option, none, some}
 use mathlib.Core.List.{List, [], ◌∷◌, ◌++◌, map}
 use Prim.Native.Nat.{ℕ, ◌-◌}
 use native.Mathlib.Nat.{sub-zero}
-use native.Mathlib.Omega.{arith}
 use borrow.Author.Rules.{rules}
 use borrow.Author.Tests.{not-true, not-false}
 use lib.ListN.{length, get_or, take, drop}
@@ -13,26 +12,27 @@ use Rattle.base.specs.Lists.{pick, ask, same, keep_if, bytes}
 use Rattle.theory.specs.Decimal.{dec, width}
 use Rattle.theory.specs.DecimalLaws.{length_dec}
 use Rattle.theory.specs.Step.{ins}
-use Rattle.meaning.specs.Lines.{Line, ends_well, fields_of, identifier, has_fields}
+use Rattle.meaning.specs.Lines.{Line, ends_well, fields_of, identifier}
 use Rattle.meaning.specs.Kinds.{Kind, role}
-use Rattle.meaning.specs.Format.{kind_of, named, field_number, start_date, end_date}
+use Rattle.meaning.specs.Format.{kind_of}
 use Rattle.meaning.specs.Table.{fields, scottish}
-use Rattle.meaning.specs.Codes.{field_count_wrong, end_before_start}
 use Rattle.meaning.specs.Answers as meant
 use Rattle.meaning.specs.Answers.{of_line, of_field}
-use Rattle.meaning.specs.Sound.{dates_agree, field_fault, form_fault}
+use Rattle.meaning.specs.Sound.{form_fault}
 use Rattle.meaning.specs.Records.{content_of, letter}
 use Rattle.meaning.specs.Holding.{is_held, is_sound, held_test, held_kind, held_line}
 use Rattle.text.specs.Front.{in_front}
 use Rattle.text.proofs.NumberLaws.{width_most}
+use Rattle.std.specs.Prelude as std
+use Rattle.std.specs.Prelude.{Some, None, Result, Ok, Err, is_ok}
+use Rattle.std.specs.Bool.{then_some}
 use Rattle.answers.specs.declared.refusal.Fault.{Fault}
+use Rattle.answers.specs.Meant.{fault_found}
 use Rattle.layout.specs.declared.kinds.Kind as code
-use Rattle.layout.specs.declared.kinds.KindFound.{KindFound}
-use Rattle.layout.specs.declared.kinds.KindFound.TheVariants.{Known, Unknown}
 use Rattle.layout.specs.Meant.{kind_meant, kind_found}
 use Rattle.layout.specs.Rows.{bare}
-use Rattle.layout.specs.Check.{lowest_bad, first_of, kind_dates, Parted, told}
-use Rattle.layout.proofs.CheckLaws.{forms_is, bad_coded, fault_is, early_there, early_room}
+use Rattle.layout.specs.Check.{lowest_bad, kind_dates, Parted}
+use Rattle.layout.proofs.CheckLaws.{fault_is, early_there, early_room}
 use Rattle.holding.specs.Held.{held_kind_as, held_as, record_as}
 use Rattle.holding.proofs.RunningLaws.{order_digits}
 
@@ -51,58 +51,40 @@ pub ruleset numbers = (rules, width_most, number_told)
 
 -- ---- the tests of a line
 
--- a line with no code has no fault
-no_code : (k : Kind) (t : List ℕ) (f : Fault) → f ≡ told (form_fault scottish k t none) → f.code ≡ 0 → is_sound (form_fault scottish k t none) ≡ true
-unfolding form_fault field_fault
-no_code k t f e z =
-    let u : (told (form_fault scottish k t none)).code ≡ 0 = sym (ap (λ x. x.code) e) ∙ z in
-    rw (forms_is 1 (fields k) (fields_of t) _)
-    (go (has_fields (length (fields k)) t) (lowest_bad 1 (map bare (fields k)) (fields_of t)) (bad_coded 1 (map bare (fields k)) (fields_of t)) (dates_agree (named start_date (fields k) (fields_of t)) (named end_date (fields k) (fields_of t))) (field_number 1 end_date (fields k))
-    (rw (forms_is 1 (fields k) (fields_of t) _) at u))
-  where
-    go : (a : Bool) (b : Option meant.Fault) → ((told b).code ≡ 0 → b ≡ none) → (c : Bool) (x : ℕ) → (told (ask {A = meant.Fault} a (of_line field_count_wrong) (first_of b (ask c (of_field end_before_start x) none)))).code ≡ 0
-        → is_sound (ask a (of_line field_count_wrong) (first_of b (ask c (of_field end_before_start x) none))) ≡ true
-    go true none h true x z = unfold ask is_sound in refl
-    go true none h false x z = unfold ask is_sound in absurd (omega (arith, z))
-    go true (some g) h c x z = let u : ◌≡◌ {A = Option meant.Fault} (some g) none = h (unfold ask in z) in cc
-    go false b h c x z = unfold ask is_sound in absurd (omega (arith, z))
+-- a line is sound where no fault is found
+ok_sound : {T : Type 0} (r : Result T Fault) (o : Option meant.Fault) (b : Bool) → fault_found r ≡ o → b ≡ is_ok r → b ≡ is_sound o
+unfolding is_sound
+ok_sound (Ok u) o b e q = q ∙ rw (← e)
+ok_sound (Err f) o b e q = q ∙ rw (← e)
 
--- one with a code has one
-some_code : (k : Kind) (t : List ℕ) (f : Fault) → f ≡ told (form_fault scottish k t none) → (f.code ≡ 0 → ⊥) → is_sound (form_fault scottish k t none) ≡ false
-some_code k t f e z = go (form_fault scottish k t none) (λ q. z (ap (λ x. x.code) e ∙ q))
-  where
-    go : (o : Option meant.Fault) → ((told o).code ≡ 0 → ⊥) → is_sound o ≡ false
-    go none n = absurd (n refl)
-    go (some g) n = unfold is_sound in refl
-
-module _ (n : ℕ) (k : Kind) (t : List ℕ) (a : Bool) (p : a ≡ is_held (role k)) where
+module _ (n : ℕ) (k : Kind) (t : List ℕ) (x a : Bool) (p : a ≡ is_held (role k)) where
   -- a kind that is not held
-  pub pass_kind : a ≡ false → false ≡ held_test scottish n k t
+  pub pass_kind : a ≡ false → x ≡ false → x ≡ held_test scottish n k t
   unfolding held_test
-  pass_kind u = rw (sym p ∙ u)
+  pass_kind u y = y ∙ rw (sym p ∙ u)
 
-  module _ (u : a ≡ true) (f : Fault) (q : f ≡ told (form_fault scottish k t none)) where
+  module _ (u : a ≡ true) (T : Type 0) (r : Result T Fault) (q : fault_found r ≡ form_fault scottish k t none) (b : Bool) (z : b ≡ is_ok r) where
     -- a line that is unsound
-    pub pass_form : (f.code ≡ 0 → ⊥) → false ≡ held_test scottish n k t
+    pub pass_form : b ≡ false → x ≡ false → x ≡ held_test scottish n k t
     unfolding held_test
-    pass_form z = rw (sym p ∙ u, some_code k t f q z)
+    pass_form v y = y ∙ rw (sym p ∙ u, sym (ok_sound r (form_fault scottish k t none) b q z) ∙ v)
 
-    module _ (z : f.code ≡ 0) (g : List ℕ) (r : g ≡ get_or (fields_of t) 1 []) (b : Bool) (s : b ≡ same g (34 ∷ 73 ∷ 34 ∷ [])) where
-      lettered : b ≡ same (get_or (fields_of t) 1 []) (letter ins)
+    module _ (v : b ≡ true) (g : List ℕ) (r' : g ≡ get_or (fields_of t) 1 []) (c : Bool) (s : c ≡ same g (34 ∷ 73 ∷ 34 ∷ [])) where
+      lettered : c ≡ same (get_or (fields_of t) 1 []) (letter ins)
       unfolding letter bytes
-      lettered = rw (← r) s
+      lettered = rw (← r') s
 
       -- another CHANGE_TYPE
-      pub pass_letter : b ≡ false → false ≡ held_test scottish n k t
+      pub pass_letter : c ≡ false → x ≡ false → x ≡ held_test scottish n k t
       unfolding held_test
-      pass_letter v = rw (sym p ∙ u, no_code k t f q z, sym lettered ∙ v)
+      pass_letter w y = y ∙ rw (sym p ∙ u, sym (ok_sound r (form_fault scottish k t none) b q z) ∙ v, sym lettered ∙ w)
 
       -- else PRO_ORDER says it
-      pub pass_number : b ≡ true → (e : List ℕ) → e ≡ get_or (fields_of t) 2 [] → (c : Bool) → c ≡ same e (dec n) → c ≡ held_test scottish n k t
+      pub pass_number : c ≡ true → (e : List ℕ) → e ≡ get_or (fields_of t) 2 [] → x ≡ same e (dec n) → x ≡ held_test scottish n k t
       unfolding held_test
-      pass_number v e w c x = rw (sym p ∙ u, no_code k t f q z, sym lettered ∙ v, ← w) x
+      pass_number w e i y = rw (sym p ∙ u, sym (ok_sound r (form_fault scottish k t none) b q z) ∙ v, sym lettered ∙ w, ← i) y
 
-pub ruleset passing = (rules, not-true, not-false, pass_kind, pass_form, pass_letter, pass_number)
+pub ruleset passing = (rules, pass_kind, pass_form, pass_letter, pass_number)
 
 -- ---- the tests of a line that was passed
 
@@ -125,30 +107,32 @@ pub ruleset notes = (rules, not-true, not-false, early_there, early_room, order_
 
 -- ---- a line
 
-module _ (n : ℕ) (t : List ℕ) (b : Bool) where
-  -- one that does not end well
-  pub held_open : b ≡ false → none ≡ held_as n b t
-  unfolding held_as
-  held_open e = rw e
+module _ (n : ℕ) (t : List ℕ) (b : Bool) (o : std.Option code.Kind) (p : kind_found o ≡ kind_of scottish (identifier t)) (x : std.Option code.Kind) where
+  -- one of no known kind
+  pub held_unknown : o ≡ None → x ≡ None → kind_found x ≡ held_as n b t
+  unfolding held_as held_kind_as
+  held_unknown q y = rw (y, ← p, q) (go b)
+    where
+      go : (b : Bool) → ◌≡◌ {A = Option Kind} none (pick b none none)
+      go true = refl
+      go false = refl
 
-  module _ (e : b ≡ true) (o : KindFound) (p : kind_found o ≡ kind_of scottish (identifier t)) where
-    -- one of no known kind
-    pub held_unknown : o ≡ Unknown → none ≡ held_as n b t
+  module _ (k : code.Kind) (q : o ≡ Some k) (y : Bool) (z : x ≡ then_some y k) where
+    -- one that does not end well
+    pub held_open : b ≡ false → y ≡ false → kind_found x ≡ held_as n b t
+    unfolding held_as
+    held_open e i = rw (e, z, i)
+
+    -- one that does is held where it passes
+    pub held_ended : b ≡ true → (d : Bool) → y ≡ d → d ≡ held_test scottish n (kind_meant k) t → kind_found x ≡ held_as n b t
     unfolding held_as held_kind_as
-    held_unknown q = rw (e, ← p, q)
+    held_ended e d j i = rw (e, ← p, q, z, ← i, ← j) (go y)
+      where
+        go : (c : Bool) → kind_found (then_some c k) ≡ keep_if c (kind_meant k)
+        go true = unfold keep_if in refl
+        go false = unfold keep_if in refl
 
-    module _ (k : code.Kind) (q : o ≡ Known k) (c : Bool) (r : c ≡ held_test scottish n (kind_meant k) t) where
-      -- one that fails a test
-      pub held_fails : c ≡ false → none ≡ held_as n b t
-      unfolding held_as held_kind_as keep_if
-      held_fails s = rw (e, ← p, q, sym r ∙ s)
-
-      -- one that is held
-      pub held_passes : c ≡ true → some (kind_meant k) ≡ held_as n b t
-      unfolding held_as held_kind_as keep_if
-      held_passes s = rw (e, ← p, q, sym r ∙ s)
-
-pub ruleset holds = (rules, not-true, not-false, held_open, held_unknown, held_fails, held_passes)
+pub ruleset holds = (rules, held_unknown, held_open, held_ended)
 
 -- the record that the meaning has of a line is that of the kind that was found
 pub held_is : (n : ℕ) (l : Line) (b : Bool) → b ≡ ends_well l → held_line scottish n l ≡ record_as l.text (held_as n b l.text)

@@ -1,14 +1,14 @@
 -- The laws of the second pass, which is for references, and of both passes together.
 use mathlib.Core.Path.{◌≡◌, refl, sym, ap, subst, ◌∙◌}
-use mathlib.Core.Bool.{Bool, true, false, ◌&&◌}
-use mathlib.Core.Option.{Option, none, some}
+use mathlib.Core.Bool.{Bool, true, false}
+use mathlib.Core.Option.{none}
 use mathlib.Core.List.{List, [], ◌∷◌, ◌++◌}
 use Prim.Native.Nat.{ℕ, suc, ◌+◌, ◌/◌, ◌%◌, ◌≤◌, ◌<◌}
 use native.Mathlib.Numerals.{add-one}
 use native.Mathlib.Omega.{arith}
 use borrow.Author.Rules.{rules}
-use borrow.Author.Tests.{not-true, not-false}
-use lib.Dec.{T, eqb, leb}
+use Rattle.std.specs.Prelude.{Result, Ok, Err, MatchResult, IsErrAnd}
+use lib.Dec.{T, eqb}
 use lib.ListN.{length, get_or, take, drop, drop_of_length-le, take-append-drop}
 use lib.Seq.{length-take-le, take-add, take_all}
 use Rattle.base.specs.Lists.{all, pick, zeros}
@@ -16,11 +16,10 @@ use Rattle.base.specs.Tests.{and_l}
 use Rattle.base.specs.ListLaws.{append_all}
 use Rattle.theory.specs.ReadBack.{Sound}
 use Rattle.theory.specs.Refs.{meets}
-use Rattle.meaning.specs.Lines.{Line, lines_of}
+use Rattle.meaning.specs.Lines.{lines_of}
 use Rattle.meaning.specs.Table.{scottish}
-use Rattle.meaning.specs.Records.{Rec, key_of, keyed, refs_of}
-use Rattle.meaning.specs.Holding as meaning
-use Rattle.meaning.specs.Holding.{sound, unsound, held_line, add_rec, above, on_held, scan, referring, on_scan, read_holding, most_records}
+use Rattle.meaning.specs.Records.{Rec, keyed, refs_of}
+use Rattle.meaning.specs.Holding.{sound, unsound, scan, referring, on_scan, read_holding, most_records}
 use Rattle.meaning.specs.Load.{held_numbers, check_holding}
 use Rattle.meaning.specs.Steps.{held_tests}
 use Rattle.laws.specs.Body.{fine}
@@ -37,13 +36,11 @@ use Rattle.places.proofs.SaysLaws.{length_says, says_at}
 use Rattle.places.proofs.OrderedLaws.{ordered_asc, tagged_in, tagged_at}
 use Rattle.places.proofs.CountLaws.{refs_few, tally_few, tally_more, by_cong, by_nothing, count_all, open_up, has_all}
 use Rattle.noted.specs.Noted.{RefsNoted}
-use Rattle.holding.specs.declared.read.Held.{Held}
-use Rattle.holding.specs.Read.{fault_of, records_of, Listed, NotedAs, ReadAs, CountsAs, HeldIs}
-use Rattle.answers.specs.Meant.{verdict_of}
+use Rattle.holding.specs.Read.{records_of, Listed, NotedAs, ScanIs, ReadAs, TallyIs, CountsAs, SoundIs, HeldIs}
+use Rattle.answers.specs.Meant.{refusal_meant, three_said}
+use Rattle.answers.specs.declared.refusal.Refusal.{Refusal}
 use Rattle.meaning.specs.Codes.{holding_unsound}
 use Rattle.meaning.specs.Answers.{of_line, at_line, no_fault, three_of}
-use Rattle.answers.specs.declared.numbers.Verdict.{Verdict}
-use Rattle.answers.proofs.RefusalLaws.{faulted_made}
 
 -- ---- references, i records on
 
@@ -85,7 +82,7 @@ pub ruleset tells = (rules, tags_told, noted_there)
 
 -- the records from i on are left, and the references of those before it are counted
 pub record Counting (h a : List ℕ) (n : ℕ) (t : List ℕ) (i : ℕ) : Type 0 where
-  pub left : fault_of (referring scottish (says h h a n) (i + 1) (drop i (says h h a n))) ≡ fault_of (referring scottish (says h h a n) 1 (says h h a n))
+  pub left : referring scottish (says h h a n) (i + 1) (drop i (says h h a n)) ≡ referring scottish (says h h a n) 1 (says h h a n)
   pub told : take n t ≡ by_key (tally (take i (says h h a n))) (says h h a n)
   pub within : i ≤ n
 
@@ -102,16 +99,15 @@ module _ (h a o : List ℕ) (n : ℕ) (t : List ℕ) (i : ℕ) (w : Counting h a
         (λ k. omega (arith, tally_few (take i (says h h a n)) k, length-take-le i (says h h a n) (omega (arith, length_says h h a n v.within)), refs_few (record_of h h (get_or a i 0))))
 
     module _ (u : List ℕ) (b : Bool) (q : Notes true (says h h a n) (record_of h h (get_or a i 0)) t u b) where
-      here : fault_of (pick b (referring scottish (says h h a n) (suc (i + 1)) (drop (i + 1) (says h h a n))) (unsound (i + 1))) ≡ fault_of (referring scottish (says h h a n) 1 (says h h a n))
+      here : pick b (referring scottish (says h h a n) (suc (i + 1)) (drop (i + 1) (says h h a n))) (unsound (i + 1)) ≡ referring scottish (says h h a n) 1 (says h h a n)
       unfolding referring
       here =
           let e : b ≡ meets (keyed scottish) (refs_of scottish) (says h h a n) (record_of h h (get_or a i 0)) = q.met ∙ meets_agree (says h h a n) v.fines (record_of h h (get_or a i 0)) (fine_at h a o n i v g) in
           rw (left_at h a o n i v g, ← e) at w.left
 
       -- one that is not met is the lowest
-      pub unmet_stop : b ≡ false → CountsAs h a n u (i + 1)
-      unfolding fault_of
-      unmet_stop f = record { line = rw f at here; told = λ z. absurd (omega (arith, z)) }
+      pub unmet_stop : b ≡ false → referring scottish (says h h a n) 1 (says h h a n) ≡ unsound (i + 1)
+      unmet_stop f = sym (rw f at here)
 
       -- one that is met is counted, and leaves those after it
       pub unmet_turn : b ≡ true → Counting h a n u (i + 1)
@@ -138,173 +134,118 @@ module _ (h a o : List ℕ) (n : ℕ) (t : List ℕ) (i : ℕ) (w : Counting h a
               one k = unfold moved refers in sym (ap (λ s. tally s k) more ∙ tally_more (take i st) x k)
 
   -- at the end all are met
-  pub unmet_done : n ≤ i → CountsAs h a n t 0
-  unfolding referring fault_of
+  pub unmet_done : n ≤ i → TallyIs (says h h a n) n t
+  unfolding referring
   unmet_done g =
       let e : drop i (says h h a n) ≡ [] = drop_of_length-le (says h h a n) {i = i} (omega (arith, length_says h h a n v.within)) in
       let f : take i (says h h a n) ≡ says h h a n = take_all i (says h h a n) (omega (arith, length_says h h a n v.within)) in
-      record { line = rw e at w.left; told = λ z. w.told ∙ ap (λ s. by_key (tally s) (says h h a n)) f }
+      record { met = sym (rw e at w.left); told = w.told ∙ ap (λ s. by_key (tally s) (says h h a n)) f }
 
-pub ruleset unmets = (rules, not-true, not-false, fine_at, tagged_in, tagged_at, unmet_start, unmet_open, unmet_stop, unmet_turn, unmet_done)
-
--- ---- a faulty line is never 0
-
-abbrev pub Counted : meaning.Held → Type 0
-Counted (sound st) = Unit {0}
-Counted (unsound n) = n ≡ 0 → ⊥
-
-counted_add : (r : Rec) (s : meaning.Held) → Counted s → Counted (add_rec r s)
-unfolding add_rec
-counted_add r (sound st) c = tt
-counted_add r (unsound n) c = c
-
-scan_counted : (n : ℕ) (lo : Option (List ℕ)) (ls : List Line) → Counted (scan scottish (suc n) lo ls)
-unfolding scan on_held
-scan_counted n lo [] = tt
-scan_counted n lo (l ∷ ls) = go (held_line scottish (suc n) l) (λ r. scan_counted (suc n) (some (key_of scottish r)) ls)
-  where
-    when : (c : Bool) (r : Rec) → Counted (scan scottish (suc (suc n)) (some (key_of scottish r)) ls) → Counted (pick c (add_rec r (scan scottish (suc (suc n)) (some (key_of scottish r)) ls)) (unsound (suc n)))
-    when true r i = counted_add r (scan scottish (suc (suc n)) (some (key_of scottish r)) ls) i
-    when false r i = λ z. omega (arith, z)
-
-    go : (o : Option Rec) → ((r : Rec) → Counted (scan scottish (suc (suc n)) (some (key_of scottish r)) ls)) → Counted (on_held scottish (suc n) lo o (λ r. scan scottish (suc (suc n)) (some (key_of scottish r)) ls))
-    go none i = λ z. omega (arith, z)
-    go (some r) i = when (above scottish lo r && leb (suc n) most_records) r (i r)
-
--- the pass for references keeps the records
-abbrev Refers : List Rec → meaning.Held → Type 0
-Refers st (sound s) = s ≡ st
-Refers st (unsound n) = n ≡ 0 → ⊥
-
-refer_is : (st : List Rec) (n : ℕ) (rs : List Rec) → Refers st (referring scottish st (suc n) rs)
-unfolding referring
-refer_is st n [] = refl
-refer_is st n (r ∷ rs) = go (meets (keyed scottish) (refs_of scottish) st r) (refer_is st (suc n) rs)
-  where
-    go : (c : Bool) → Refers st (referring scottish st (suc (suc n)) rs) → Refers st (pick c (referring scottish st (suc (suc n)) rs) (unsound (suc n)))
-    go true i = i
-    go false i = λ z. omega (arith, z)
-
--- a holding's faulty line is never 0
-pub read_counted : (h : List ℕ) → Counted (read_holding scottish h)
-unfolding read_holding
-read_counted h = go (scan scottish 1 none (lines_of h)) (scan_counted 0 none (lines_of h))
-  where
-    met : (st : List Rec) (s : meaning.Held) → Refers st s → Counted s
-    met st (sound s) i = tt
-    met st (unsound n) i = i
-
-    go : (s : meaning.Held) → Counted s → Counted (on_scan scottish s)
-    go (sound st) c = unfold on_scan in (met st (referring scottish st 1 st) (refer_is st 0 st))
-    go (unsound n) c = unfold on_scan in c
-
--- so what has no faulty line is sound
-pub sound_told : (s : meaning.Held) → Counted s → fault_of s ≡ 0 → s ≡ sound (records_of s)
-unfolding fault_of records_of
-sound_told (sound st) c z = refl
-sound_told (unsound n) c z = absurd (c z)
-
--- a holding is sound where its lowest faulty line is 0
-pub held_sound : (h : List ℕ) → fault_of (read_holding scottish h) ≡ 0 → read_holding scottish h ≡ sound (records_of (read_holding scottish h))
-held_sound h z = sound_told (read_holding scottish h) (read_counted h) z
+pub ruleset unmets = (rules, fine_at, tagged_in, tagged_at, unmet_start, unmet_open, unmet_stop, unmet_turn, unmet_done)
 
 -- ---- both passes
 
-module _ (h a g v : List ℕ) (r : Held) (s : ReadAs h (scan scottish 1 none (lines_of h)) r a g v) where
+-- an unsound holding, by the answer of either
+pub held_faulty : (h a g t : List ℕ) (l : ℕ) → read_holding scottish h ≡ unsound l → (r : Result ℕ ℕ) → IsErrAnd r (λ e. e ≡ l) → HeldIs h r a g t
+held_faulty h a g t l w (Ok n) q = absurd q
+held_faulty h a g t l w (Err e) q = w ∙ ap unsound (sym q)
+
+module _ (h a g v : List ℕ) (r : Result ℕ ℕ) (s : ReadAs h (scan scottish 1 none (lines_of h)) r a g v) where
   -- a fault of the first pass is the holding's
-  pub read_faulty : (t : List ℕ) → (r.line ≡ 0 → ⊥) → HeldIs h r a g t
-  unfolding read_holding
-  read_faulty t m = record { line = go (scan scottish 1 none (lines_of h)) s.line; listed = λ z. absurd (m z); tagged = λ z. absurd (m z); told = λ z. absurd (m z) }
-    where
-      go : (w : meaning.Held) → r.line ≡ fault_of w → r.line ≡ fault_of (on_scan scottish w)
-      go (sound st) e = absurd (m (unfold fault_of in e))
-      go (unsound n) e = unfold on_scan in e
+  pub read_faulty : (l : ℕ) → r ≡ Err l → read_holding scottish h ≡ unsound l
+  unfolding read_holding on_scan
+  read_faulty l e = let w : scan scottish 1 none (lines_of h) ≡ unsound l = subst (λ x. ReadAs h (scan scottish 1 none (lines_of h)) x a g v) e s in rw w
 
-  module _ (z : r.line ≡ 0) where
-    scan_sound : scan scottish 1 none (lines_of h) ≡ sound (records_of (scan scottish 1 none (lines_of h)))
-    scan_sound = sound_told (scan scottish 1 none (lines_of h)) (scan_counted 0 none (lines_of h)) (sym s.line ∙ z)
+  module _ (n : ℕ) (e : r ≡ Ok n) where
+    lines : ScanIs h (scan scottish 1 none (lines_of h)) n a g v
+    lines = subst (λ x. ReadAs h (scan scottish 1 none (lines_of h)) x a g v) e s
 
-    says_is : says h h a r.count ≡ records_of (scan scottish 1 none (lines_of h))
-    says_is = (s.listed z).says h
+    says_is : says h h a n ≡ records_of (scan scottish 1 none (lines_of h))
+    says_is = lines.listed.says h
 
-    reads : Reads scottish 1 none (lines_of h) (says h h a r.count)
-    reads = subst (Reads scottish 1 none (lines_of h)) (sym says_is) (subst (Scanned scottish 1 none (lines_of h)) scan_sound (scanned scottish scottish_regular 1 none (lines_of h) (omega arith)))
+    reads : Reads scottish 1 none (lines_of h) (says h h a n)
+    reads = subst (Reads scottish 1 none (lines_of h)) (sym says_is) (subst (Scanned scottish 1 none (lines_of h)) lines.sound (scanned scottish scottish_regular 1 none (lines_of h) (omega arith)))
 
-    -- the starts are no more than a holding may have
-    pub read_few : r.count ≤ most_records
-    read_few = (s.listed z).few
+    -- the records are few
+    pub read_few : n ≤ most_records
+    read_few = lines.listed.few
 
-    -- the records are sound and in order, and their keys are tagged
-    pub read_ordered : most_records ≤ length a → Ordered h h a g r.count
-    read_ordered l = record { within = omega (arith, read_few); asc = reads.asc; fines = reads.fines; tagged = s.tagged z ∙ ap (by_key tag_of) (sym says_is) }
+    -- they are sound and in order, and their keys are tagged
+    pub read_ordered : most_records ≤ length a → Ordered h h a g n
+    read_ordered l = record { within = omega (arith, read_few); asc = reads.asc; fines = reads.fines; tagged = lines.tagged ∙ ap (by_key tag_of) (sym says_is) }
 
     -- and what they refer to is noted
-    pub read_noted : NotedAs h a v r.count
-    read_noted = s.noted z
+    pub read_noted : NotedAs h a v n
+    read_noted = lines.noted
 
     -- with room for each
-    pub read_room : most_records ≤ length v → r.count ≤ length v
+    pub read_room : most_records ≤ length v → n ≤ length v
     read_room l = omega (arith, read_few)
 
     -- the second pass says the rest
-    pub read_told : (t : List ℕ) (x : ℕ) → CountsAs h a r.count t x → HeldIs h (record { line = x; count = r.count }) a g t
+    same : read_holding scottish h ≡ referring scottish (says h h a n) 1 (says h h a n)
     unfolding read_holding on_scan
-    read_told t x e = record {
-      line = e.line ∙ ap fault_of (sym same);
-      listed = λ y. subst (λ w. Listed h a r.count (records_of w)) (sym same) (kept (referring scottish st 1 st) (refer_is st 0 st) (sym e.line ∙ y));
-      tagged = λ y. subst (λ w. take r.count g ≡ by_key tag_of (records_of w)) (sym same) (tags (referring scottish st 1 st) (refer_is st 0 st) (sym e.line ∙ y));
-      told = λ y. subst (λ w. take r.count t ≡ by_key (tally (records_of w)) (records_of w)) (sym same) (counts (referring scottish st 1 st) (refer_is st 0 st) (sym e.line ∙ y) (e.told y));
-    }
-      where
-        st : List Rec
-        st = says h h a r.count
+    same = ap (on_scan scottish) lines.sound ∙ ap (λ l. referring scottish l 1 l) (sym says_is)
 
-        same : read_holding scottish h ≡ referring scottish st 1 st
-        same = ap (on_scan scottish) scan_sound ∙ ap (λ l. referring scottish l 1 l) (sym says_is)
+    module _ (T : Type 0) (t : List ℕ) (x : Result T ℕ) (c : CountsAs h a n t x) where
+      -- a reference that is not met
+      pub read_unmet : (l : ℕ) → x ≡ Err l → read_holding scottish h ≡ unsound l
+      read_unmet l d = same ∙ subst (λ y. CountsAs h a n t y) d c
 
-        kept : (w : meaning.Held) → Refers st w → fault_of w ≡ 0 → Listed h a r.count (records_of w)
-        kept (sound t) i y = unfold records_of in (rw (i, says_is) (s.listed z))
-        kept (unsound n) i y = absurd (i (unfold fault_of in y))
+      -- a sound holding
+      pub read_told : (u : T) → x ≡ Ok u → SoundIs h n a g t
+      unfolding records_of
+      read_told u d =
+          let k : TallyIs (says h h a n) n t = subst (λ y. CountsAs h a n t y) d c in
+          let w : read_holding scottish h ≡ sound (says h h a n) = same ∙ k.met in
+          record { sound = is_sound w; listed = is_listed w; tagged = is_tagged w; told = is_told w k.told }
+        where
+          is_sound : read_holding scottish h ≡ sound (says h h a n) → read_holding scottish h ≡ sound (records_of (read_holding scottish h))
+          is_sound w = rw w
 
-        tags : (w : meaning.Held) → Refers st w → fault_of w ≡ 0 → take r.count g ≡ by_key tag_of (records_of w)
-        tags (sound t) i y = unfold records_of in (rw (i, says_is) (s.tagged z))
-        tags (unsound n) i y = absurd (i (unfold fault_of in y))
+          is_listed : read_holding scottish h ≡ sound (says h h a n) → Listed h a n (records_of (read_holding scottish h))
+          is_listed w = rw (w, says_is) lines.listed
 
-        counts : (w : meaning.Held) → Refers st w → fault_of w ≡ 0 → take r.count t ≡ by_key (tally st) st → take r.count t ≡ by_key (tally (records_of w)) (records_of w)
-        counts (sound t) i y q = unfold records_of in (rw i q)
-        counts (unsound n) i y q = absurd (i (unfold fault_of in y))
+          is_tagged : read_holding scottish h ≡ sound (says h h a n) → take n g ≡ by_key tag_of (records_of (read_holding scottish h))
+          is_tagged w = rw (w, says_is) lines.tagged
 
-pub ruleset readings = (rules, read_faulty, read_few, read_ordered, read_noted, read_room, read_told)
+          is_told : read_holding scottish h ≡ sound (says h h a n) → take n t ≡ by_key (tally (says h h a n)) (says h h a n) → take n t ≡ by_key (tally (records_of (read_holding scottish h))) (records_of (read_holding scottish h))
+          is_told w q = rw w q
+
+pub ruleset readings = (rules, read_faulty, read_few, read_ordered, read_noted, read_room, read_unmet, read_told)
 
 -- ---- a sound holding that was read
 
-module _ (h a g t : List ℕ) (r : Held) (s : HeldIs h r a g t) (z : r.line ≡ 0) where
+module _ (h a g t : List ℕ) (n : ℕ) (s : SoundIs h n a g t) where
   -- its records are as steps leave them
   pub held_state : Sound (keyed scottish) (fine scottish) (held_tests scottish) (records_of (read_holding scottish h))
   unfolding held_records
-  held_state = ((holding scottish scottish_regular).holds h (records_of (read_holding scottish h)) (ap held_records (held_sound h (sym s.line ∙ z)))).1
+  held_state = ((holding scottish scottish_regular).holds h (records_of (read_holding scottish h)) (ap held_records s.sound)).1
 
   -- so its entries are in order, beside any file
-  pub held_ordered : (f : List ℕ) → most_records ≤ length a → Ordered h f a g r.count
+  pub held_ordered : (f : List ℕ) → most_records ≤ length a → Ordered h f a g n
   held_ordered f l =
-      let e : says h f a r.count ≡ records_of (read_holding scottish h) = (s.listed z).says f in
-      record { within = omega (arith, (s.listed z).few); asc = rw e held_state.asc; fines = rw e held_state.fines; tagged = rw e (s.tagged z) }
+      let e : says h f a n ≡ records_of (read_holding scottish h) = s.listed.says f in
+      record { within = omega (arith, s.listed.few); asc = rw e held_state.asc; fines = rw e held_state.fines; tagged = rw e s.tagged }
 
 -- ---- the three numbers
 
-module _ (h a g t : List ℕ) (r : Held) (s : HeldIs h r a g t) where
+-- the refusal of an unsound holding, by its lowest faulty line
+abbrev pub Refused : Result ℕ ℕ → Result ℕ Refusal → Type 0
+Refused r q = MatchResult r (λ x. q ≡ Ok x) (λ e. IsErrAnd q (λ d. refusal_meant d ≡ at_line e (of_line holding_unsound)))
+
+module _ (h a g t : List ℕ) (q : Result ℕ Refusal) where
   -- a sound holding
-  pub check_sound : r.line ≡ 0 → (v : Verdict) → v ≡ verdict_of no_fault → v ≡ verdict_of (check_holding scottish h)
+  pub check_sound : (r : Result ℕ ℕ) → HeldIs h r a g t → Refused r q → (n : ℕ) → q ≡ Ok n → no_fault ≡ check_holding scottish h
   unfolding check_holding held_numbers
-  check_sound z v e = e ∙ rw (held_sound h (sym s.line ∙ z))
+  check_sound (Ok x) s m n e = sym (ap held_numbers s.sound)
+  check_sound (Err l) s m n e = absurd (subst (λ x. IsErrAnd x (λ d. refusal_meant d ≡ at_line l (of_line holding_unsound))) e m)
 
   -- an unsound one
-  pub check_unsound : (r.line ≡ 0 → ⊥) → (v : Verdict) → v ≡ verdict_of (three_of (at_line r.line (of_line holding_unsound))) → v ≡ verdict_of (check_holding scottish h)
-  unfolding check_holding
-  check_unsound m v e = e ∙ go (read_holding scottish h) s.line
-    where
-      go : (w : meaning.Held) → r.line ≡ fault_of w → verdict_of (three_of (at_line r.line (of_line holding_unsound))) ≡ verdict_of (held_numbers w)
-      go (sound st) e = absurd (m (unfold fault_of in e))
-      go (unsound n) e = unfold fault_of held_numbers in (rw e)
-
-pub ruleset checks = (rules, faulted_made, check_sound, check_unsound)
+  pub check_unsound : (r : Result ℕ ℕ) → HeldIs h r a g t → Refused r q → (d : Refusal) → q ≡ Err d → {T : Type 0} → (p : Result T Refusal) → IsErrAnd p (λ y. y ≡ d) → three_said p ≡ check_holding scottish h
+  unfolding check_holding held_numbers
+  check_unsound (Ok x) s m d e p w = absurd (let z : ◌≡◌ {A = Result ℕ Refusal} (Err d) (Ok x) = sym e ∙ m in cc)
+  check_unsound (Err l) s m d e (Ok u) w = absurd w
+  check_unsound (Err l) s m d e (Err y) w =
+      let v : refusal_meant d ≡ at_line l (of_line holding_unsound) = subst (λ x. IsErrAnd x (λ d. refusal_meant d ≡ at_line l (of_line holding_unsound))) e m in
+      ap (λ x. three_of (refusal_meant x)) w ∙ ap three_of v ∙ sym (ap held_numbers s)

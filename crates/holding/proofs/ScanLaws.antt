@@ -8,7 +8,7 @@ use native.Mathlib.Decide.{dec_lt}
 use native.Mathlib.Numerals.{add-one}
 use native.Mathlib.Omega.{arith}
 use borrow.Author.Rules.{rules}
-use borrow.Author.Tests.{le-leb, lt-leb, not-true, not-false}
+use borrow.Author.Tests.{le-leb, lt-leb}
 use lib.Dec.{T, eqb, leb, leb→le}
 use lib.ListN.{length, get_or, take, drop, set, length-set, length-drop}
 use lib.Seq.{take-suc-set, get_or-set_same, get_or-set_other}
@@ -30,19 +30,21 @@ use Rattle.laws.specs.Kinds.{every}
 use Rattle.laws.specs.Body.{fine}
 use Rattle.laws.specs.HoldingReadBack.{HeldIs, held_out}
 use Rattle.laws.specs.Scottish.{scottish_regular}
-use Rattle.text.specs.declared.order.Order.{Order}
-use Rattle.text.specs.declared.order.Order.TheVariants.{Before, Same, After}
+use Rattle.std.specs.Prelude as std
+use Rattle.std.specs.Prelude.{Some, None, Result, Ok, Err, IsErrAnd}
+use Rattle.std.specs.Bool.{then_some}
+use Rattle.std.specs.Option.{ok_or}
+use Rattle.std.specs.declared.cmp.Ordering.{Ordering}
+use Rattle.std.specs.declared.cmp.Ordering.TheVariants.{Less, Equal, Greater}
+use Rattle.std.specs.Ordering as std_order
 use Rattle.text.specs.Order.{tri_of}
 use Rattle.text.specs.Places.{ends_here, line_len, plain_len, plain_end}
 use Rattle.text.proofs.LineLaws.{first_line, lines_at, lines_end, ends_well_at, ends_there}
 use Rattle.layout.specs.declared.kinds.Kind as code
-use Rattle.layout.specs.declared.kinds.KindFound.{KindFound}
-use Rattle.layout.specs.declared.kinds.KindFound.TheVariants.{Known, Unknown}
 use Rattle.layout.specs.Meant.{kind_meant, kind_found}
 use Rattle.layout.specs.Rows.{bare}
 use Rattle.layout.specs.Check.{lowest_bad, Parted}
-use Rattle.pass.specs.declared.kind.Found.{Found}
-use Rattle.pass.specs.declared.kind.Found.TheVariants.{Line as Passed}
+use Rattle.pass.specs.declared.kind.Passed.{Passed}
 use Rattle.pass.specs.Kinds.{PassedAs, FoundAs}
 use Rattle.keys.specs.declared.Key.{Key}
 use Rattle.keys.specs.Numbers.{key_list, key_numbers}
@@ -58,32 +60,23 @@ use Rattle.places.specs.Counts.{by_key}
 use Rattle.places.proofs.SaysLaws.{says_more, says_held, length_says}
 use Rattle.noted.specs.Noted.{RefsNoted}
 use Rattle.holding.specs.declared.scan.Kept.{Kept}
-use Rattle.holding.specs.declared.scan.Next.{Next}
-use Rattle.holding.specs.declared.scan.Next.TheVariants.{Taken, Faulty}
 use Rattle.holding.specs.Held.{held_as, record_as, record_up_to, next_as, key_taken, after_key, KeptOf, KeptIn, NextIs}
-use Rattle.holding.specs.Read.{fault_of, records_of, NotedAs, ReadAs}
-use Rattle.holding.proofs.HeldLaws.{held_is, held_passes}
+use Rattle.holding.specs.Read.{records_of, NotedAs, ScanIs, ReadAs}
+use Rattle.holding.proofs.HeldLaws.{held_is, held_ended}
 
 -- ---- the next line
 
--- a line's key in order or not
-module _ (q : List ℕ) (l : Kept) (o : Order) (w : tri_of o ≡ lex q (key_list l.key)) where
-  -- a key after the one before is taken
-  pub order_taken : o ≡ Before → Taken l ≡ after_key q l
-  unfolding after_key
-  order_taken e = rw (← w, e)
+-- a line is taken where its key stands after the one before
+pub order_kept : (q : List ℕ) (l : Kept) (o : Ordering) → tri_of o ≡ lex q (key_list l.key) → (b : Bool) → b ≡ std_order.is_lt o → (r : std.Option Kept) → r ≡ then_some b l → r ≡ after_key q l
+unfolding after_key
+order_kept q l o w b e r f = f ∙ rw (e, ← w) (go o)
+  where
+    go : (o : Ordering) → then_some (std_order.is_lt o) l ≡ pick (is_lt (tri_of o)) (Some l) None
+    go Less = refl
+    go Equal = refl
+    go Greater = refl
 
-  -- the same key is out of order
-  pub order_same : o ≡ Same → Faulty ≡ after_key q l
-  unfolding after_key
-  order_same e = rw (← w, e)
-
-  -- and so is one before it
-  pub order_after : o ≡ After → Faulty ≡ after_key q l
-  unfolding after_key
-  order_after e = rw (← w, e)
-
-pub ruleset orders = (rules, order_taken, order_same, order_after)
+pub ruleset orders = (rules, order_kept)
 
 module _ (h : List ℕ) (at e n : ℕ) (i : e ≡ plain_end h at) where
   -- the text that is judged
@@ -91,7 +84,7 @@ module _ (h : List ℕ) (at e n : ℕ) (i : e ≡ plain_end h at) where
   judged = take (e - at) (drop at h)
 
   -- a line that is not held
-  none_there : (q : List ℕ) → record_up_to h at e n ≡ none → NextIs h at n q Faulty
+  none_there : (q : List ℕ) → record_up_to h at e n ≡ none → NextIs h at n q None
   unfolding next_as
   none_there q z = record { key = rw (← i, z); kept = tt }
 
@@ -103,21 +96,21 @@ module _ (h : List ℕ) (at e n : ℕ) (i : e ≡ plain_end h at) where
     kept = rw (← i) (keeps (is_lt (lex q (key_list l.key))));
   }
     where
-      keys : (b : Bool) → key_taken (pick b (Taken l) Faulty) ≡ keep_if (b && true) (key_list l.key)
+      keys : (b : Bool) → key_taken (pick b (Some l) None) ≡ keep_if (b && true) (key_list l.key)
       keys true = refl
       keys false = refl
 
-      keeps : (b : Bool) → KeptIn h at e (pick b (Taken l) Faulty)
+      keeps : (b : Bool) → KeptIn h at e (pick b (Some l) None)
       keeps true = k
       keeps false = tt
 
-  module _ (b : Bool) (u : b ≡ ends_here (drop e h)) (o : KindFound) (p : kind_found o ≡ held_as n b judged) where
+  module _ (b : Bool) (u : b ≡ ends_here (drop e h)) (o : std.Option code.Kind) (p : kind_found o ≡ held_as n b judged) where
     -- a line that is judged and not held
-    pub judged_unheld : (q : List ℕ) → o ≡ Unknown → NextIs h at n q Faulty
+    pub judged_unheld : (q : List ℕ) → o ≡ None → (r : std.Option Kept) → r ≡ None → NextIs h at n q r
     unfolding record_as
-    judged_unheld q l = none_there q (rw (← u, ← p, l))
+    judged_unheld q l r d = rw d (none_there q (rw (← u, ← p, l)))
 
-    module _ (k : code.Kind) (l : o ≡ Known k) where
+    module _ (k : code.Kind) (l : o ≡ Some k) where
       -- one that is held ends well
       well : b ≡ true
       unfolding held_as
@@ -134,7 +127,7 @@ module _ (h : List ℕ) (at e n : ℕ) (i : e ≡ plain_end h at) where
 
       -- and it is taken in order, with no note
       pub judged_taken : (q : List ℕ) (c : ℕ) → line_at h c ≡ after_fields 3 (line_at h at) → (j : Key) → key_list j ≡ key_numbers (record { kind = kind_meant k; content = line_at h c }) → n ≤ most_records
-          → (r : Next) → r ≡ after_key q (record { key = j; end = e; noted = 0 }) → NextIs h at n q r
+          → (r : std.Option Kept) → r ≡ after_key q (record { key = j; end = e; noted = 0 }) → NextIs h at n q r
       unfolding record_as
       judged_taken q c f j v m r d =
           rw d
@@ -144,7 +137,7 @@ module _ (h : List ℕ) (at e n : ℕ) (i : e ≡ plain_end h at) where
 pub ruleset judges = (rules, judged_unheld, judged_taken)
 
 -- line 8,193 is the fault
-pub next_many : (h : List ℕ) (at n : ℕ) (q : List ℕ) (m : ℕ) → m ≡ most_records → m < n → NextIs h at n q Faulty
+pub next_many : (h : List ℕ) (at n : ℕ) (q : List ℕ) (m : ℕ) → m ≡ most_records → m < n → NextIs h at n q None
 next_many h at n q m l o = record { key = go (record_up_to h at (plain_end h at) n); kept = tt }
   where
     no : (c : Bool) (k : List ℕ) → none ≡ keep_if (c && leb n most_records) k
@@ -155,7 +148,7 @@ next_many h at n q m l o = record { key = go (record_up_to h at (plain_end h at)
     go none = unfold next_as in refl
     go (some r) = unfold next_as in (no (is_lt (lex q (key_numbers r))) (key_numbers r))
 
-module _ (h : List ℕ) (at : ℕ) (a : List ℕ) (f : Found) (w : FoundAs h at a f) (k : code.Kind) (e : ℕ) (d : f ≡ Passed k e) where
+module _ (h : List ℕ) (at : ℕ) (a : List ℕ) (f : std.Option Passed) (w : FoundAs h at a f) (k : code.Kind) (e : ℕ) (d : f ≡ Some (record { kind = k; end = e })) where
   -- a line that was passed
   pub passed_as : PassedAs (kind_meant k) h a at e
   passed_as = subst (FoundAs h at a) d w
@@ -185,15 +178,15 @@ module _ (h : List ℕ) (at : ℕ) (a : List ℕ) (f : Found) (w : FoundAs h at 
   -- one that is held is taken in order, with what was noted of it
   pub passed_taken : (n : ℕ) (c : Bool) → (c ≡ true → held_test scottish n (kind_meant k) (take (e - at) (drop at h)) ≡ true) → c ≡ true → (m : ℕ) → m ≡ most_records → n ≤ m
       → (j : Key) → key_list j ≡ key_numbers (rec_of (line_at h at)) → (v : ℕ) → (0 < v → RefsNoted h at v (rec_of (line_at h at)))
-      → (q : List ℕ) (x : Next) → x ≡ after_key q (record { key = j; end = e; noted = v }) → NextIs h at n q x
+      → (q : List ℕ) (x : std.Option Kept) → x ≡ after_key q (record { key = j; end = e; noted = v }) → NextIs h at n q x
   unfolding record_as
   passed_taken n c r s m l o j p v g q x y =
       rw y
       (some_there h at e n passed_as.line.plain q (record { kind = kind_meant k; content = content_of (take (e - at) (drop at h)) }) (record { key = j; end = e; noted = v })
-      (rw (← passed_as.line.ended, ← held_passes n (take (e - at) (drop at h)) true refl (Known k) (sym passed_as.kind) k refl true (sym (r s)) refl)) (omega arith) (p ∙ ap key_numbers record_here)
+      (rw (← passed_as.line.ended, ← held_ended n (take (e - at) (drop at h)) true (Some k) (sym passed_as.kind) (Some k) k refl true refl refl true refl (sym (r s)))) (omega arith) (p ∙ ap key_numbers record_here)
       (record { ends = refl; refs = g }))
 
-pub ruleset nexts = (rules, not-true, not-false, next_many, passed_as, passed_forward, passed_within, passed_parted, passed_low, passed_taken)
+pub ruleset nexts = (rules, next_many, passed_as, passed_forward, passed_within, passed_parted, passed_low, passed_taken)
 
 -- ---- what was read so far, and what is left
 
@@ -343,7 +336,7 @@ plain_few (x ∷ r) = go (plain x) (plain_few r)
     go true i = omega arith
     go false i = omega arith
 
-module _ (h a c d : List ℕ) (at n : ℕ) (g : at < length h) (k : List ℕ) (s : Scanning h a c d n at k) (x : Next) (v : NextIs h at (n + 1) k x) where
+module _ (h a c d : List ℕ) (at n : ℕ) (g : at < length h) (k : List ℕ) (s : Scanning h a c d n at k) (x : std.Option Kept) (v : NextIs h at (n + 1) k x) (o : Result Kept ℕ) (u : o ≡ ok_or x (n + 1)) where
   abbrev end : ℕ
   end = plain_end h at
 
@@ -356,14 +349,22 @@ module _ (h a c d : List ℕ) (at n : ℕ) (g : at < length h) (k : List ℕ) (s
       (next_in (suc n) k s.lo s.beside (record_up_to h at end (suc n)) (held_fine (suc n) (first_line (drop at h)) (record_up_to h at end (suc n)) (subst (HeldIs scottish (suc n) (first_line (drop at h))) (line_held h at end g refl (suc n)) (held_out scottish scottish_regular (suc n) (first_line (drop at h))))) after)
 
   -- a line that is faulty or out of order is the lowest
-  pub scan_stop : x ≡ Faulty → ReadAs h (scan scottish 1 none (lines_of h)) (record { line = n + 1; count = 0 }) a c d
-  unfolding fault_of
-  scan_stop y =
-      let f : on_held scottish (suc n) s.lo (record_up_to h at end (suc n)) after ≡ unsound (suc n) = rw y at found in
-      let w : scan scottish 1 none (lines_of h) ≡ unsound (suc n) = s.left ∙ rw (line_next h at end g refl n s.lo, f) in
-      record { line = rw w (add-one n); listed = λ z. absurd (omega (arith, z)); tagged = λ z. absurd (omega (arith, z)); noted = λ z. absurd (omega (arith, z)) }
+  pub scan_stop : (i : ℕ) → o ≡ Err i → (r : Result ℕ ℕ) → IsErrAnd r (λ e. e ≡ i) → ReadAs h (scan scottish 1 none (lines_of h)) r a c d
+  scan_stop i y (Ok l) q = absurd q
+  scan_stop i y (Err e) q = go x v (sym u ∙ y) found ∙ ap unsound (sym q)
+    where
+      go : (x : std.Option Kept) → NextIs h at (n + 1) k x → ok_or x (n + 1) ≡ Err i → Nexts (suc n) s.lo (record_up_to h at end (suc n)) after (key_taken x) → scan scottish 1 none (lines_of h) ≡ unsound i
+      go None w y f = let e : n + 1 ≡ i = cc in s.left ∙ rw (line_next h at end g refl n s.lo, f) (ap unsound (omega (arith, e)))
+      go (Some l) w y f = absurd (let e : ◌≡◌ {A = Result Kept ℕ} (Ok l) (Err i) = y in cc)
 
-  module _ (j : Kept) (y : x ≡ Taken j) where
+  module _ (j : Kept) (z : o ≡ Ok j) where
+    y : x ≡ Some j
+    y = go x (sym u ∙ z)
+      where
+        go : (x : std.Option Kept) → ok_or x (n + 1) ≡ Ok j → x ≡ Some j
+        go None z = absurd (let e : ◌≡◌ {A = Result Kept ℕ} (Err (n + 1)) (Ok j) = z in cc)
+        go (Some l) z = let e : l ≡ j = cc in ap Some e
+
     took : Took (suc n) s.lo (record_up_to h at end (suc n)) after (key_list j.key)
     took = rw y at found
 
@@ -406,20 +407,20 @@ module _ (h a c d : List ℕ) (at n : ℕ) (g : at < length h) (k : List ℕ) (s
         beside_key r f z g = unfold above in (ap is_lt (key_agrees r z f g))
 
 -- at the end all lines are sound and in order
-pub scan_done : (h a c d k : List ℕ) (n at : ℕ) → Scanning h a c d n at k → length h ≤ at → most_records ≤ length a → ReadAs h (scan scottish 1 none (lines_of h)) (record { line = 0; count = n }) a c d
-unfolding scan fault_of records_of
+pub scan_done : (h a c d k : List ℕ) (n at : ℕ) → Scanning h a c d n at k → length h ≤ at → most_records ≤ length a → ScanIs h (scan scottish 1 none (lines_of h)) n a c d
+unfolding scan records_of
 scan_done h a c d k n at s g l =
     let w : meaning.scan scottish 1 none (lines_of h) ≡ sound (says h h a n) = s.left ∙ rw (lines_end h at g, append-nil) in
     record {
-      line = rw w;
-      listed = λ z. rw w (record {
+      sound = rw w;
+      listed = rw w (record {
         count = sym (length_says h h a n (omega (arith, s.few)));
         says = λ f. says_held h f h a n s.even;
         even = s.even;
         few = s.few;
       });
-      tagged = λ z. rw w s.tagged;
-      noted = λ z. s.noted;
+      tagged = rw w s.tagged;
+      noted = s.noted;
     }
 
 -- another start in the array leaves its length

@@ -1,5 +1,6 @@
 -- One line of a holding, and the next one in order, as code answers them.
-use Rattle.std.specs.Prelude.{◌≡◌, Bool, ◌&&◌, List, ℕ, ◌-◌, ◌<◌, leb, take, drop}
+use Rattle.std.specs.Prelude as std
+use Rattle.std.specs.Prelude.{◌≡◌, Bool, ◌&&◌, List, ℕ, ◌-◌, ◌<◌, leb, take, drop, Some, None}
 use Rattle.std.proofs.Math.Option.{Option, none, some}
 use Rattle.base.specs.Lists.{pick, keep_if}
 use Rattle.theory.specs.Tri.{is_lt}
@@ -15,8 +16,6 @@ use Rattle.keys.specs.Numbers.{key_list, key_numbers}
 use Rattle.entries.specs.Entries.{rec_of, line_at}
 use Rattle.noted.specs.Noted.{RefsNoted}
 use Rattle.holding.specs.declared.scan.Kept.{Kept}
-use Rattle.holding.specs.declared.scan.Next.{Next}
-use Rattle.holding.specs.declared.scan.Next.TheVariants.{Taken, Faulty}
 
 -- a known kind, where the line is sound as line n of a holding
 unfoldable pub held_kind_as : ℕ → List ℕ → Option Kind → Option Kind
@@ -42,13 +41,13 @@ next_as n q none = none
 next_as n q (some r) = keep_if (is_lt (lex q (key_numbers r)) && leb n most_records) (key_numbers r)
 
 -- the key that was taken, if any
-abbrev pub key_taken : Next → Option (List ℕ)
-key_taken (Taken l) = some (key_list l.key)
-key_taken Faulty = none
+abbrev pub key_taken : std.Option Kept → Option (List ℕ)
+key_taken (Some l) = some (key_list l.key)
+key_taken None = none
 
 -- what is kept of a line is taken where its key stands after q
-unfoldable pub after_key : List ℕ → Kept → Next
-after_key q l = pick (is_lt (lex q (key_list l.key))) (Taken l) Faulty
+unfoldable pub after_key : List ℕ → Kept → std.Option Kept
+after_key q l = pick (is_lt (lex q (key_list l.key))) (Some l) None
 
 -- what is kept of the line that starts at `at` and ends at e
 pub record KeptOf (h : List ℕ) (at e : ℕ) (l : Kept) : Type 0 where
@@ -56,11 +55,11 @@ pub record KeptOf (h : List ℕ) (at e : ℕ) (l : Kept) : Type 0 where
   pub refs : 0 < l.noted → RefsNoted h at l.noted (rec_of (line_at h at))
 
 -- of a line that was taken
-abbrev pub KeptIn : List ℕ → ℕ → ℕ → Next → Type 0
-KeptIn h at e (Taken l) = KeptOf h at e l
-KeptIn h at e Faulty = Unit {0}
+abbrev pub KeptIn : List ℕ → ℕ → ℕ → std.Option Kept → Type 0
+KeptIn h at e (Some l) = KeptOf h at e l
+KeptIn h at e None = Unit {0}
 
 -- line n, which starts at `at`, where it is sound and its key stands after q
-pub record NextIs (h : List ℕ) (at n : ℕ) (q : List ℕ) (r : Next) : Type 0 where
+pub record NextIs (h : List ℕ) (at n : ℕ) (q : List ℕ) (r : std.Option Kept) : Type 0 where
   pub key : key_taken r ≡ next_as n q (record_up_to h at (plain_end h at) n)
   pub kept : KeptIn h at (plain_end h at) r

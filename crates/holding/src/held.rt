@@ -13,7 +13,7 @@ ghost use Rattle.layout.specs.Check.{lowest_bad, Parted};
 ghost use Rattle.holding.specs.Held.{held_as};
 
 use layout::check::{check_line, dates_agree, kind_at};
-use layout::kinds::{Kind, KindFound};
+use layout::kinds::Kind;
 use layout::rules::is_held;
 use text::fields::{field, noted_field};
 use text::order::is_same;
@@ -31,18 +31,10 @@ fn is_number(text: &[u8], number: usize) -> bool
 fn passes(kind: Kind, text: &[u8], line: usize) -> bool
     ensures { result ≡ held_test scottish line (kind_meant kind) text.now }
 {
-    if !is_held(kind) {
-        return false;
-    }
-    let fault = check_line(kind, text);
-    if fault.code != 0 {
-        return false;
-    }
-    let numbered = is_number(field(text, 2), line);
-    if !is_same(field(text, 1), b"\"I\"") {
-        return false;
-    }
-    numbered
+    is_held(kind)
+        && check_line(kind, text).is_ok()
+        && is_same(field(text, 1), b"\"I\"")
+        && is_number(field(text, 2), line)
 }
 
 // Whether digits are seen to be that number without leading zeros.
@@ -50,16 +42,7 @@ fn is_running(f: &[u8], number: usize) -> bool
     requires { T (all is_digit f.now) }
     ensures { result ≡ true → same f.now (dec number) ≡ true }
 {
-    if f.len() == 0 {
-        return false;
-    }
-    if f[0] == 48 {
-        return false;
-    }
-    if 16 < f.len() {
-        return false;
-    }
-    text::numbers::value(f) == number as u64
+    !f.is_empty() && f[0] != b'0' && f.len() <= 16 && text::numbers::value(f) == number as u64
 }
 
 // Whether a line that was passed, with the ends of its fields noted, is seen to be sound as the line of that number in a holding.
@@ -67,30 +50,16 @@ pub fn passes_noted(kind: Kind, text: &[u8], ends: &[usize], line: usize) -> boo
     requires { Parted (kind_meant kind) text.now ends.now × (none ≡ lowest_bad 1 (map bare (fields (kind_meant kind))) (fields_of text.now)) }
     ensures { result ≡ true → held_test scottish line (kind_meant kind) text.now ≡ true }
 {
-    if !is_held(kind) {
-        return false;
-    }
-    if !dates_agree(kind, text, ends) {
-        return false;
-    }
-    if !is_same(noted_field(text, ends, 1), b"\"I\"") {
-        return false;
-    }
-    is_running(noted_field(text, ends, 2), line)
+    is_held(kind)
+        && dates_agree(kind, text, ends)
+        && is_same(noted_field(text, ends, 1), b"\"I\"")
+        && is_running(noted_field(text, ends, 2), line)
 }
 
 // The kind of the line of that number, where it ends well and is sound as such.
-pub fn held_line(text: &[u8], ended: bool, line: usize) -> KindFound
+pub fn held_line(text: &[u8], ended: bool, line: usize) -> Option<Kind>
     ensures { kind_found result ≡ held_as line ended text.now }
 {
-    if !ended {
-        return KindFound::Unknown;
-    }
-    let KindFound::Known(kind) = kind_at(text) else {
-        return KindFound::Unknown;
-    };
-    if !passes(kind, text, line) {
-        return KindFound::Unknown;
-    }
-    KindFound::Known(kind)
+    let kind = kind_at(text)?;
+    (ended && passes(kind, text, line)).then_some(kind)
 }

@@ -29,39 +29,17 @@ fn note_noted(
     ensures { Notes true (says holding.now holding.now starts.now count) (record_of holding.now holding.now entry) counts.old counts.new result }
 {
     if noted != 0 {
-        let named = tags_noted(holding, (entry / 2) as usize, noted);
-        let first = named.first;
-        let second = named.second;
-        if first % 2 == 0 {
-            if second % 2 == 0 {
-                return note_tags(
-                    holding,
-                    holding,
-                    starts,
-                    tags,
-                    &mut *counts,
-                    count,
-                    entry,
-                    own,
-                    first,
-                    second,
-                );
-            }
+        let to = tags_noted(holding, (entry / 2) as usize, noted);
+        if to[0] % 2 == 0 && to[1] % 2 == 0 {
+            return note_tags(
+                holding, holding, starts, tags, counts, count, entry, own, to,
+            );
         }
     }
-    note(
-        holding,
-        holding,
-        starts,
-        tags,
-        &mut *counts,
-        count,
-        entry,
-        true,
-    )
+    note(holding, holding, starts, tags, counts, count, entry, true)
 }
 
-// The lowest record, counted from 1, whose references are not all met; 0 where all are, with how often each record is referred to.
+// Counts how often each record is referred to, or says which is the lowest, counted from 1, whose references are not all met.
 pub fn unmet(
     holding: &[u8],
     starts: &[u64],
@@ -69,27 +47,24 @@ pub fn unmet(
     noted: &[u32],
     counts: &mut [u16],
     count: usize,
-) -> usize
+) -> Result<(), usize>
     requires { Ordered holding.now holding.now starts.now tags.now count × (count ≤ length counts.old) × (count ≤ most_records) × NotedAs holding.now starts.now noted.now count × (count ≤ length noted.now) }
     ensures { CountsAs holding.now starts.now count counts.new result }
 {
     clear(&mut *counts, count);
-    let mut i = 0;
-    while i < count {
-        let entry = starts[i];
+    for i in 0..count {
         if !note_noted(
             holding,
             starts,
             tags,
             &mut *counts,
             count,
-            entry,
+            starts[i],
             tags[i],
             noted[i],
         ) {
-            return i + 1;
+            return Err(i + 1);
         }
-        i += 1;
     }
-    0
+    Ok(())
 }

@@ -6,10 +6,10 @@ use mathlib.Core.List.{List, [], ◌∷◌, ◌++◌}
 use Prim.Native.Nat.{ℕ, suc, ◌+◌, ◌-◌, ◌≤◌, ◌<◌}
 use native.Mathlib.Omega.{arith}
 use borrow.Author.Rules.{rules}
-use borrow.Author.Tests.{not-true, not-false}
+use Rattle.std.specs.Prelude.{Result, Ok, Err}
 use lib.Dec.{T}
 use lib.ListN.{length, get_or}
-use Rattle.base.specs.Lists.{pick, all, same, some?}
+use Rattle.base.specs.Lists.{pick, all, same}
 use Rattle.base.specs.Tests.{and_l, and_r}
 use Rattle.theory.specs.Tri.{Tri, lt, eq, gt, is_eq}
 use Rattle.theory.specs.Lex.{lex}
@@ -24,8 +24,8 @@ use Rattle.meaning.specs.Records.{Rec, op_of, change_of, key_of}
 use Rattle.meaning.specs.Holding.{read_holding}
 use Rattle.meaning.specs.File.{Sheet, Frame, read_file}
 use Rattle.meaning.specs.Load.{checked, check_file}
-use Rattle.meaning.specs.Enquiries.{Found, second, refusal, part_of, held_at, held_part, last_naming, unless_deleted, in_force_part, in_force_file, in_force_held, in_force_kind, in_force}
-use Rattle.meaning.specs.Answers.{Read, of_line, at_line, alone}
+use Rattle.meaning.specs.Enquiries.{Found, first, second, refusal, part_of, held_at, held_part, last_naming, unless_deleted, in_force_part, in_force_file, in_force_held, in_force_kind, in_force}
+use Rattle.meaning.specs.Answers.{Read, Three, of_line, at_line, alone, refused_with, taken_with}
 use Rattle.laws.specs.LinesAndFields.{ends_all}
 use Rattle.laws.specs.SoundFile.{RoleLine, SaysChange, SaysChanges, SoundFile}
 use Rattle.laws.proofs.SoundFile.{sound_read}
@@ -33,25 +33,29 @@ use Rattle.laws.specs.FileReadBack.{fine_c}
 use Rattle.laws.proofs.FileReadBack.{file_says}
 use Rattle.laws.proofs.Checks.{checked_file}
 use Rattle.laws.specs.Scottish.{scottish_regular}
-use Rattle.answers.specs.declared.numbers.Answer.{Answer}
-use Rattle.answers.specs.Meant.{answer_of, refusal_meant, refusal_in}
+use Rattle.answers.specs.declared.numbers.Counts.{Counts}
+use Rattle.answers.specs.Meant.{refusal_meant, said}
+use Rattle.answers.specs.declared.codes.Code.{Code}
+use Rattle.answers.specs.declared.codes.Code.TheVariants.{EndingWrong, IdentifierUnknown, OutOfPlace, FieldCountWrong, FieldMalformed, EndBeforeStart, NotRunningNumber, RecordCountWrong, TooManyBodyLines, KeyHeld, KeyAbsent, ReferenceUnmet, HoldingTooLong, HoldingUnsound, KindNotAsked, TooManyRecords, UndoTooLong, InputUnusable, NoSuchPart}
+use Rattle.answers.specs.Codes.{code_number}
 use Rattle.meaning.specs.Codes.{key_absent, holding_unsound, kind_not_asked}
 use Rattle.answers.specs.declared.refusal.Refusal.{Refusal}
-use Rattle.enquiries.proofs.HandLaws.{refusal_made}
 use Rattle.keys.specs.Numbers.{key_numbers}
 use Rattle.keys.proofs.KeyLaws.{kind_told}
 use Rattle.entries.specs.Entries.{rec_of}
 use Rattle.entries.proofs.LineLaws.{role_known}
-use Rattle.holding.specs.declared.read.Held.{Held}
-use Rattle.holding.specs.Read.{records_of, HeldIs}
-use Rattle.holding.proofs.ReadLaws.{held_sound}
+use Rattle.holding.specs.Read.{records_of}
+use Rattle.meaning.specs.Kinds.{Kind}
+use Rattle.meaning.specs.Holding as meaning
+use Rattle.meaning.specs.Holding.{sound, unsound}
+use Rattle.meaning.specs.Answers as meant
+use Rattle.base.specs.Tests.{some≢none}
+use mathlib.Core.Option.{some-injective}
 use Rattle.in_force.specs.declared.naming.Naming.{Naming}
 use Rattle.in_force.specs.declared.naming.Naming.TheVariants.{Unnamed, Deleted, Named}
 use Rattle.in_force.specs.Naming.{said_by, named_by, later_of, last_named, naming_of}
-use Rattle.enquiries.specs.declared.finding.Finding.{Finding}
-use Rattle.find.specs.Found.{Enquired}
-use Rattle.enquiries.specs.Finding.{finding_of}
-use Rattle.find.proofs.FindLaws.{Asked, asked_is, asked_agrees, same_lex, no_kind, unsounds}
+use Rattle.find.specs.Found.{Enquired, unopened}
+use Rattle.find.proofs.FindLaws.{Asked, asked_is, asked_agrees, same_lex}
 
 -- ---- the lines of a sound file
 
@@ -194,7 +198,7 @@ handed_by_lem old b q st (some l) = go l.1
     go upd = ap (part_of second (lines_of b)) (sym less)
     go del = refl
 
-module _ (s t : List ℕ) (kind n : ℕ) (x : Finding) (k : Asked kind) (z : (check_file scottish t).code ≡ 0) (j : List ℕ) (y : j ≡ kind ∷ n ∷ 0 ∷ 0 ∷ []) (o : Naming) (g : o ≡ last_named j 1 (lines_of t) Unnamed) where
+module _ (s t : List ℕ) (kind n : ℕ) (k : Asked kind) (z : (check_file scottish t).code ≡ 0) (j : List ℕ) (y : j ≡ kind ∷ n ∷ 0 ∷ 0 ∷ []) (o : Naming) (g : o ≡ last_named j 1 (lines_of t) Unnamed) where
   -- what is found of a sound file
   abbrev found : Found
   found = in_force_file scottish s t (kind ∷ n ∷ []) (records_of (read_holding scottish s)) (read_file scottish t)
@@ -209,66 +213,84 @@ module _ (s t : List ℕ) (kind n : ℕ) (x : Finding) (k : Asked kind) (z : (ch
       ∙ ap (handed_by s t (kind ∷ n ∷ []) (records_of (read_holding scottish s))) (sym (g ∙ ap (λ i. last_named i 1 (lines_of t) Unnamed) y ∙ file_names kind n k t f.frame f.changes f.sounds)))
 
   -- where none names the key, the held line
-  pub last_held : o ≡ Unnamed → x ≡ finding_of (held_part s (held_at scottish (kind ∷ n ∷ []) 0 (records_of (read_holding scottish s)))) → x ≡ finding_of found
+  pub last_held : o ≡ Unnamed → held_part s (held_at scottish (kind ∷ n ∷ []) 0 (records_of (read_holding scottish s))) ≡ found
   unfolding handed_by
-  last_held q w = rw (on_lines, q) w
+  last_held q = rw (on_lines, q)
 
   -- 11 for a delete
-  pub last_deleted : o ≡ Deleted → x ≡ finding_of (refusal (alone key_absent)) → x ≡ finding_of found
+  pub last_deleted : o ≡ Deleted → (e : Refusal) → refusal_meant e ≡ alone key_absent → refusal (refusal_meant e) ≡ found
   unfolding handed_by
-  last_deleted q w = rw (on_lines, q) w
+  last_deleted q e w = ap refusal w ∙ rw (on_lines, q)
 
   -- else the body line
-  pub last_named_lem : (l : ℕ) → o ≡ Named l → x ≡ finding_of (part_of second (lines_of t) (l - 1)) → x ≡ finding_of found
+  pub last_there : (l : ℕ) → o ≡ Named l → part_of second (lines_of t) (l - 1) ≡ found
   unfolding handed_by
-  last_named_lem l q w = rw (on_lines, q) w
+  last_there l q = rw (on_lines, q)
 
 -- the kind was asked for
-pub last_asked : (h a o : List ℕ) (r : Held) (kind : ℕ) → Enquired h a o r kind → Asked kind
+pub last_asked : (h a o : List ℕ) (r kind : ℕ) → Enquired h a o r kind → Asked kind
 last_asked h a o r kind w = asked_is kind w.asked
 
-pub ruleset last = (rules, refusal_made, named_from, named_to, last_asked, last_held, last_deleted, last_named_lem)
+-- 15 and 14 come first
+pub force_unopened : (s t : List ℕ) (kind n : ℕ) (r : meant.Refusal) → unopened (numbered_among enquiries kind) (read_holding scottish s) ≡ some r → refusal r ≡ in_force scottish s t kind n
+unfolding in_force in_force_kind in_force_held unopened
+force_unopened s t kind n r e = asked (numbered_among enquiries kind) e
+  where
+    holds : (k : Kind) (q : List ℕ) (u : meaning.Held) → unopened (some k) u ≡ some r → refusal r ≡ in_force_held scottish s t q u
+    holds k q (sound l) e = absurd (some≢none (sym e))
+    holds k q (unsound m) e = ap refusal (sym (some-injective (at_line m (of_line holding_unsound)) r e))
 
-module _ (s t : List ℕ) (kind n : ℕ) (x : Finding) (b : Bool) (e : b ≡ some? (numbered_among enquiries kind)) where
-  -- 15 for a kind that can't be asked for
-  pub force_other : b ≡ false → x ≡ finding_of (refusal (alone kind_not_asked)) → x ≡ finding_of (in_force scottish s t kind n)
-  unfolding in_force in_force_kind
-  force_other f w = rw (no_kind kind b e f) w
+    asked : (o : Option Kind) → unopened o (read_holding scottish s) ≡ some r → refusal r ≡ in_force_kind scottish s t n o
+    asked none e = ap refusal (sym (some-injective (alone kind_not_asked) r e))
+    asked (some k) e = holds k (value (ident k) ∷ n ∷ []) (read_holding scottish s) e
 
-  -- 14 for an unsound holding
-  pub force_unsound : (r : Held) (a o c : List ℕ) → b ≡ true → HeldIs s r a o c → (r.line ≡ 0 → ⊥) → x ≡ finding_of (refusal (at_line r.line (of_line holding_unsound))) → x ≡ finding_of (in_force scottish s t kind n)
+-- a code is never 0
+code_counted : (c : Code) → code_number c ≡ 0 → ⊥
+code_counted EndingWrong z = omega (arith, z)
+code_counted IdentifierUnknown z = omega (arith, z)
+code_counted OutOfPlace z = omega (arith, z)
+code_counted FieldCountWrong z = omega (arith, z)
+code_counted FieldMalformed z = omega (arith, z)
+code_counted EndBeforeStart z = omega (arith, z)
+code_counted NotRunningNumber z = omega (arith, z)
+code_counted RecordCountWrong z = omega (arith, z)
+code_counted TooManyBodyLines z = omega (arith, z)
+code_counted KeyHeld z = omega (arith, z)
+code_counted KeyAbsent z = omega (arith, z)
+code_counted ReferenceUnmet z = omega (arith, z)
+code_counted HoldingTooLong z = omega (arith, z)
+code_counted HoldingUnsound z = omega (arith, z)
+code_counted KindNotAsked z = omega (arith, z)
+code_counted TooManyRecords z = omega (arith, z)
+code_counted UndoTooLong z = omega (arith, z)
+code_counted InputUnusable z = omega (arith, z)
+code_counted NoSuchPart z = omega (arith, z)
+
+module _ (s t a o : List ℕ) (r kind n : ℕ) (w : Enquired s a o r kind) where
+  -- then the file is judged
+  pub force_file : in_force_file scottish s t (kind ∷ n ∷ []) (records_of (read_holding scottish s)) (read_file scottish t) ≡ in_force scottish s t kind n
   unfolding in_force in_force_kind in_force_held
-  force_unsound r a o c f h z w = rw ((asked_is kind (sym e ∙ f)).known, unsounds s r a o c h z) w
+  force_file =
+      let k = asked_is kind w.asked in
+      sym
+      (ap (in_force_kind scottish s t n) k.known
+      ∙ ap (λ (v : ℕ). in_force_held scottish s t (v ∷ n ∷ []) (read_holding scottish s)) (sym k.number)
+      ∙ ap (in_force_held scottish s t (kind ∷ n ∷ [])) w.read.sound)
 
-  module _ (u : b ≡ true) (r : Held) (a o i : List ℕ) (h : HeldIs s r a o i) (v : r.line ≡ 0) where
-    -- then the file is judged
-    on_file_lem : in_force scottish s t kind n ≡ in_force_file scottish s t (kind ∷ n ∷ []) (records_of (read_holding scottish s)) (read_file scottish t)
-    unfolding in_force in_force_kind in_force_held
-    on_file_lem =
-        let k = asked_is kind (sym e ∙ u) in
-        ap (in_force_kind scottish s t n) k.known
-        ∙ ap (λ (v : ℕ). in_force_held scottish s t (v ∷ n ∷ []) (read_holding scottish s)) (sym k.number)
-        ∙ ap (in_force_held scottish s t (kind ∷ n ∷ [])) (held_sound s (sym h.line ∙ v))
-
+  module _ (c : Result Counts Refusal) (d : said c ≡ check_file scottish t) where
     -- the file's own fault
-    force_faulty : (c : Answer) → c ≡ answer_of (check_file scottish t) → (c.code ≡ 0 → ⊥) → x ≡ finding_of (refusal (refusal_meant (refusal_in c))) → x ≡ finding_of (in_force scottish s t kind n)
+    pub force_refused : (y : Refusal) → c ≡ Err y → refusal (refusal_meant y) ≡ in_force scottish s t kind n
     unfolding check_file
-    force_faulty c d z w = w ∙ ap finding_of (sym (on_file_lem ∙ go (read_file scottish t) d))
+    force_refused y e = go (read_file scottish t) (sym (ap said e) ∙ d) ∙ force_file
       where
-        go : (u : Read Sheet) → c ≡ answer_of (checked u) → in_force_file scottish s t (kind ∷ n ∷ []) (records_of (read_holding scottish s)) u ≡ refusal (refusal_meant (refusal_in c))
-        go (fault y) q = unfold checked in_force_file in rw q
-        go (file y) q = absurd (unfold checked in z (ap (λ y. y.code) q))
-
-    -- as it is told
-    pub force_refused : (c : Answer) → c ≡ answer_of (check_file scottish t) → (c.code ≡ 0 → ⊥) → (y : Refusal) → y ≡ refusal_in c → x ≡ finding_of (refusal (refusal_meant y)) → x ≡ finding_of (in_force scottish s t kind n)
-    force_refused c d z y p w = force_faulty c d z (w ∙ ap (λ q. finding_of (refusal (refusal_meant q))) p)
-
-    -- else what it says
-    pub force_last : x ≡ finding_of (in_force_file scottish s t (kind ∷ n ∷ []) (records_of (read_holding scottish s)) (read_file scottish t)) → x ≡ finding_of (in_force scottish s t kind n)
-    force_last w = rw on_file_lem w
+        go : (u : Read Sheet) → refused_with (refusal_meant y) ≡ checked u → refusal (refusal_meant y) ≡ in_force_file scottish s t (kind ∷ n ∷ []) (records_of (read_holding scottish s)) u
+        go (fault x) q = unfold checked in_force_file refusal in (ap (λ m. record { answer = record { code = m.code; line = m.line; field = m.field }; slice = first; start = 0; size = 0 }) q)
+        go (file x) q = absurd (unfold checked in code_counted y.code (ap (λ m. m.code) q))
 
 -- a file with no fault
-pub faultless : (t : List ℕ) (c : Answer) → c ≡ answer_of (check_file scottish t) → c.code ≡ 0 → (check_file scottish t).code ≡ 0
-faultless t c d z = sym (ap (λ y. y.code) d) ∙ z
+pub faultless : (t : List ℕ) (c : Result Counts Refusal) → said c ≡ check_file scottish t → (u : Counts) → c ≡ Ok u → (check_file scottish t).code ≡ 0
+faultless t c d u e = sym (ap (λ y. y.code) d) ∙ ap (λ x. (said x).code) e
 
-pub ruleset force = (rules, refusal_made, force_refused, not-true, not-false, force_other, force_unsound, force_last)
+pub ruleset files = (rules, faultless)
+
+pub ruleset last = (rules, named_from, named_to, last_asked, last_held, last_deleted, last_there)

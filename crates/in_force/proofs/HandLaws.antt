@@ -1,12 +1,9 @@
 -- The part that in_force hands back lies within the holding or within the file.
-use mathlib.Core.Path.{◌≡◌, refl, sym, ap, ◌∙◌, subst}
-use mathlib.Core.Bool.{true, false}
+use mathlib.Core.Path.{◌≡◌, sym, ap, ◌∙◌, subst}
 use mathlib.Core.Option.{Option, none, some}
 use mathlib.Core.List.{List}
 use Prim.Native.Nat.{ℕ, ◌+◌, ◌≤◌}
-use native.Mathlib.Omega.{arith}
-use borrow.Author.Rules.{rules}
-use borrow.Author.Tests.{not-true, not-false}
+use Rattle.std.specs.Prelude.{Result}
 use denote.Ref.{Bor}
 use lib.ListN.{length}
 use Rattle.theory.specs.Step.{Op, ins, upd, del}
@@ -17,16 +14,15 @@ use Rattle.meaning.specs.Table.{enquiries, scottish}
 use Rattle.meaning.specs.Records.{Rec}
 use Rattle.meaning.specs.File.{Sheet, read_file}
 use Rattle.meaning.specs.Holding.{Held, sound, unsound, read_holding}
-use Rattle.meaning.specs.Enquiries.{Slice, first, second, Found, part_of, held_at, last_naming, unless_deleted, in_force_part, in_force_file, in_force_held, in_force_kind, in_force}
+use Rattle.meaning.specs.Enquiries.{second, Found, part_of, held_at, last_naming, unless_deleted, in_force_part, in_force_file, in_force_held, in_force_kind, in_force}
 use Rattle.meaning.specs.Answers.{Read, of_line, at_line, alone}
 use Rattle.meaning.specs.Codes.{key_absent, holding_unsound, kind_not_asked}
-use Rattle.answers.specs.Meant.{verdict_list}
-use Rattle.text.specs.Parts.{StandsIn}
-use Rattle.enquiries.specs.declared.finding.Finding.{Finding}
-use Rattle.enquiries.specs.Finding.{in_file, finding_of}
+use Rattle.answers.specs.declared.refusal.Refusal.{Refusal}
+use Rattle.enquiries.specs.declared.finding.Side.{Side}
+use Rattle.enquiries.specs.declared.finding.Part.{Part}
+use Rattle.enquiries.specs.Finding.{slice_meant, found_said}
 use Rattle.enquiries.specs.Handed.{Handed, lent_as, HandedOf}
 use Rattle.enquiries.proofs.WithinLaws.{Within, nothing, line_within}
-use Rattle.enquiries.proofs.HandLaws.{hand_found}
 use Rattle.find.proofs.HandLaws.{held_within}
 
 second_within : (a b : List ℕ) (i : ℕ) → Within (part_of second (lines_of b) i) a b
@@ -58,47 +54,18 @@ force_within a b kind n = asked (numbered_among enquiries kind)
     asked none = nothing (alone kind_not_asked) a b
     asked (some k) = holds _ (read_holding scottish a)
 
--- the record in force, in the one of two that the finding names
-module _ (a b : List ℕ) (kind n : ℕ) (g : Finding) (e : g ≡ finding_of (in_force scottish a b kind n)) where
-  fits : (z : Slice) → (in_force scottish a b kind n).slice ≡ z → g.start + g.size ≤ length (lent_as z a b)
-  unfolding finding_of
-  fits z q = subst (λ (y : Slice). g.start + g.size ≤ length (lent_as y a b)) q (rw e (force_within a b kind n))
-
-  pub force_second : g.infile ≡ true → g.start + g.size ≤ length b
-  unfolding finding_of
-  force_second i = go (in_force scottish a b kind n).slice refl
-    where
-      go : (z : Slice) → (in_force scottish a b kind n).slice ≡ z → g.start + g.size ≤ length b
-      go first q = absurd (let y : false ≡ true = ap in_file (sym q) ∙ sym (ap (λ y. y.infile) e) ∙ i in let z : ◌≡◌ {A = ℕ} 0 1 = cc in omega arith)
-      go second q = fits second q
-
-  pub force_first : g.infile ≡ false → g.start + g.size ≤ length a
-  unfolding finding_of
-  force_first i = go (in_force scottish a b kind n).slice refl
-    where
-      go : (z : Slice) → (in_force scottish a b kind n).slice ≡ z → g.start + g.size ≤ length a
-      go first q = fits first q
-      go second q = absurd (let y : true ≡ false = ap in_file (sym q) ∙ sym (ap (λ y. y.infile) e) ∙ i in let z : ◌≡◌ {A = ℕ} 0 1 = cc in omega arith)
-
 -- ---- the part
 
-module _ (f : Found) (g : Finding) (p : Bor (List ℕ)) (x : List ℕ) (e : g ≡ finding_of f) (w : x ≡ verdict_list g.answer) where
-  -- of the file, where the finding says so
-  pub hand_second : (s t : Bor (List ℕ)) → g.infile ≡ true → StandsIn p t g.start g.size → HandedOf f s t p x
-  unfolding finding_of
-  hand_second s t i h = go f.slice refl
-    where
-      go : (z : Slice) → f.slice ≡ z → HandedOf f s t p x
-      go first q = absurd (let y : false ≡ true = ap in_file (sym q) ∙ sym (ap (λ y. y.infile) e) ∙ i in let z : ◌≡◌ {A = ℕ} 0 1 = cc in omega arith)
-      go second q = subst (λ (y : Slice). Handed f (lent_as y s t) p x) (sym q) (hand_found f g p x e w t h)
+module _ (o : Result Part Refusal) (b : Side) (e : slice_meant b ≡ (found_said o).slice) (c : Side) (d : b ≡ c) where
+  slice_told : slice_meant c ≡ (found_said o).slice
+  slice_told = sym (ap slice_meant d) ∙ e
 
-  -- else of the holding
-  pub hand_first : (s t : Bor (List ℕ)) → g.infile ≡ false → StandsIn p s g.start g.size → HandedOf f s t p x
-  unfolding finding_of
-  hand_first s t i h = go f.slice refl
-    where
-      go : (z : Slice) → f.slice ≡ z → HandedOf f s t p x
-      go first q = subst (λ (y : Slice). Handed f (lent_as y s t) p x) (sym q) (hand_found f g p x e w s h)
-      go second q = absurd (let y : true ≡ false = ap in_file (sym q) ∙ sym (ap (λ y. y.infile) e) ∙ i in let z : ◌≡◌ {A = ℕ} 0 1 = cc in omega arith)
+  -- it lies within its slice
+  pub force_fits : (s t : List ℕ) (kind n : ℕ) → found_said o ≡ in_force scottish s t kind n → (found_said o).start + (found_said o).size ≤ length (lent_as (slice_meant c) s t)
+  force_fits s t kind n f =
+      subst (λ z. (found_said o).start + (found_said o).size ≤ length (lent_as z s t)) (sym slice_told)
+      (subst (λ g. Within g s t) (sym f) (force_within s t kind n))
 
-pub ruleset handing = (rules, not-true, not-false, hand_second, hand_first, force_second, force_first)
+  -- and is handed back as it stands there
+  pub force_handed : (f : Found) (s t p : Bor (List ℕ)) (x : List ℕ) → found_said o ≡ f → Handed (found_said o) (lent_as (slice_meant c) s t) p x → HandedOf f s t p x
+  force_handed f s t p x g h = subst (λ y. HandedOf y s t p x) g (subst (λ z. Handed (found_said o) (lent_as z s t) p x) slice_told h)

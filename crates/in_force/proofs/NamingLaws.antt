@@ -61,15 +61,18 @@ pub ruleset naming = (rules, not-true, not-false, named_other, named_here)
 -- ---- the later of two
 
 module _ (a b : Naming) where
+  -- a line that does not name the key
   pub later_unnamed : b ≡ Unnamed → a ≡ later_of a b
   unfolding later_of
   later_unnamed e = rw e
 
-  pub later_deleted : b ≡ Deleted → Deleted ≡ later_of a b
+  -- one that deletes its record
+  pub later_deleted : b ≡ Deleted → b ≡ later_of a b
   unfolding later_of
   later_deleted e = rw e
 
-  pub later_named : (n : ℕ) → b ≡ Named n → Named n ≡ later_of a b
+  -- one on which it stands
+  pub later_named : (n : ℕ) → b ≡ Named n → b ≡ later_of a b
   unfolding later_of
   later_named n e = rw e
 

@@ -9,17 +9,15 @@ ghost use Rattle.meaning.specs.Load.{check_file};
 ghost use Rattle.meaning.specs.Enquiries.{in_force_file, in_force};
 ghost use Rattle.holding.specs.Read.{records_of};
 ghost use Rattle.find.specs.Found.{Enquired};
-ghost use Rattle.enquiries.specs.Finding.{finding_of};
+ghost use Rattle.enquiries.specs.Finding.{found_said};
 ghost use Rattle.enquiries.specs.Handed.{HandedOf};
 
 use crate::naming::{Naming, last_naming};
-use answers::codes::{HOLDING_UNSOUND, KEY_ABSENT, KIND_NOT_ASKED};
-use answers::numbers::refusal_in;
+use answers::codes::Code;
 use answers::refusal::Refusal;
-use enquiries::finding::{Finding, line_found, refusal};
+use enquiries::finding::{Part, Side, line_found, side_of};
 use enquiries::hand::hand;
-use find::{asked_key, held_line, is_enquired};
-use holding::read::{Held, read_holding};
+use find::{asked_key, held_line, open_holding};
 use layout::limits::Holding;
 use volume::check::check_file;
 
@@ -31,39 +29,29 @@ fn last_line(
     file: &[u8],
     starts: &[u64],
     tags: &[u64],
-    held: Held,
+    count: usize,
     kind: u64,
     number: u64,
-) -> Finding
-    requires { Enquired holding.now starts.now tags.now held kind × ((check_file scottish file.now).code ≡ 0) }
-    ensures { result ≡ finding_of (in_force_file scottish holding.now file.now (kind ∷ number ∷ []) (records_of (read_holding scottish holding.now)) (read_file scottish file.now)) }
+) -> Result<Part, Refusal>
+    requires { Enquired holding.now starts.now tags.now count kind × ((check_file scottish file.now).code ≡ 0) }
+    ensures { found_said result ≡ in_force_file scottish holding.now file.now (kind ∷ number ∷ []) (records_of (read_holding scottish holding.now)) (read_file scottish file.now) }
 {
     match last_naming(file, asked_key(kind, number)) {
-        Naming::Unnamed => held_line(holding, starts, tags, held, kind, number),
-        Naming::Deleted => refusal(Refusal::alone(KEY_ABSENT)),
-        Naming::Named(line) => line_found(file, line, true),
+        Naming::Unnamed => held_line(holding, starts, tags, count, kind, number),
+        Naming::Deleted => Err(Refusal::alone(Code::KeyAbsent)),
+        Naming::Named(line) => Ok(line_found(file, line, Side::File)),
     }
 }
 
 // Where the record in force stands: 15, then 14, then the file check, then 11.
-pub fn line_in_force(holding: &[u8], file: &[u8], kind: u64, number: u64) -> Finding
-    ensures { result ≡ finding_of (in_force scottish holding.now file.now kind number) }
+pub fn line_in_force(holding: &[u8], file: &[u8], kind: u64, number: u64) -> Result<Part, Refusal>
+    ensures { found_said result ≡ in_force scottish holding.now file.now kind number }
 {
-    if !is_enquired(kind) {
-        return refusal(Refusal::alone(KIND_NOT_ASKED));
-    }
     let mut starts = [0u64; Holding::MOST_LINES];
     let mut tags = [0u64; Holding::MOST_LINES];
-    let mut counts = [0u16; Holding::MOST_LINES];
-    let held = read_holding(holding, &mut starts, &mut tags, &mut counts);
-    if held.line != 0 {
-        return refusal(Refusal::of_line(held.line as u64, HOLDING_UNSOUND));
-    }
-    let checked = check_file(file);
-    if checked.code != 0 {
-        return refusal(refusal_in(checked));
-    }
-    last_line(holding, file, &starts, &tags, held, kind, number)
+    let count = open_holding(holding, &mut starts, &mut tags, kind)?;
+    check_file(file)?;
+    last_line(holding, file, &starts, &tags, count, kind, number)
 }
 
 // The record in force of that kind and number.
@@ -77,8 +65,8 @@ pub fn in_force<'a>(
     ensures { HandedOf (in_force scottish holding.now file.now kind number) holding.entry file.entry result answer.new }
 {
     let found = line_in_force(holding, file, kind, number);
-    if found.infile {
-        return hand(file, found, &mut *answer);
+    match side_of(found) {
+        Side::Holding => hand(holding, found, answer),
+        Side::File => hand(file, found, answer),
     }
-    hand(holding, found, &mut *answer)
 }

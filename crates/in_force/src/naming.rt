@@ -14,7 +14,7 @@ use text::lines::line_end;
 use volume::lines::{Change, change_of};
 
 // What lines say of a key: nothing, or by the last that names it that its record is deleted, or stands on that line.
-#[derive(Clone, Copy)]
+#[derive(Clone, Copy, Debug, PartialEq, Eq)]
 pub enum Naming {
     Unnamed,
     Deleted,
@@ -26,8 +26,7 @@ fn said(line: u64, change: Change) -> Naming
     ensures { result ≡ said_by line (change_meant change) }
 {
     match change {
-        Change::Insert => Naming::Named(line),
-        Change::Update => Naming::Named(line),
+        Change::Insert | Change::Update => Naming::Named(line),
         Change::Delete => Naming::Deleted,
     }
 }
@@ -50,8 +49,7 @@ fn later(before: Naming, here: Naming) -> Naming
 {
     match here {
         Naming::Unnamed => before,
-        Naming::Deleted => Naming::Deleted,
-        Naming::Named(line) => Naming::Named(line),
+        Naming::Deleted | Naming::Named(_) => here,
     }
 }
 

@@ -1,10 +1,10 @@
 -- The laws of what stands at the key of an entry's record.
 use mathlib.Core.Path.{◌≡◌, refl, sym, ap, ◌∙◌, subst}
-use mathlib.Core.Bool.{Bool, not}
+use mathlib.Core.Bool.{Bool, true, false, not}
+use Rattle.std.specs.Prelude.{Result, Ok, Err}
 use mathlib.Core.Option.{some}
 use mathlib.Core.List.{List, ◌∷◌}
 use Prim.Native.Nat.{ℕ, suc, ◌≤◌}
-use borrow.Author.Rules.{rules}
 use lib.Dec.{T}
 use lib.ListN.{length, get_or, drop}
 use Rattle.base.specs.Lists.{all, some?}
@@ -28,11 +28,20 @@ use Rattle.judge.specs.Ready.{Finds}
 pub get_both : (st : List Rec) (x : Rec) → T (all (fine scottish) st) → T (fine scottish x) → get numbered (key_numbers x) st ≡ get (keyed scottish) (key_of scottish x) st
 get_both st x p g = get_alike st p (key_numbers x) (key_of scottish x) (own_agrees x g)
 
--- the place by halves and what stands there are what is asked for
-pub finds : (h f a k : List ℕ) (n i : ℕ) (b : Bool) → i ≡ rank numbered k (says h f a n) → i ≤ n → b ≡ some? (get numbered k (says h f a n)) → Finds h f a k n (record { place = i; stands = b })
-finds h f a k n i b r l q = record { placed = r; within = l; there = q }
+-- a place where a key would stand, and whether it does
+pub record Stands (h f a k : List ℕ) (n i : ℕ) (b : Bool) : Type 0 where
+  pub placed : i ≡ rank numbered k (says h f a n)
+  pub within : i ≤ n
+  pub there : b ≡ some? (get numbered k (says h f a n))
 
-pub ruleset finding = (rules, finds)
+module _ (h f a k : List ℕ) (n i : ℕ) (r : Result ℕ ℕ) where
+  -- and say where it stands
+  pub stands_ok : Finds h f a k n r → r ≡ Ok i → Stands h f a k n i true
+  stands_ok w e = let v : Finds h f a k n (Ok i) = rw e at w in record { placed = v.placed; within = v.within; there = v.there }
+
+  -- or would
+  pub stands_err : Finds h f a k n r → r ≡ Err i → Stands h f a k n i false
+  stands_err w e = let v : Finds h f a k n (Err i) = rw e at w in record { placed = v.placed; within = v.within; there = v.there }
 
 -- where a key stands, the entry at its place is of the record that stands there
 pub found_at : (h f a k : List ℕ) (n i : ℕ) → n ≤ length a → i ≡ rank numbered k (says h f a n) → T (some? (get numbered k (says h f a n))) → get numbered k (says h f a n) ≡ some (record_of h f (get_or a i 0))

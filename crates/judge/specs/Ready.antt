@@ -1,5 +1,5 @@
 -- What a step starts from, what is found, and how it is judged.
-use Rattle.std.specs.Prelude.{◌≡◌, List, ℕ, ◌^◌, ◌≤◌, ◌<◌, T, length, take}
+use Rattle.std.specs.Prelude.{◌≡◌, Bool, true, false, List, ℕ, ◌^◌, ◌≤◌, ◌<◌, T, length, take, Result, Ok, Err}
 use Rattle.std.proofs.Math.Option.{Option, none, some}
 use Rattle.base.specs.Lists.{some?}
 use Rattle.theory.specs.Store.{get}
@@ -9,18 +9,29 @@ use Rattle.meaning.specs.Table.{scottish}
 use Rattle.meaning.specs.Records.{Rec, keyed}
 use Rattle.meaning.specs.Holding.{written, most_records}
 use Rattle.meaning.specs.Steps.{held_tests, step_code}
+use Rattle.answers.specs.declared.codes.Code.{Code}
+use Rattle.answers.specs.Codes.{code_number}
 use Rattle.keys.specs.Numbers.{key_numbers, numbered}
 use Rattle.places.specs.Places.{says}
 use Rattle.places.specs.Counts.{tally, by_key}
 use Rattle.places.specs.Ordered.{Ordered}
 use Rattle.judge.specs.declared.State.{State}
-use Rattle.judge.specs.declared.Found.{Found}
 use Rattle.judge.specs.declared.Judged.{Judged}
 
--- the code of a refusal, and 0 where nothing is refused
-abbrev pub code_number : Option ℕ → ℕ
-code_number none = 0
-code_number (some w) = w
+-- the code with which a step is refused, if it is
+abbrev pub code_found : {T : Type 0} → Result T Code → Option ℕ
+code_found (Ok t) = none
+code_found (Err w) = some (code_number w)
+
+-- the place of a key, whether it stands there or would
+abbrev pub place_of : Result ℕ ℕ → ℕ
+place_of (Ok i) = i
+place_of (Err i) = i
+
+-- whether it stands there
+abbrev pub stands_at : Result ℕ ℕ → Bool
+stands_at (Ok i) = true
+stands_at (Err i) = false
 
 -- less than 2 ^ 63, as the length of every slice is
 abbrev pub IsShort : ℕ → Type 0
@@ -45,14 +56,18 @@ pub record Ready (h f a g t : List ℕ) (room : ℕ) (s : State) : Type 0 where
   pub count_space : most_records ≤ length t
 
 -- the place of a key among the first n, and whether a record stands there
-pub record Finds (h f a k : List ℕ) (n : ℕ) (r : Found) : Type 0 where
-  pub placed : r.place ≡ rank numbered k (says h f a n)
-  pub within : r.place ≤ n
-  pub there : r.stands ≡ some? (get numbered k (says h f a n))
+pub record Finds (h f a k : List ℕ) (n : ℕ) (r : Result ℕ ℕ) : Type 0 where
+  pub placed : place_of r ≡ rank numbered k (says h f a n)
+  pub within : place_of r ≤ n
+  pub there : stands_at r ≡ some? (get numbered k (says h f a n))
 
--- the code of a change over the state, the place of its key, and the bytes after it where it is not refused
-pub record Judges (h f a : List ℕ) (room : ℕ) (c : Change Rec) (s : State) (r : Judged) : Type 0 where
-  pub coded : r.code ≡ code_number (step_code scottish room (says h f a s.count) c)
-  pub placed : r.place ≡ rank numbered (key_numbers c.rec) (says h f a s.count)
-  pub within : r.place ≤ s.count
-  pub sized : r.code ≡ 0 → r.size ≡ length (written (after (keyed scottish) (says h f a s.count) c))
+-- the place of a change's key in the state, and the bytes after the change
+pub record Measures (h f a : List ℕ) (c : Change Rec) (s : State) (j : Judged) : Type 0 where
+  pub placed : j.place ≡ rank numbered (key_numbers c.rec) (says h f a s.count)
+  pub within : j.place ≤ s.count
+  pub sized : j.size ≡ length (written (after (keyed scottish) (says h f a s.count) c))
+
+-- the code of a change over the state, or where it is not refused its place and bytes
+pub record Judges (h f a : List ℕ) (room : ℕ) (c : Change Rec) (s : State) (r : Result Judged Code) : Type 0 where
+  pub coded : code_found r ≡ step_code scottish room (says h f a s.count) c
+  pub measured : (j : Judged) → r ≡ Ok j → Measures h f a c s j

@@ -11,9 +11,7 @@ ghost use Rattle.places.specs.Ordered.{Ordered};
 ghost use Rattle.places.specs.Changes.{change};
 ghost use Rattle.judge.specs.Ready.{Holds, Ready, Finds, Judges};
 
-use answers::codes::{
-    ALL_DONE, HOLDING_TOO_LONG, KEY_ABSENT, KEY_HELD, REFERENCE_UNMET, TOO_MANY_RECORDS,
-};
+use answers::codes::Code;
 use entries::lengths::entry_length;
 use keys::Key;
 use layout::limits::Holding;
@@ -25,35 +23,20 @@ use text::numbers::width;
 const AROUND: usize = 10;
 
 // The records in force, and the bytes of the holding as written.
-#[derive(Clone, Copy)]
+#[derive(Clone, Copy, Debug, PartialEq, Eq)]
 pub struct State {
     pub count: usize,
     pub size: usize,
 }
 
-// Where a record's key stands in force or would stand.
-#[derive(Clone, Copy)]
-pub struct Found {
-    pub place: usize,
-    pub stands: bool,
-}
-
-// The code, the place of the key, and where the code is 0 the bytes after the step.
-#[derive(Clone, Copy)]
+// Where the key of a step stands or would stand, and the bytes after the step.
+#[derive(Clone, Copy, Debug, PartialEq, Eq)]
 pub struct Judged {
-    pub code: u64,
     pub place: usize,
     pub size: usize,
 }
 
-// A code with the place and the bytes.
-fn verdict(code: u64, place: usize, size: usize) -> Judged
-    ensures { result ≡ record { code = code; place = place; size = size } }
-{
-    Judged { code, place, size }
-}
-
-// Looks up a key among the first `count` entries.
+// Where a key stands among the first `count` entries, or where it would.
 pub fn find(
     holding: &[u8],
     file: &[u8],
@@ -61,15 +44,15 @@ pub fn find(
     tags: &[u64],
     count: usize,
     key: Key,
-) -> Found
+) -> Result<usize, usize>
     requires { Ordered holding.now file.now places.now tags.now count }
     ensures { Finds holding.now file.now places.now (key_list key) count result }
 {
     let i = place(holding, file, places, tags, count, key);
-    let there = stands(holding, file, places, tags, count, i, key);
-    Found {
-        place: i,
-        stands: there,
+    if stands(holding, file, places, tags, count, i, key) {
+        Ok(i)
+    } else {
+        Err(i)
     }
 }
 
@@ -83,30 +66,29 @@ pub fn judge_insert(
     key: Key,
     state: State,
     room: usize,
-) -> Judged
+) -> Result<Judged, Code>
     requires { Holds holding.now file.now places.now tags.now room state × T (fine scottish (record_of holding.now file.now entry)) × (key_list key ≡ key_numbers (record_of holding.now file.now entry)) }
     ensures { Judges holding.now file.now places.now room (change ins (record_of holding.now file.now entry)) state result }
 {
-    let count = state.count;
-    let size = state.size;
-    let found = find(holding, file, places, tags, count, key);
-    let i = found.place;
-    let there = found.stands;
-    if there {
-        return verdict(KEY_HELD, i, size);
-    }
+    let State { count, size } = state;
+    let Err(place) = find(holding, file, places, tags, count, key) else {
+        return Err(Code::KeyHeld);
+    };
     if Holding::most_lines() <= count {
-        return verdict(TOO_MANY_RECORDS, i, size);
+        return Err(Code::TooManyRecords);
     }
     let met = meets(holding, file, places, tags, count, entry);
     if !met {
-        return verdict(REFERENCE_UNMET, i, size);
+        return Err(Code::ReferenceUnmet);
     }
     let added = entry_length(holding, file, entry) + AROUND + width((count + 1) as u64);
     if room - size < added {
-        return verdict(HOLDING_TOO_LONG, i, size);
+        return Err(Code::HoldingTooLong);
     }
-    verdict(ALL_DONE, i, size + added)
+    Ok(Judged {
+        place,
+        size: size + added,
+    })
 }
 
 // An update to an entry's record, whose key is given.
@@ -119,30 +101,26 @@ pub fn judge_update(
     key: Key,
     state: State,
     room: usize,
-) -> Judged
+) -> Result<Judged, Code>
     requires { Holds holding.now file.now places.now tags.now room state × T (fine scottish (record_of holding.now file.now entry)) × (key_list key ≡ key_numbers (record_of holding.now file.now entry)) }
     ensures { Judges holding.now file.now places.now room (change upd (record_of holding.now file.now entry)) state result }
 {
-    let count = state.count;
-    let size = state.size;
-    let found = find(holding, file, places, tags, count, key);
-    let i = found.place;
-    let there = found.stands;
-    if !there {
-        return verdict(KEY_ABSENT, i, size);
-    }
+    let State { count, size } = state;
+    let Ok(place) = find(holding, file, places, tags, count, key) else {
+        return Err(Code::KeyAbsent);
+    };
     if !meets(holding, file, places, tags, count, entry) {
-        return verdict(REFERENCE_UNMET, i, size);
+        return Err(Code::ReferenceUnmet);
     }
-    let old = entry_length(holding, file, places[i]);
+    let rest = size - entry_length(holding, file, places[place]);
     let new = entry_length(holding, file, entry);
-    if new <= old {
-        return verdict(ALL_DONE, i, size - (old - new));
+    if room - rest < new {
+        return Err(Code::HoldingTooLong);
     }
-    if room - size < new - old {
-        return verdict(HOLDING_TOO_LONG, i, size);
-    }
-    verdict(ALL_DONE, i, size + (new - old))
+    Ok(Judged {
+        place,
+        size: rest + new,
+    })
 }
 
 // A delete at the key of an entry's record.
@@ -156,21 +134,20 @@ pub fn judge_delete(
     key: Key,
     state: State,
     room: usize,
-) -> Judged
+) -> Result<Judged, Code>
     requires { Ready holding.now file.now places.now tags.now counts.now room state × T (fine scottish (record_of holding.now file.now entry)) × (key_list key ≡ key_numbers (record_of holding.now file.now entry)) }
     ensures { Judges holding.now file.now places.now room (change del (record_of holding.now file.now entry)) state result }
 {
-    let count = state.count;
-    let size = state.size;
-    let found = find(holding, file, places, tags, count, key);
-    let i = found.place;
-    let there = found.stands;
-    if !there {
-        return verdict(KEY_ABSENT, i, size);
+    let State { count, size } = state;
+    let Ok(place) = find(holding, file, places, tags, count, key) else {
+        return Err(Code::KeyAbsent);
+    };
+    if counts[place] != 0 {
+        return Err(Code::ReferenceUnmet);
     }
-    if counts[i] != 0 {
-        return verdict(REFERENCE_UNMET, i, size);
-    }
-    let gone = entry_length(holding, file, places[i]) + AROUND + width(count as u64);
-    verdict(ALL_DONE, i, size - gone)
+    let gone = entry_length(holding, file, places[place]) + AROUND + width(count as u64);
+    Ok(Judged {
+        place,
+        size: size - gone,
+    })
 }

@@ -2,7 +2,7 @@
 use mathlib.Core.Path.{◌≡◌, refl, sym, ap, ◌∙◌}
 use mathlib.Core.Bool.{Bool, true, false}
 use mathlib.Core.List.{List, [], ◌∷◌, ◌++◌, map}
-use Prim.Native.Nat.{ℕ, zero, suc, ◌+◌, ◌-◌, ◌*◌, ◌^◌, ◌≤◌, ◌<◌}
+use Prim.Native.Nat.{ℕ, zero, suc, ◌+◌, ◌-◌, ◌*◌, ◌^◌, ◌≤◌, ◌<◌, min}
 use native.Mathlib.Decide.{dec_lt}
 use native.Mathlib.Nat.{pow-suc, add-mul, mul_assoc, mul_comm}
 use native.Mathlib.Numerals.{add-one}
@@ -11,7 +11,7 @@ use borrow.Author.Rules.{rules}
 use borrow.Author.Tests.{lt-ltb, le-ltb}
 use lib.Dec.{ltb}
 use lib.ListN.{length, get_or, take, drop, length-map, length-take, length-drop}
-use lib.Seq.{take_all, take-nil, get_or-take, get_or-drop}
+use lib.Seq.{take-nil, get_or-take, get_or-drop}
 use mir.Syntax.{w8, w64}
 use mir.Val.{Fits}
 use Rattle.base.specs.Lists.{pick, part}
@@ -69,11 +69,6 @@ unfolding value digits_in
 text_start f = refl
 
 module _ (f : List ℕ) (v i x : ℕ) (e : value_f v (digits_left f i) ≡ x) where
-  -- past the end none is left
-  pub text_over : length f ≤ i → v ≡ x
-  unfolding value_f
-  text_over h = rw (left_over f i h) at e
-
   -- the letter is passed
   pub text_letter : i ≡ 5 → value_f v (digits_left f (i + 1)) ≡ x
   text_letter q = let w : value_f v (digits_left f 5) ≡ x = rw q at e in rw q (ap (value_f v) (letter f) ∙ w)
@@ -82,28 +77,32 @@ module _ (f : List ℕ) (v i x : ℕ) (e : value_f v (digits_left f i) ≡ x) wh
       letter f = rw (part_none f 5 5 (omega arith), part_none f (5 + 1) 5 (omega arith))
 
   -- a digit more is ten times the value, and the digit
-  pub text_turn : (d : ℕ) → i < 15 → i < length f → (i ≡ 5 → ⊥) → d ≡ get_or f i 0 - 48 → value_f (v * 10 + d) (digits_left f (i + 1)) ≡ x
+  pub text_turn : (d n : ℕ) → n ≡ min (length f) 15 → i < n → (i ≡ 5 → ⊥) → d ≡ get_or f i 0 - 48 → value_f (v * 10 + d) (digits_left f (i + 1)) ≡ x
   unfolding value_f
-  text_turn d h k n q = rw q (rw (left_turn f i h k n) at e)
+  text_turn d n m h k q = rw q (rw (left_turn f i (omega (arith, m)) (omega (arith, m)) k) at e)
 
-  -- after the ninth of the second run none is left
-  pub text_done : 15 ≤ i → v ≡ x
+  -- after the ninth of the second run none is left, nor past the end
+  pub text_done : (n : ℕ) → n ≡ min (length f) 15 → n ≤ i → v ≡ x
   unfolding value_f
-  text_done h = rw (le-ltb i 6 (omega arith), part_none f i 5 (omega arith), part_none f i 15 h) at e
+  text_done n m h = go (dec_lt i 15)
+    where
+      go : Dec (i < 15) → v ≡ x
+      go (yes p) = rw (left_over f i (omega (arith, m))) at e
+      go (no p) = rw (le-ltb i 6 (omega arith), part_none f i 5 (omega arith), part_none f i 15 (omega arith)) at e
 
 -- what is worth less than 23 * 10 ^ i is worth less than one byte more
 pub worth_letter : (v i : ℕ) → v + 23 ≤ 23 * 10 ^ i → v + 23 ≤ 23 * 10 ^ (i + 1)
 worth_letter v i h = rw (add-one, pow-suc 10 i) (omega arith)
 
 -- so fifteen bytes fit
-pub text_fits : (v i d : ℕ) → v + 23 ≤ 23 * 10 ^ i → i < 15 → d ≤ 207 → Fits w64 (v * 10 + d)
-text_fits v i d h k l = worth_fits v i 15 d h k (omega arith) l
+pub text_fits : (v i d n k : ℕ) → v + 23 ≤ 23 * 10 ^ i → n ≡ min k 15 → i < n → d ≤ 207 → Fits w64 (v * 10 + d)
+text_fits v i d n k h m j l = worth_fits v i 15 d h (omega (arith, m)) (omega arith) l
 
 -- and fourteen, ten times
-pub text_ten_fits : (v i : ℕ) → v + 23 ≤ 23 * 10 ^ i → i < 15 → Fits w64 (v * 10)
-text_ten_fits v i h k = ten_fits v i 15 h k (omega arith)
+pub text_ten_fits : (v i n k : ℕ) → v + 23 ≤ 23 * 10 ^ i → n ≡ min k 15 → i < n → Fits w64 (v * 10)
+text_ten_fits v i n k h m j = ten_fits v i 15 h (omega (arith, m)) (omega arith)
 
-pub ruleset digits = (rules, text_start, text_over, text_letter, text_turn, text_done, worth_letter, worth_turn, text_fits, text_ten_fits)
+pub ruleset digits = (rules, text_start, text_letter, text_turn, text_done, worth_letter, worth_turn, text_fits, text_ten_fits)
 
 -- ---- a text's digits in two runs
 
@@ -167,12 +166,6 @@ text_two f v w h p q =
 pub ruleset runs = (rules, four_fits, nine_fits, text_two)
 
 -- ---- a field's number
-
--- no more than 16 bytes are all of them
-pub number_whole : (f : List ℕ) (n : ℕ) → length f ≤ 16 → n ≡ value f → n ≡ value (take 16 f)
-number_whole f n h e = rw (take_all 16 f h) e
-
-pub ruleset numbers = (rules, number_whole)
 
 module _ (m : Form) (f : List ℕ) (t : Bool) (p : t ≡ is_textual m) (n : ℕ) where
   -- a text's is that of its digits

@@ -11,6 +11,9 @@ use borrow.Author.Tests.{le-ltb}
 use lib.Dec.{T, leb, leb→le}
 use lib.Text.{eqt}
 use lib.ListN.{get_or, drop, drop_of_length-le}
+use Rattle.std.specs.declared.cmp.Ordering.{Ordering}
+use Rattle.std.specs.declared.cmp.Ordering.TheVariants.{Less, Equal, Greater}
+use Rattle.std.specs.Ordering.{nat_cmp, ordering_then}
 use Rattle.base.specs.Lists.{pick, all, zeros}
 use Rattle.base.specs.Tests.{and_l, and_r}
 use Rattle.theory.specs.Tri.{Tri, lt, eq, gt}
@@ -24,6 +27,8 @@ use Rattle.meaning.specs.Format.{Field, field_number, named, form_named}
 use Rattle.meaning.specs.Table.{fields, key_names, refers_to, scottish}
 use Rattle.meaning.specs.Records.{own_fields, empty_named}
 use Rattle.laws.specs.Kinds.{every}
+use Rattle.text.specs.Order.{tri_of}
+use Rattle.text.proofs.OrderLaws.{tri_slice_cmp}
 use Rattle.layout.specs.declared.records.Layout.{Layout}
 use Rattle.layout.specs.Rows.{bare, no_row, row_of, places_of, padded, targets, sources, laid_out}
 use Rattle.layout.proofs.CheckLaws.{place_from, named_at}
@@ -55,7 +60,19 @@ module _ (x y : ℕ) (xs ys : List ℕ) (o : Tri) where
 pub lex_last : (x y : ℕ) (o : Tri) → o ≡ cmp_n x y → o ≡ lex (x ∷ []) (y ∷ [])
 lex_last x y o e = e ∙ sym (lex_one x y)
 
-pub ruleset ordered = (rules, lex_first, lex_after, lex_last)
+-- a last answer is its own
+then_last : (o : Ordering) → o ≡ ordering_then o Equal
+then_last Less = refl
+then_last Equal = refl
+then_last Greater = refl
+
+-- what std answers of four numbers, one after another
+pub key_told : (a b c d x y z w : ℕ) (o : Ordering)
+    → o ≡ ordering_then (nat_cmp a x) (ordering_then (nat_cmp b y) (ordering_then (nat_cmp c z) (nat_cmp d w)))
+    → tri_of o ≡ lex (a ∷ b ∷ c ∷ d ∷ []) (x ∷ y ∷ z ∷ w ∷ [])
+key_told a b c d x y z w o e =
+    ap tri_of (e ∙ ap (λ l. ordering_then (nat_cmp a x) (ordering_then (nat_cmp b y) (ordering_then (nat_cmp c z) l))) (then_last (nat_cmp d w)))
+    ∙ tri_slice_cmp (a ∷ b ∷ c ∷ d ∷ []) (x ∷ y ∷ z ∷ w ∷ [])
 
 -- ---- a name's place in the content
 

@@ -15,8 +15,8 @@ use Rattle.meaning.specs.Table.{key_names, refers_to, scottish}
 use Rattle.meaning.specs.Records.{Rec, own_fields, empty_named}
 use Rattle.layout.specs.Rows.{padded}
 use Rattle.keys.specs.declared.Key.{Key}
-use Rattle.keys.specs.declared.Referred.{Referred}
-use Rattle.keys.specs.declared.Referred.TheVariants.{To, Nothing}
+use Rattle.std.specs.Prelude as std
+use Rattle.std.specs.Prelude.{Some, None}
 
 -- ---- the numbers of fields
 
@@ -76,6 +76,6 @@ abbrev pub key_list : Key → List ℕ
 key_list k = k.kind ∷ k.first ∷ k.second ∷ k.third ∷ []
 
 -- the key that is referred to, if any
-abbrev pub referred_as : Referred → Option (List ℕ)
-referred_as (To k) = some (key_list k)
-referred_as Nothing = none
+abbrev pub referred_as : std.Option Key → Option (List ℕ)
+referred_as (Some k) = some (key_list k)
+referred_as None = none

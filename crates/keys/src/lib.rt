@@ -10,12 +10,12 @@ ghost use Rattle.theory.specs.Lex.{lex};
 ghost use Rattle.text.specs.Order.{tri_of};
 ghost use Rattle.keys.specs.Numbers.{key_list};
 
-use text::order::{Order, numbers};
+use std::cmp::Ordering;
 
 pub mod numbers; // the number of a field
 
-// A key: the number of its kind, and those of its fields.
-#[derive(Clone, Copy)]
+// A key: the number of its kind, and those of its fields. Keys stand in the order of these, one after another.
+#[derive(Clone, Copy, Debug, PartialEq, Eq, PartialOrd, Ord)]
 pub struct Key {
     pub kind: u64,
     pub first: u64,
@@ -23,25 +23,9 @@ pub struct Key {
     pub third: u64,
 }
 
-// What a row of the table makes a record refer to.
-#[derive(Clone, Copy)]
-pub enum Referred {
-    To(Key),
-    Nothing,
-}
-
 // Two keys, number by number.
-pub fn order(a: Key, b: Key) -> Order
+pub fn order(a: Key, b: Key) -> Ordering
     ensures { tri_of result ≡ lex (key_list a) (key_list b) }
 {
-    if a.kind != b.kind {
-        return numbers(a.kind, b.kind);
-    }
-    if a.first != b.first {
-        return numbers(a.first, b.first);
-    }
-    if a.second != b.second {
-        return numbers(a.second, b.second);
-    }
-    numbers(a.third, b.third)
+    a.cmp(&b)
 }

@@ -15,18 +15,11 @@ use text::numbers::{digit, value};
 fn digits_number(f: &[u8]) -> u64
     ensures { result ≡ value (digits_in f.now) }
 {
-    let mut v: u64 = 0;
-    let mut i = 1;
-    while i < 15 {
-        if f.len() <= i {
-            return v;
+    let mut v = 0;
+    for i in 1..f.len().min(15) {
+        if i != 5 {
+            v = v * 10 + digit(f[i]);
         }
-        if i == 5 {
-            i += 1;
-            continue;
-        }
-        v = v * 10 + digit(f[i]);
-        i += 1;
     }
     v
 }
@@ -45,19 +38,15 @@ pub fn text_number(f: &[u8]) -> u64
 pub fn plain_number(f: &[u8]) -> u64
     ensures { result ≡ value (take 16 f.now) }
 {
-    if 16 < f.len() {
-        return value(&f[0..16]);
-    }
-    value(f)
+    let end = f.len().min(16);
+    value(&f[..end])
 }
 
 // The form of a kind's field, counted from 0; N 0 where there is none.
 pub fn form_at(kind: Kind, k: usize) -> Form
     ensures { meant result ≡ (row_of (kind_meant kind) k).0 }
 {
-    let l = layout(kind);
-    let count = l.count;
-    if count <= k {
+    if layout(kind).count <= k {
         return Form::Number(0);
     }
     form_of(row(kind, k))

@@ -1,7 +1,7 @@
 -- How the tests of what a sound field may begin with meet the meaning's Place.
 use mathlib.Core.Path.{◌≡◌, refl, sym, ap, ◌∙◌}
-use mathlib.Core.Bool.{Bool, true, false, or-false}
-use mathlib.Core.List.{List, [], ◌∷◌, ◌++◌}
+use mathlib.Core.Bool.{Bool, true, false, ◌||◌, or-false}
+use mathlib.Core.List.{List, [], ◌∷◌, ◌++◌, map}
 use Prim.Native.Nat.{ℕ, zero, suc, ◌+◌, ◌-◌, ◌≤◌, ◌<◌}
 use native.Mathlib.Omega.{arith}
 use borrow.Author.Rules.{rules}
@@ -9,12 +9,13 @@ use borrow.Author.Tests.{not-true, not-false}
 use borrow.Rule.Slice.PartMut.{put_mid}
 use lib.ListN.{length, get_or, take, drop, set, replicate, length-append, length-drop}
 use lib.Seq.{take_at, take_all}
+use Rattle.std.specs.List.{list_any}
 use Rattle.base.specs.Lists.{bytes}
 use Rattle.base.proofs.Walk.{at_cons, at_end_lem}
 use Rattle.text.specs.Front.{in_front}
-use Rattle.text.proofs.FrontLaws.{front_same, front_then, front_room}
+use Rattle.text.proofs.FrontLaws.{front_then}
 use Rattle.meaning.specs.Forms.{Form, quoted, is_textual, empty_of}
-use Rattle.meaning.specs.Place.{goes_on, begins, samples}
+use Rattle.meaning.specs.Place.{goes_on, begins, samples, sample_characters}
 use Rattle.form.specs.Codes.{in_quotes}
 use Rattle.form.specs.Meant.{meant}
 use Rattle.layout.specs.Rows.{form_decoded, sound_by}
@@ -26,11 +27,7 @@ use Rattle.layout.proofs.LongestLaws.{begins_longer, goes_over, short_row_lem, w
 -- ---- two parts, one behind the other
 
 module _ (p e old new : List ℕ) (n : ℕ) (pn : n ≡ length p) (w : new ≡ in_front p old) (l : length p + length e ≤ length old) where
-  -- the tail that the first part leaves has room for the second
-  pub second_room : length e ≤ length (take (length new - n) (drop n new))
-  second_room = front_room p old new n (length e) pn w (omega arith)
-
-  -- and both stand in front
+  -- both stand in front
   pub both_front : (last : List ℕ) → last ≡ in_front e (take (length new - n) (drop n new)) → put_mid n (length new - n) new last ≡ in_front (p ++ e) old
   both_front last v = front_then p e old new last n pn w v
 
@@ -38,19 +35,15 @@ module _ (p e old new : List ℕ) (n : ℕ) (pn : n ≡ length p) (w : new ≡ i
 pub both_length : (p e : List ℕ) (n m : ℕ) → n ≡ length p → m ≡ length e → n + m ≡ length (p ++ e)
 both_length p e n m a b = omega (arith, length-append p e)
 
-module _ (p e old new : List ℕ) (n : ℕ) (pn : n ≡ length (p ++ e)) (w : new ≡ in_front (p ++ e) old) (pl : length p ≤ most_of_any) (el : length e ≤ most_of_any) (ol : length old ≡ 2044) where
-  -- what stands in front is within what was lent
-  pub together_room : n ≤ length new
-  together_room = omega (arith, front_same (p ++ e) old new (omega (arith, length-append p e)) w, length-append p e)
-
-  -- and is both
+module _ (p e old new : List ℕ) (n : ℕ) (pn : n ≡ length (p ++ e)) (w : new ≡ in_front (p ++ e) old) where
+  -- what stands in front is both
   pub together : (row : ℕ) (r : Bool) → r ≡ sound_by row (take (n - 0) (drop 0 new)) → r ≡ sound_by row (p ++ e)
   unfolding in_front
   together row r q =
       let z : n - 0 ≡ length (p ++ e) = omega (arith, pn) in
       q ∙ ap (sound_by row) (rw (w, z) (take_at (p ++ e) (drop (length (p ++ e)) old) (length (p ++ e)) refl))
 
-pub ruleset parts = (rules, second_room, both_front, both_length, together_room, together)
+pub ruleset parts = (rules, both_front, both_length, together)
 
 -- ---- the ends of a sample
 
@@ -76,11 +69,7 @@ module _ (sound : List ℕ → Bool) (p s : List ℕ) (i : ℕ) (x : Bool) (e : 
   unfolding goes_on
   goes_done h b q = q ∙ rw (at_end_lem s i h) at e
 
--- where the ends begin that don't
-pub over_none : (a b n : ℕ) → a + b < n → 0 ≡ a + b - n
-over_none a b n h = omega arith
-
-pub ruleset going = (rules, not-true, not-false, short_row_lem, over_none, goes_over, goes_stop, goes_turn, goes_done)
+pub ruleset going = (rules, not-true, not-false, short_row_lem, goes_over, goes_stop, goes_turn, goes_done)
 
 -- ---- one sample and those after it
 
@@ -104,23 +93,14 @@ pub ruleset beginning = (rules, not-true, not-false, begins_longer, begins_first
 
 -- ---- codes in quotes
 
-module _ (sound : List ℕ → Bool) (p codes : List ℕ) (i : ℕ) (x : Bool) (e : begins sound (in_quotes (drop i codes)) p ≡ x) where
-  -- this code goes on
-  pub quoted_stop : i < length codes → (b : Bool) → b ≡ goes_on sound p (34 ∷ get_or codes i 0 ∷ 34 ∷ []) → b ≡ true → true ≡ x
-  unfolding begins in_quotes
-  quoted_stop h b q t = rw (at_cons codes i h, sym q ∙ t) at e
-
-  -- it does not, and the next is tried
-  pub quoted_turn : i < length codes → (b : Bool) → b ≡ goes_on sound p (34 ∷ get_or codes i 0 ∷ 34 ∷ []) → b ≡ false → begins sound (in_quotes (drop (i + 1) codes)) p ≡ x
-  unfolding begins in_quotes
-  quoted_turn h b q t = rw (at_cons codes i h, sym q ∙ t) at e
-
-  -- there is none left
-  pub quoted_done : length codes ≤ i → false ≡ x
-  unfolding begins in_quotes
-  quoted_done h = rw (at_end_lem codes i h) at e
-
-pub ruleset quoting = (rules, not-true, not-false, quoted_stop, quoted_turn, quoted_done)
+-- one of them goes on
+pub quoted_told : (sound : List ℕ → Bool) (p codes : List ℕ) (r : Bool) → r ≡ list_any (λ c. goes_on sound p (34 ∷ c ∷ 34 ∷ [])) codes → r ≡ begins sound (in_quotes codes) p
+unfolding begins in_quotes
+quoted_told sound p codes r e = e ∙ go codes
+  where
+    go : (codes : List ℕ) → list_any (λ c. goes_on sound p (34 ∷ c ∷ 34 ∷ [])) codes ≡ begins sound (in_quotes codes) p
+    go [] = refl
+    go (c ∷ codes) = rw (go codes)
 
 -- ---- a number with a point
 
@@ -151,6 +131,42 @@ unfolding bytes
 key_goes sound p letter r e = e
 
 pub ruleset sampled = (rules, decimal_goes, key_goes)
+
+-- ---- a text
+
+-- a run of tests, each asked where those before it fail
+pub or_here : (v a x y : Bool) → v ≡ a → a ≡ true → a ≡ x → v ≡ (x || y)
+or_here v a true y e t f = e ∙ f
+or_here v a false y e t f = let z : false ≡ true = sym f ∙ t in cc
+
+pub or_next : (v a b x y : Bool) → v ≡ b → a ≡ false → a ≡ x → b ≡ y → v ≡ (x || y)
+or_next v a b true y e t f g = let z : true ≡ false = sym f ∙ t in cc
+or_next v a b false y e t f g = e ∙ g
+
+-- a text's samples, one after another
+text_samples : (sound : List ℕ → Bool) (p : List ℕ) → begins sound (map quoted sample_characters) p
+    ≡ (goes_on sound p (34 ∷ 97 ∷ 34 ∷ []) || (goes_on sound p (34 ∷ 224 ∷ 160 ∷ 128 ∷ 34 ∷ []) || (goes_on sound p (34 ∷ 240 ∷ 144 ∷ 128 ∷ 128 ∷ 34 ∷ []) || goes_on sound p (34 ∷ 241 ∷ 128 ∷ 128 ∷ 128 ∷ 34 ∷ []))))
+unfolding begins sample_characters bytes
+text_samples sound p = rw or-false
+
+module _ (sound : List ℕ → Bool) (p : List ℕ) (v : Bool) (e : v ≡ ((goes_on sound p (34 ∷ 97 ∷ 34 ∷ []) || goes_on sound p (34 ∷ 224 ∷ 160 ∷ 128 ∷ 34 ∷ [])) || goes_on sound p (34 ∷ 240 ∷ 144 ∷ 128 ∷ 128 ∷ 34 ∷ []))) where
+  -- one of the first three goes on, or the last is asked
+  text_either : (a b c d v : Bool) → v ≡ ((a || b) || c) → (a || (b || (c || d))) ≡ (v || d)
+  text_either true b c d v e = rw e
+  text_either false true c d v e = rw e
+  text_either false false c d v e = rw e
+
+  text_is : begins sound (map quoted sample_characters) p ≡ (v || goes_on sound p (34 ∷ 241 ∷ 128 ∷ 128 ∷ 128 ∷ 34 ∷ []))
+  text_is =
+      text_samples sound p
+      ∙ text_either (goes_on sound p (34 ∷ 97 ∷ 34 ∷ [])) (goes_on sound p (34 ∷ 224 ∷ 160 ∷ 128 ∷ 34 ∷ [])) (goes_on sound p (34 ∷ 240 ∷ 144 ∷ 128 ∷ 128 ∷ 34 ∷ []))
+      (goes_on sound p (34 ∷ 241 ∷ 128 ∷ 128 ∷ 128 ∷ 34 ∷ [])) v e
+
+  pub text_first : v ≡ true → v ≡ begins sound (map quoted sample_characters) p
+  text_first t = t ∙ sym (rw t at text_is)
+
+  pub text_last : v ≡ false → (r : Bool) → r ≡ goes_on sound p (34 ∷ 241 ∷ 128 ∷ 128 ∷ 128 ∷ 34 ∷ []) → r ≡ begins sound (map quoted sample_characters) p
+  text_last t r q = q ∙ sym (rw t at text_is)
 
 -- ---- the empty field
 
@@ -191,4 +207,4 @@ module _ (sound : List ℕ → Bool) (p : List ℕ) (form : Code) (m : Form) (i 
 pub decimal_room : (row : ℕ) (form : Code) (w d : ℕ) → meant form ≡ form_decoded row → form ≡ Decimal w d → 2 + d ≤ most_of_any
 decimal_room row form w d m f = omega (arith, wide_decimal row form m w d f)
 
-pub ruleset filling = (rules, not-true, not-false, arm_all, arm_one, arm_first, arm_second, decimal_room)
+pub ruleset filling = (rules, not-true, not-false, quoted_told, arm_all, arm_one, arm_first, arm_second, decimal_room)

@@ -1,6 +1,6 @@
 -- The laws of the check of a line: the walk of its fields beside the table's rows, its dates, and its faults in order.
 use mathlib.Core.Path.{◌≡◌, refl, sym, ap, ◌∙◌}
-use mathlib.Core.Bool.{Bool, true, false, not, ◌&&◌}
+use mathlib.Core.Bool.{Bool, true, false, ◌&&◌}
 use mathlib.Core.Option.{Option, none, some}
 use mathlib.Core.List.{List, [], ◌∷◌, map}
 use Prim.Native.Nat.{ℕ, zero, suc, ◌+◌, ◌-◌, ◌≤◌, ◌<◌}
@@ -16,28 +16,28 @@ use lib.Seq.{drop-cons}
 use Rattle.base.specs.Lists.{pick, ask}
 use Rattle.base.specs.Tests.{and_l, and_r, ok_ask}
 use Rattle.meaning.specs.Forms.{sound_as}
-use Rattle.meaning.specs.Place.{place_as}
 use Rattle.meaning.specs.Lines.{fields_from, fields_of, has_fields}
 use Rattle.meaning.specs.Kinds.{Kind, kinds}
 use Rattle.meaning.specs.Format.{Field, named, field_number, start_date, end_date}
 use Rattle.meaning.specs.Table.{fields, scottish}
-use Rattle.meaning.specs.Codes.{field_count_wrong, field_malformed, end_before_start}
+use Rattle.meaning.specs.Codes.{field_count_wrong, end_before_start}
 use Rattle.meaning.specs.Answers as meant
 use Rattle.meaning.specs.Answers.{of_line, of_field, of_byte}
-use Rattle.answers.specs.declared.refusal.Fault.{Fault}
-use Rattle.answers.specs.Meant.{no_fault_at, fault_of}
 use Rattle.meaning.specs.Sound.{sound_field, place_in, forms, dates_agree, field_fault, form_fault, if_malformed}
-use Rattle.theory.specs.Tri.{is_lt}
+use Rattle.theory.specs.Tri.{lt}
 use Rattle.theory.specs.Lex.{lex}
-use Rattle.text.specs.declared.order.Order.{Order}
+use Rattle.std.specs.declared.cmp.Ordering.{Ordering}
+use Rattle.std.specs.declared.cmp.Ordering.TheVariants.{Less, Equal, Greater}
+use Rattle.std.specs.Ordering.{is_ge}
+use Rattle.std.specs.Bool.{◌==◌}
 use Rattle.text.specs.Order.{tri_of}
 use Rattle.laws.specs.Kinds.{every}
 use Rattle.laws.specs.FileRefusals.{none_named}
 use Rattle.text.specs.Places.{field_count, field_len, field_end}
 use Rattle.text.proofs.FieldLaws.{fields_at, fields_wrong, fields_right, fields_many}
-use Rattle.layout.specs.Rows.{Row, bare, no_row, row_of, decoded, form_decoded, filled_decoded, sound_by, laid_out}
+use Rattle.layout.specs.Rows.{Row, bare, no_row, row_of, laid_out}
 use Rattle.layout.specs.declared.records.Layout.{Layout}
-use Rattle.layout.specs.Check.{bad_field, lowest_bad, first_of, kind_dates, Parted, told}
+use Rattle.layout.specs.Check.{bad_field, lowest_bad, first_of, kind_dates, Parted}
 
 -- ---- the walk of the fields, k of them on
 
@@ -88,15 +88,6 @@ row_there kd k n h c = rw length-map at (rw c at h)
 pub count_there : (kd : Kind) (l : Layout) (k : ℕ) → l ≡ laid_out kd → k < l.count → k < length (fields kd)
 count_there kd l k e h = row_there kd k l.count h (count_rows kd l e)
 
--- the fault of a malformed field, by its row
-pub malformed_is : (row : ℕ) (p : Row) (f : List ℕ) (n c : ℕ) (x : Fault) → decoded row ≡ p → c ≡ place_as scottish.text_rule (form_decoded row) (filled_decoded row) f
-    → x ≡ fault_of (of_byte field_malformed n c) → x ≡ fault_of (bad_field n p f)
-malformed_is row p f n c x d h q = q ∙ ap (λ y. fault_of (of_byte field_malformed n y)) (rw (← d) h)
-
--- a row says of its field what the table says
-pub sound_is : (row : ℕ) (p : Row) (c : Bool) (f : List ℕ) → decoded row ≡ p → c ≡ sound_by row f → c ≡ sound_as scottish.text_rule p.0 p.1 f
-sound_is row p c f d h = rw (← d) h
-
 module _ (kd : Kind) (t : List ℕ) (k n at : ℕ) (x : Option meant.Fault) (e : ℕ) (b : Bool) (w : bad_at kd t k at ≡ x) (h : k < n) (c : n ≡ length (map bare (fields kd))) (q : e ≡ field_end t at) (a : at ≤ e)
     (s : b ≡ sound_as scottish.text_rule (row_of kd k).0 (row_of kd k).1 (take (e - at) (drop at t))) where
   -- the row beside the field
@@ -141,18 +132,6 @@ forms_is n (d ∷ ds) (f ∷ fs) rest = go (sound_as scottish.text_rule d.form d
     go true e = e
     go false e = refl
 
--- a fault that is told has a code
-pub bad_coded : (n : ℕ) (ds : List Row) (fs : List (List ℕ)) → (told (lowest_bad n ds fs)).code ≡ 0 → lowest_bad n ds fs ≡ none
-unfolding lowest_bad ask
-bad_coded n [] fs z = refl
-bad_coded n (d ∷ ds) [] z = refl
-bad_coded n (d ∷ ds) (f ∷ fs) z = go (sound_as scottish.text_rule d.0 d.1 f) (bad_coded (suc n) ds fs) z
-  where
-    go : (b : Bool) → ((told (lowest_bad (suc n) ds fs)).code ≡ 0 → lowest_bad (suc n) ds fs ≡ none)
-        → (told (ask b (bad_field n d f) (lowest_bad (suc n) ds fs))).code ≡ 0 → ask b (bad_field n d f) (lowest_bad (suc n) ds fs) ≡ none
-    go true r z = r z
-    go false r z = absurd (omega (arith, z))
-
 -- ---- dates
 
 -- no END_DATE is in order
@@ -161,21 +140,21 @@ unfolding dates_agree
 dates_no_end s [] h = refl
 dates_no_end s (x ∷ e) h = absurd (omega arith)
 
--- nor is there anything to be before
-pub dates_no_start : (s e : List ℕ) → (length e ≡ 0 → ⊥) → length s ≡ 0 → true ≡ dates_agree s e
-unfolding dates_agree
-dates_no_start s [] n h = absurd (n refl)
-dates_no_start [] (x ∷ e) n h = refl
-dates_no_start (y ∷ s) (x ∷ e) n h = absurd (omega arith)
+-- else the order of their bytes says it, and an empty START_DATE stands before every END_DATE
+pub dates_told : (s e : List ℕ) (o : Ordering) (a b : Bool) → a ≡ (length e == 0) → a ≡ false → tri_of o ≡ lex e s → b ≡ is_ge o → b ≡ dates_agree s e
+unfolding dates_agree lex
+dates_told s [] o a b m n t h = let z : true ≡ false = sym m ∙ n in cc
+dates_told s (x ∷ e) Less a b m n t h = go s t h
+  where
+    go : (s : List ℕ) → lt ≡ lex (x ∷ e) s → b ≡ false → b ≡ dates_agree s (x ∷ e)
+    go [] t h = cc
+    go (y ∷ s) t h = rw (← t) h
+dates_told [] (x ∷ e) Equal a b m n t h = h
+dates_told (y ∷ s) (x ∷ e) Equal a b m n t h = rw (← t) h
+dates_told [] (x ∷ e) Greater a b m n t h = h
+dates_told (y ∷ s) (x ∷ e) Greater a b m n t h = rw (← t) h
 
--- else the order of their bytes says it
-pub dates_told : (s e : List ℕ) (o p : Order) (b : Bool) → (length e ≡ 0 → ⊥) → (length s ≡ 0 → ⊥) → tri_of o ≡ lex e s → o ≡ p → b ≡ not (is_lt (tri_of p)) → b ≡ dates_agree s e
-unfolding dates_agree
-dates_told s [] o p b m n t q h = absurd (m refl)
-dates_told [] (x ∷ e) o p b m n t q h = absurd (n refl)
-dates_told (y ∷ s) (x ∷ e) o p b m n t q h = rw (← t, q) h
-
-pub ruleset dates = (rules, dates_no_end, dates_no_start, dates_told)
+pub ruleset dates = (rules, dates_no_end, dates_told)
 
 -- a place is one of those counted
 pub place_from : (n : ℕ) (s : String) (ds : List Field) → (field_number n s ds ≡ 0 → ⊥) → n ≤ field_number n s ds
@@ -277,13 +256,6 @@ module _ (kd : Kind) (t : List ℕ) (l : Layout) (e : l ≡ laid_out kd) where
   unfolding laid_out kind_dates
   kind_no_end h = rw (none_named 0 end_date (fields kd) (fields_of t) (rw e at h)) (dates_no_end _ [] refl)
 
-  -- so is a line whose END_DATE is empty
-  pub kind_end_empty : (f : List ℕ) → (l.end ≡ 0 → ⊥) → f ≡ get_or (fields_of t) (l.end - 1) [] → length f ≡ 0 → true ≡ kind_dates kd (fields_of t)
-  unfolding laid_out kind_dates
-  kind_end_empty f n q h =
-      let v : l.end ≡ field_number 1 end_date (fields kd) = ap (λ x. x.end) e in
-      rw (named_at 0 end_date (fields kd) (fields_of t) (λ z. n (v ∙ z)), ← v, ← q) (dates_no_end _ f h)
-
   -- else the two fields say it
   pub kind_dates_lem : (b : Bool) (s f : List ℕ) → (l.start ≡ 0 → ⊥) → (l.end ≡ 0 → ⊥) → s ≡ get_or (fields_of t) (l.start - 1) [] → f ≡ get_or (fields_of t) (l.end - 1) [] → b ≡ dates_agree s f
       → b ≡ kind_dates kd (fields_of t)
@@ -293,7 +265,7 @@ module _ (kd : Kind) (t : List ℕ) (l : Layout) (e : l ≡ laid_out kd) where
       let v : l.end ≡ field_number 1 end_date (fields kd) = ap (λ x. x.end) e in
       rw (named_at 0 start_date (fields kd) (fields_of t) (λ z. m (u ∙ z)), named_at 0 end_date (fields kd) (fields_of t) (λ z. n (v ∙ z)), ← u, ← v, ← p, ← q) h
 
-pub ruleset kinddates = (rules, start_there, end_there, noted_there, kind_no_start, kind_no_end, kind_end_empty, kind_dates_lem)
+pub ruleset kinddates = (rules, start_there, end_there, noted_there, kind_no_start, kind_no_end, kind_dates_lem)
 
 -- ---- a line's faults in order
 
@@ -319,39 +291,31 @@ module _ (kd : Kind) (t : List ℕ) (l : Layout) (e : l ≡ laid_out kd) where
   right_count c p f = rw (← counted) (fields_right t l.count c p f some_fields)
 
   -- 4 for their number
-  pub fault_count : (c : ℕ) → c ≡ field_count t → (c ≡ l.count → ⊥) → (x : Fault) → x ≡ fault_of (of_line field_count_wrong) → x ≡ told (form_fault scottish kd t none)
+  pub fault_count : (c : ℕ) → c ≡ field_count t → (c ≡ l.count → ⊥) → (x : meant.Fault) → x ≡ of_line field_count_wrong → some x ≡ form_fault scottish kd t none
   unfolding ask
-  fault_count c p f x m = m ∙ rw (fault_is kd t none, ← counted, ← fields_wrong t l.count c p f)
+  fault_count c p f x m = ap some m ∙ rw (fault_is kd t none, ← counted, ← fields_wrong t l.count c p f)
 
-  module _ (c : ℕ) (p : c ≡ field_count t) (f : c ≡ l.count) (n : Fault) (q : n ≡ told (lowest_bad 1 (map bare (fields kd)) (fields_of t))) where
-    -- the first fault, by what was told of the fields
+  module _ (c : ℕ) (p : c ≡ field_count t) (f : c ≡ l.count) where
+    -- the first fault, where their number is right
     first_is : (rest : Option meant.Fault) → form_fault scottish kd t rest
         ≡ first_of (lowest_bad 1 (map bare (fields kd)) (fields_of t)) (ask (kind_dates kd (fields_of t)) (of_field end_before_start (field_number 1 end_date (fields kd))) rest)
     unfolding ask
     first_is rest = fault_is kd t rest ∙ rw (← right_count c p f)
 
     -- 5 for the lowest that is malformed
-    pub fault_form : (n.code ≡ 0 → ⊥) → n ≡ told (form_fault scottish kd t none)
-    fault_form m = go (lowest_bad 1 (map bare (fields kd)) (fields_of t)) refl q
-      where
-        go : (o : Option meant.Fault) → lowest_bad 1 (map bare (fields kd)) (fields_of t) ≡ o → n ≡ told o → n ≡ told (form_fault scottish kd t none)
-        go none u v = absurd (m (ap (λ x. x.code) v))
-        go (some x) u v = v ∙ rw (first_is none, u)
+    pub fault_form : (x : meant.Fault) → some x ≡ lowest_bad 1 (map bare (fields kd)) (fields_of t) → some x ≡ form_fault scottish kd t none
+    fault_form x q = rw (first_is none, ← q)
 
-    module _ (z : n.code ≡ 0) (b : Bool) (r : b ≡ kind_dates kd (fields_of t)) where
-      -- none is malformed
-      sound_all : lowest_bad 1 (map bare (fields kd)) (fields_of t) ≡ none
-      sound_all = bad_coded 1 (map bare (fields kd)) (fields_of t) (ap (λ x. x.code) (sym q) ∙ z)
-
+    module _ (q : none ≡ lowest_bad 1 (map bare (fields kd)) (fields_of t)) (b : Bool) (r : b ≡ kind_dates kd (fields_of t)) where
       -- 6 for END_DATE before START_DATE
-      pub fault_dates : b ≡ false → (x : Fault) → x ≡ fault_of (of_field end_before_start l.end) → x ≡ told (form_fault scottish kd t none)
+      pub fault_dates : b ≡ false → (x : meant.Fault) → x ≡ of_field end_before_start l.end → some x ≡ form_fault scottish kd t none
       unfolding ask laid_out
-      fault_dates g x m = let v : l.end ≡ field_number 1 end_date (fields kd) = ap (λ x. x.end) e in m ∙ rw (first_is none, sound_all, sym r ∙ g, v)
+      fault_dates g x m = let v : l.end ≡ field_number 1 end_date (fields kd) = ap (λ x. x.end) e in ap some m ∙ rw (first_is none, ← q, sym r ∙ g, v)
 
       -- else none
-      pub fault_none : b ≡ true → (x : Fault) → x ≡ no_fault_at → x ≡ told (form_fault scottish kd t none)
+      pub fault_none : b ≡ true → none ≡ form_fault scottish kd t none
       unfolding ask
-      fault_none g x m = m ∙ rw (first_is none, sound_all, sym r ∙ g)
+      fault_none g = rw (first_is none, ← q, sym r ∙ g)
 
 pub ruleset faults = (rules, not-true, not-false, fault_count, fault_form, fault_dates, fault_none)
 
@@ -360,5 +324,3 @@ pub ruleset faults = (rules, not-true, not-false, fault_count, fault_form, fault
 -- a field of a kind is one of at most 32
 pub field_few : (kd : Kind) (k : ℕ) → k < length (fields kd) → k < 32
 field_few kd k h = omega (arith, fields_high kd)
-
-pub ruleset misformed = (rules, sound_is, malformed_is)

@@ -123,8 +123,17 @@ role_of_lem k c e = rw e (go c)
     go Metadata = unfold role in refl
     go Trailer = unfold role in refl
 
--- and whether it is held
-pub role_told : (k c : Named) (b : Bool) → k ≡ c → b ≡ is_held (role_of c) → b ≡ is_held (role (kind_meant k))
-role_told k c b e h = h ∙ rw (role_of_lem k c e)
+-- one that code names as held is held
+pub role_held : (k : Named) (x : HeldKind) → k ≡ Held x → true ≡ is_held (role (kind_meant k))
+unfolding is_held
+role_held k x e = rw (role_of_lem k (Held x) e)
 
-pub ruleset roles = (rules, role_told)
+-- the others are not
+pub role_not_held : (k : Named) → ((x : HeldKind) → k ≡ Held x → ⊥) → false ≡ is_held (role (kind_meant k))
+unfolding is_held role
+role_not_held Header n = refl
+role_not_held (Held x) n = absurd (n x refl)
+role_not_held Metadata n = refl
+role_not_held Trailer n = refl
+
+pub ruleset roles = (rules, role_held, role_not_held)

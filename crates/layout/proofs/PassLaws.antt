@@ -21,9 +21,7 @@ use Rattle.text.proofs.FieldLaws.{fields_many}
 use Rattle.text.proofs.SplitLaws.{ends_at, len_le}
 use Rattle.layout.specs.Rows.{bare, row_of, laid_out}
 use Rattle.layout.specs.declared.records.Layout.{Layout}
-use Rattle.layout.specs.Check.{bad_field, lowest_bad, Parted, told}
-use Rattle.answers.specs.declared.refusal.Fault.{Fault}
-use Rattle.answers.specs.Meant.{no_fault_at, fault_of}
+use Rattle.layout.specs.Check.{bad_field, lowest_bad, Parted}
 use Rattle.layout.proofs.CheckLaws.{bad_at, count_rows, fields_high, bad_start, bad_stop, bad_turn, bad_last, bad_done, row_there, fields_more, fields_last}
 
 -- the fault of the lowest field that is malformed, or none
@@ -91,8 +89,8 @@ module _ (kd : Kind) (t a : List ℕ) (n k at : ℕ) (p : Passing kd t a n k at)
     pass_stop f = bad_stop kd t k n at (lowest kd t) (get_or a k 0) b p.left h p.rows pass_end pass_forward s f
 
     -- and is told
-    pub pass_told : b ≡ false → (x : Fault) → x ≡ fault_of (bad_field (k + 1) (row_of kd k) (take (get_or a k 0 - at) (drop at t))) → x ≡ told (lowest kd t)
-    pass_told f x m = m ∙ ap told (pass_stop f)
+    pub pass_told : b ≡ false → (x : meant.Fault) → x ≡ bad_field (k + 1) (row_of kd k) (take (get_or a k 0 - at) (drop at t)) → some x ≡ lowest kd t
+    pass_told f x m = ap some m ∙ pass_stop f
 
     -- a sound one is passed
     pub pass_turn : b ≡ true → Passing kd t a n (k + 1) (get_or a k 0 + 1)
@@ -137,8 +135,4 @@ module _ (kd : Kind) (t a : List ℕ) (n k at : ℕ) (p : Passing kd t a n k at)
 pub pass_done : (kd : Kind) (t a : List ℕ) (n k at : ℕ) → Passing kd t a n k at → n ≤ k → none ≡ lowest kd t
 pass_done kd t a n k at p h = bad_done kd t k n at (lowest kd t) p.left h p.rows
 
--- and none is told
-pub pass_none : (kd : Kind) (t a : List ℕ) (n k at : ℕ) → Passing kd t a n k at → n ≤ k → (x : Fault) → x ≡ no_fault_at → x ≡ told (lowest kd t)
-pass_none kd t a n k at p h x m = m ∙ ap told (pass_done kd t a n k at p h)
-
-pub ruleset passing = (rules, not-true, not-false, pass_start, pass_row, pass_room, pass_forward, pass_within, pass_told, pass_turn, pass_none)
+pub ruleset passing = (rules, not-true, not-false, pass_start, pass_row, pass_room, pass_forward, pass_within, pass_told, pass_turn, pass_done)

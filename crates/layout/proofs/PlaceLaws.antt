@@ -56,17 +56,34 @@ module _ (row : ℕ) (f : List ℕ) where
         let k : c ≡ begun (take i f ++ (get_or f i 0 ∷ [])) = rw (← front h, ← z) e in
         rw (k, front h) (rw (at_cons f i h) at g.0)
 
+  -- the bytes up to the next one's end are tried
+  module _ (e : ℕ) (g : Going (e - 1)) (l : 1 ≤ e) where
+    next : e - 1 + 1 ≡ e
+    next = omega arith
+
+    tried : e ≤ length f → (c : Bool) → c ≡ begun (take (e - 0) (drop 0 f)) → e - 1 + pick c (suc (reach begun (take e f) (drop e f))) 0 ≡ far
+    tried h c q = rw next at (step (e - 1) g (omega arith) c (rw next q))
+
     -- one more byte goes on
-    pub going_more : i < length f → (c : Bool) → c ≡ begun (take (i + 1 - 0) (drop 0 f)) → c ≡ true → Going (i + 1)
-    going_more h c e t = (omega (arith, rw t at (step h c e)), omega arith)
+    pub going_more : e ≤ length f → (c : Bool) → c ≡ begun (take (e - 0) (drop 0 f)) → c ≡ true → Going (e + 1 - 1)
+    going_more h c q t = let z : e + 1 - 1 ≡ e = omega arith in rw z (omega (arith, rw t at (tried h c q)), h)
 
     -- the next byte does not
-    pub place_stop : (s : Bool) → s ≡ sound_by row f → s ≡ false → i < length f → (c : Bool) → c ≡ begun (take (i + 1 - 0) (drop 0 f)) → c ≡ false → i + 1 ≡ place_of
-    place_stop s e t h c k u = place_some s i e t (omega (arith, rw u at (step h c k)))
+    pub place_stop : (s : Bool) → s ≡ sound_by row f → s ≡ false → e ≤ length f → (c : Bool) → c ≡ begun (take (e - 0) (drop 0 f)) → c ≡ false → e ≡ place_of
+    place_stop s o t h c k u = sym next ∙ place_some s (e - 1) o t (omega (arith, rw u at (tried h c k)))
 
-    -- the field stops too soon
-    pub place_end : (s : Bool) → s ≡ sound_by row f → s ≡ false → length f ≤ i → length f + 1 ≡ place_of
-    unfolding reach
-    place_end s e t h = let z : length f ≡ i = omega (arith, g.1) in rw z (place_some s i e t (omega (arith, rw (at_end_lem f i h) at g.0)))
+  -- the field stops too soon
+  stopped : (i : ℕ) → Going i → (s : Bool) → s ≡ sound_by row f → s ≡ false → length f ≤ i → length f + 1 ≡ place_of
+  unfolding reach
+  stopped i g s e t h = let z : length f ≡ i = omega (arith, g.1) in rw z (place_some s i e t (omega (arith, rw (at_end_lem f i h) at g.0)))
 
-pub ruleset placing = (rules, not-true, not-false, place_none, going_first, going_more, place_stop, place_end)
+  module _ (e : ℕ) (g : Going (e - 1)) (s : Bool) (q : s ≡ sound_by row f) (t : s ≡ false) where
+    -- where there is no byte
+    pub place_end : length f < e → length f + 1 ≡ place_of
+    place_end h = stopped (e - 1) g s q t (omega arith)
+
+    -- where its last byte goes on
+    pub place_last : 1 ≤ e → e ≤ length f → length f ≤ e → (c : Bool) → c ≡ begun (take (e - 0) (drop 0 f)) → c ≡ true → length f + 1 ≡ place_of
+    place_last l h m c k u = let w = going_more e g l h c k u in stopped (e + 1 - 1) w s q t (omega arith)
+
+pub ruleset placing = (rules, not-true, not-false, place_none, going_first, going_more, place_stop, place_end, place_last)

@@ -1,20 +1,18 @@
 -- The code's table says what the meaning's table says: its numbers are the meaning's rows, encoded; one computed test, and what follows at each row.
 use mathlib.Core.Path.{◌≡◌, refl, sym, ◌∙◌}
-use mathlib.Core.Bool.{Bool}
 use mathlib.Core.List.{List, map}
 use Prim.Native.Nat.{ℕ, ◌+◌, ◌*◌, ◌≤◌, ◌<◌}
 use native.Mathlib.Omega.{arith}
-use borrow.Author.Rules.{rules}
 use lib.Dec.{leb, leb→le}
 use lib.ListN.{length, get_or, get_or-map}
 use mir.Syntax.{w64}
 use mir.Val.{Fits}
 use Rattle.base.specs.Lists.{pick}
-use Rattle.meaning.specs.Forms.{Form, number, at_least1, decimal, date, time, text, change_type, xref_type, file_type, key_text, sound_as}
+use Rattle.meaning.specs.Forms.{Form, number, at_least1, decimal, date, time, text, change_type, xref_type, file_type, key_text}
 use Rattle.meaning.specs.Kinds.{Kind, kinds}
-use Rattle.meaning.specs.Table.{fields, scottish}
+use Rattle.meaning.specs.Table.{fields}
 use Rattle.laws.specs.Kinds.{every, alike}
-use Rattle.layout.specs.Rows.{Row, bare, no_row, row_of, decoded, form_decoded, filled_decoded, sound_by}
+use Rattle.layout.specs.Rows.{Row, bare, no_row, row_of, decoded, form_decoded, filled_decoded}
 
 -- the number that says a form
 unfoldable pub form_encoded : Form → ℕ
@@ -67,11 +65,3 @@ module _ {Named : Type 0} (meant : Named → Kind) (kind : Named) (k : ℕ) wher
     pub row_is : (l : List ℕ) → l ≡ codes (meant kind') → decoded (get_or l k 0) ≡ row_of (meant kind) k
     unfolding row_of
     row_is l q = rw (q, e) (sym (get_or-map decoded (codes (meant kind')) k 0) ∙ rw (rows_right (meant kind'), no_row_lem))
-
--- ---- a field by its row
-
--- a form and a status that a row says judge a field as the row does
-pub sound_row : (row : ℕ) (m : Form) (b c : Bool) (f : List ℕ) → m ≡ form_decoded row → b ≡ filled_decoded row → c ≡ sound_as scottish.text_rule m b f → c ≡ sound_by row f
-sound_row row m b c f e g h = rw (← e, ← g) h
-
-pub ruleset rowed = (rules, sound_row)

@@ -12,9 +12,7 @@ use Rattle.meaning.specs.Answers as meant
 use Rattle.meaning.specs.Answers.{of_byte}
 use Rattle.meaning.specs.Codes.{field_malformed}
 use Rattle.meaning.specs.Sound.{dates_agree}
-use Rattle.answers.specs.Meant.{no_fault_at, fault_of}
 use Rattle.text.specs.Places.{Notes}
-use Rattle.answers.specs.declared.refusal.Fault.{Fault}
 use Rattle.layout.specs.Rows.{Row}
 
 -- the fault of field n, which is malformed as its row has it
@@ -41,8 +39,3 @@ pub record Parted (k : Kind) (t a : List ℕ) : Type 0 where
   pub many : true ≡ has_fields (length (fields k)) t
   pub noted : Notes t a
   pub room : 32 ≤ length a
-
--- a fault, as code has it
-abbrev pub told : Option meant.Fault → Fault
-told none = no_fault_at
-told (some f) = fault_of f

@@ -1,4 +1,6 @@
 -- The kinds that code names, as the meaning has them.
+use Rattle.std.specs.Prelude as std
+use Rattle.std.specs.Prelude.{Some, None}
 use Rattle.std.proofs.Math.Option.{Option, none, some}
 use Rattle.meaning.specs.Kinds
 use Rattle.meaning.specs.Kinds.{Kind as Meaning}
@@ -6,8 +8,6 @@ use Rattle.layout.specs.declared.kinds.HeldKind.{HeldKind}
 use Rattle.layout.specs.declared.kinds.HeldKind.TheVariants.{Street, StreetXref, Blpu, AppXref, Lpi}
 use Rattle.layout.specs.declared.kinds.Kind.{Kind}
 use Rattle.layout.specs.declared.kinds.Kind.TheVariants.{Header, Held, Metadata, Trailer}
-use Rattle.layout.specs.declared.kinds.KindFound.{KindFound}
-use Rattle.layout.specs.declared.kinds.KindFound.TheVariants.{Known, Unknown}
 
 -- the held kind that is meant
 abbrev pub held_meant : HeldKind → Meaning
@@ -25,6 +25,6 @@ kind_meant Metadata = Kinds.metadata
 kind_meant Trailer = Kinds.trailer
 
 -- the kind that was found, if any
-abbrev pub kind_found : KindFound → Option Meaning
-kind_found (Known k) = some (kind_meant k)
-kind_found Unknown = none
+abbrev pub kind_found : std.Option Kind → Option Meaning
+kind_found (Some k) = some (kind_meant k)
+kind_found None = none

@@ -1,12 +1,12 @@
 // Whether bytes begin a field that is sound as a row has it: whether they are sound with the end of one of the form's samples after them.
 // Only the one field of a file that is malformed is asked so, so nothing here need be quick.
-ghost use Rattle.std.specs.Prelude.{◌≡◌, ◌++◌, ◌∷◌, map, ◌+◌, ◌-◌, ◌≤◌, length, replicate};
+ghost use Rattle.std.specs.Prelude.{◌≡◌, ◌++◌, [], ◌∷◌, map, ◌+◌, ◌≤◌, length, replicate};
+ghost use Rattle.std.specs.List.{list_any};
 ghost use Rattle.base.specs.Lists.{bytes};
 ghost use Rattle.text.specs.Front.{in_front};
 ghost use Rattle.meaning.specs.Forms.{empty_of, quoted};
 ghost use Rattle.meaning.specs.Place.{goes_on, sample_characters, samples};
 ghost use Rattle.meaning.specs.Place.{begins as beginsWith};
-ghost use Rattle.form.specs.Codes.{in_quotes};
 ghost use Rattle.layout.specs.Rows.{form_decoded, sound_by};
 ghost use Rattle.layout.specs.Longest.{longest, most_of_any};
 
@@ -22,31 +22,16 @@ const MOST_OF_ANY: usize = 1022;
 fn most_bytes(row: u32) -> usize
     ensures { result ≡ longest (form_decoded row) }
 {
-    let form = form_of(row);
-    match form {
-        Form::Number(width) => width,
-        Form::AtLeast1(width) => width,
+    match form_of(row) {
+        Form::Number(width) | Form::AtLeast1(width) => width,
         Form::Decimal(width, decimals) => 2 + width + decimals,
         Form::Date => 10,
         Form::Time => 6,
         Form::Text(width) => 2 + 4 * width,
-        Form::ChangeType => 3,
+        Form::ChangeType | Form::FileType => 3,
         Form::XrefType => 1,
-        Form::FileType => 3,
         Form::KeyText(_) => 16,
     }
-}
-
-// By how many bytes two parts together are longer than so many; 0 where they aren't.
-fn beyond(p: &[u8], e: &[u8], most: usize) -> usize
-    requires { (length p.now ≤ most_of_any) × (length e.now ≤ most_of_any) }
-    ensures { result ≡ length p.now + length e.now - most }
-{
-    let both = p.len() + e.len();
-    if both < most {
-        return 0;
-    }
-    both - most
 }
 
 // Two parts, one behind the other, in front of what is lent; and how long they are together.
@@ -74,12 +59,11 @@ fn goes_on(row: u32, p: &[u8], sample: &[u8]) -> bool
     requires { (length p.now ≤ longest (form_decoded row)) × (length sample.now ≤ most_of_any) }
     ensures { result ≡ goes_on (sound_by row) p.now sample.now }
 {
-    let mut i = beyond(p, sample, most_bytes(row));
-    while i < sample.len() {
+    let over = (p.len() + sample.len()).saturating_sub(most_bytes(row));
+    for i in over..sample.len() {
         if sound_together(row, p, &sample[i..]) {
             return true;
         }
-        i += 1;
     }
     sound_by(row, p)
 }
@@ -87,17 +71,11 @@ fn goes_on(row: u32, p: &[u8], sample: &[u8]) -> bool
 // Whether bytes are sound with the end of one of the codes in quotes after them.
 fn goes_on_quoted(row: u32, p: &[u8], codes: &[u8]) -> bool
     requires { length p.now ≤ longest (form_decoded row) }
-    ensures { result ≡ beginsWith (sound_by row) (in_quotes codes.now) p.now }
+    ensures { result ≡ list_any (λ code. goes_on (sound_by row) p.now (34 ∷ code ∷ 34 ∷ [])) codes.now }
 {
-    let mut i = 0;
-    while i < codes.len() {
-        let sample = [b'"', codes[i], b'"'];
-        if goes_on(row, p, &sample) {
-            return true;
-        }
-        i += 1;
-    }
-    false
+    codes
+        .iter()
+        .any(|code| goes_on(row, p, &[b'"', *code, b'"']))
 }
 
 // Whether bytes are sound with the end of a number with a point after them: 0, a point and so many zeros.
@@ -107,8 +85,7 @@ fn goes_on_decimal(row: u32, p: &[u8], decimals: usize) -> bool
 {
     let mut zeros = [b'0'; MOST_OF_ANY];
     zeros[1] = b'.';
-    let end = 2 + decimals;
-    goes_on(row, p, &zeros[0..end])
+    goes_on(row, p, &zeros[..2 + decimals])
 }
 
 // Whether bytes are sound with the end of a text of one character after them: a, or U+0800, U+10000 or U+40000, which end a character that
@@ -117,16 +94,10 @@ fn goes_on_text(row: u32, p: &[u8]) -> bool
     requires { length p.now ≤ longest (form_decoded row) }
     ensures { result ≡ beginsWith (sound_by row) (map quoted sample_characters) p.now }
 {
-    if goes_on(row, p, b"\"a\"") {
-        return true;
-    }
-    if goes_on(row, p, b"\"\xE0\xA0\x80\"") {
-        return true;
-    }
-    if goes_on(row, p, b"\"\xF0\x90\x80\x80\"") {
-        return true;
-    }
-    goes_on(row, p, b"\"\xF1\x80\x80\x80\"")
+    goes_on(row, p, b"\"a\"")
+        || goes_on(row, p, b"\"\xE0\xA0\x80\"")
+        || goes_on(row, p, b"\"\xF0\x90\x80\x80\"")
+        || goes_on(row, p, b"\"\xF1\x80\x80\x80\"")
 }
 
 // Whether bytes are sound with the end of a key with that letter after them.
@@ -144,26 +115,14 @@ fn begins_filled(row: u32, p: &[u8]) -> bool
     requires { length p.now ≤ longest (form_decoded row) }
     ensures { result ≡ beginsWith (sound_by row) (samples (form_decoded row)) p.now }
 {
-    let form = form_of(row);
-    match form {
-        Form::Number(_) => goes_on(row, p, b"1"),
-        Form::AtLeast1(_) => goes_on(row, p, b"1"),
+    match form_of(row) {
+        Form::Number(_) | Form::AtLeast1(_) => goes_on(row, p, b"1"),
         Form::Decimal(_, decimals) => goes_on_decimal(row, p, decimals),
-        Form::Date => {
-            if goes_on(row, p, b"9999-11-11") {
-                return true;
-            }
-            goes_on(row, p, b"9999-11-30")
-        }
+        Form::Date => goes_on(row, p, b"9999-11-11") || goes_on(row, p, b"9999-11-30"),
         Form::Time => goes_on(row, p, b"000000"),
         Form::Text(_) => goes_on_text(row, p),
         Form::ChangeType => goes_on_quoted(row, p, &CHANGE_TYPES),
-        Form::XrefType => {
-            if goes_on(row, p, b"1") {
-                return true;
-            }
-            goes_on(row, p, b"2")
-        }
+        Form::XrefType => goes_on(row, p, b"1") || goes_on(row, p, b"2"),
         Form::FileType => goes_on_quoted(row, p, &FILE_TYPES),
         Form::KeyText(letter) => goes_on_key(row, p, letter),
     }
@@ -175,20 +134,15 @@ fn begins_empty(row: u32, p: &[u8]) -> bool
     ensures { result ≡ goes_on (sound_by row) p.now (empty_of (form_decoded row)) }
 {
     if is_textual(form_of(row)) {
-        return goes_on(row, p, b"\"\"");
+        goes_on(row, p, b"\"\"")
+    } else {
+        sound_by(row, p)
     }
-    sound_by(row, p)
 }
 
 // Whether bytes begin a field that is sound as a row has it.
 pub fn begins(row: u32, p: &[u8]) -> bool
     ensures { result ≡ beginsWith (sound_by row) (empty_of (form_decoded row) ∷ samples (form_decoded row)) p.now }
 {
-    if most_bytes(row) < p.len() {
-        return false;
-    }
-    if begins_empty(row, p) {
-        return true;
-    }
-    begins_filled(row, p)
+    p.len() <= most_bytes(row) && (begins_empty(row, p) || begins_filled(row, p))
 }

@@ -15,13 +15,10 @@ pub fn place_by(row: u32, f: &[u8]) -> usize
     if sound_by(row, f) {
         return 0;
     }
-    let mut i = 0;
-    while i < f.len() {
-        let next = i + 1;
-        if !begins(row, &f[0..next]) {
-            return next;
+    for end in 1..=f.len() {
+        if !begins(row, &f[..end]) {
+            return end;
         }
-        i = next;
     }
     f.len() + 1
 }

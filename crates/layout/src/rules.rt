@@ -8,7 +8,7 @@ ghost use Rattle.form.specs.Meant.{meant};
 ghost use Rattle.layout.specs.Meant.{held_meant, kind_meant, kind_found};
 ghost use Rattle.layout.specs.Rows.{laid_out, row_of, decoded, form_decoded, filled_decoded, sound_by};
 
-use crate::kinds::{HeldKind, Kind, KindFound};
+use crate::kinds::{HeldKind, Kind};
 use crate::records::{AppXref, Blpu, Header, Layout, Lpi, Metadata, Street, StreetXref, Trailer};
 use form::Form;
 
@@ -41,12 +41,7 @@ pub fn layout(kind: Kind) -> Layout
 pub fn is_held(kind: Kind) -> bool
     ensures { result ≡ is_held (role (kind_meant kind)) }
 {
-    match kind {
-        Kind::Header => false,
-        Kind::Held(_) => true,
-        Kind::Metadata => false,
-        Kind::Trailer => false,
-    }
+    matches!(kind, Kind::Held(_))
 }
 
 // The row of a held kind's field, counted from 0.
@@ -77,19 +72,19 @@ pub fn row(kind: Kind, k: usize) -> u32
 }
 
 // The kind that a number identifies.
-pub fn kind_numbered(n: u64) -> KindFound
+pub fn kind_numbered(n: u64) -> Option<Kind>
     ensures { kind_found result ≡ numbered_among kinds n }
 {
     match n {
-        10 => KindFound::Known(Kind::Header),
-        11 => KindFound::Known(Kind::Held(HeldKind::Street)),
-        12 => KindFound::Known(Kind::Held(HeldKind::StreetXref)),
-        21 => KindFound::Known(Kind::Held(HeldKind::Blpu)),
-        23 => KindFound::Known(Kind::Held(HeldKind::AppXref)),
-        24 => KindFound::Known(Kind::Held(HeldKind::Lpi)),
-        29 => KindFound::Known(Kind::Metadata),
-        99 => KindFound::Known(Kind::Trailer),
-        _ => KindFound::Unknown,
+        10 => Some(Kind::Header),
+        11 => Some(Kind::Held(HeldKind::Street)),
+        12 => Some(Kind::Held(HeldKind::StreetXref)),
+        21 => Some(Kind::Held(HeldKind::Blpu)),
+        23 => Some(Kind::Held(HeldKind::AppXref)),
+        24 => Some(Kind::Held(HeldKind::Lpi)),
+        29 => Some(Kind::Metadata),
+        99 => Some(Kind::Trailer),
+        _ => None,
     }
 }
 

@@ -2,9 +2,10 @@
 use mathlib.Core.Path.{◌≡◌, sym, ap, ◌∙◌}
 use mathlib.Core.Bool.{true, false, false≢true}
 use mathlib.Core.List.{List, ◌++◌, append-nil}
-use Prim.Native.Nat.{ℕ, ◌-◌, ◌≤◌}
+use Prim.Native.Nat.{ℕ, ◌-◌, ◌≤◌, ◌<◌}
 use native.Mathlib.Omega.{arith}
 use borrow.Author.Rules.{rules}
+use borrow.Author.Tests.{le-leb, lt-leb}
 use borrow.Rule.Slice.PartMut.{put_mid}
 use lib.Dec.{leb}
 use lib.ListN.{length, take, drop, length-append, length-take, length-drop, drop_of_length-le}
@@ -13,9 +14,7 @@ use Rattle.base.specs.ListLaws.{length_zeros}
 use Rattle.meaning.specs.Load.{then_zeros}
 use Rattle.text.specs.Front.{in_front}
 use Rattle.text.proofs.FrontLaws.{front_then}
-use Rattle.writer.specs.declared.room.Fitted.{Fitted}
-use Rattle.writer.specs.Room.{PutIfFits}
-use Rattle.writer.proofs.FitLaws.{fits_in}
+use Rattle.writer.specs.Room.{Put}
 
 -- what is as long as the whole leaves nothing of it
 all_front : (w old : List ℕ) → length old ≤ length w → in_front w old ≡ w
@@ -37,20 +36,16 @@ pub ruleset filling = (rules, fill_rest)
 
 -- ---- where the result fits
 
-module _ (text old new : List ℕ) (x : Fitted) (w : PutIfFits text (length old) old x new) where
-  -- it doesn't
-  pub fill_not : (out : List ℕ) → x.fits ≡ false → (false ≡ leb (length text) (length old)) × (false ≡ true → out ≡ then_zeros (length old) text)
-  fill_not out f = (sym f ∙ w.fits, λ t. absurd (false≢true t))
+-- it doesn't
+pub fill_not : (text old out : List ℕ) → length old < length text → (false ≡ leb (length text) (length old)) × (false ≡ true → out ≡ then_zeros (length old) text)
+fill_not text old out h = (sym (lt-leb (length text) (length old) h), λ t. absurd (false≢true t))
 
-  module _ (t : x.fits ≡ true) where
-    roomy : length text ≤ length old
-    roomy = fits_in text (length old) old new x w t
+module _ (text old new : List ℕ) (n : ℕ) (w : Put text (length old) old n new) where
+  -- it ends within the buffer
+  pub fill_in : length new ≡ length old → n ≤ length new
+  fill_in s = omega (arith, w.fits, w.size)
 
-    -- it ends within the buffer
-    pub fill_in : length new ≡ length old → x.size ≤ length new
-    fill_in s = omega (arith, roomy, w.size t)
-
-    -- and zeros follow
-    pub fill_all : (last : List ℕ) → length new ≡ length old → last ≡ zeros (length (take (length new - x.size) (drop x.size new)))
-        → (true ≡ leb (length text) (length old)) × (true ≡ true → put_mid x.size (length new - x.size) new last ≡ then_zeros (length old) text)
-    fill_all last s z = (sym t ∙ w.fits, λ y. fill_rest text old new last x.size (w.size t) (w.front t) roomy s z)
+  -- and zeros follow
+  pub fill_all : (last : List ℕ) → length new ≡ length old → last ≡ zeros (length (take (length new - n) (drop n new)))
+      → (true ≡ leb (length text) (length old)) × (true ≡ true → put_mid n (length new - n) new last ≡ then_zeros (length old) text)
+  fill_all last s z = (sym (le-leb (length text) (length old) w.fits), λ y. fill_rest text old new last n w.size w.front w.fits s z)

@@ -1,6 +1,5 @@
 -- The laws of the undo: its parts one after another, where they fit.
-use mathlib.Core.Path.{◌≡◌, refl, sym, ap, ◌∙◌}
-use mathlib.Core.Bool.{true, false}
+use mathlib.Core.Path.{◌≡◌, sym, ap, ◌∙◌}
 use mathlib.Core.List.{List, [], ◌++◌}
 use Prim.Native.Nat.{ℕ, ◌+◌, ◌-◌, ◌^◌, ◌≤◌, ◌<◌}
 use native.Mathlib.Omega.{arith}
@@ -12,10 +11,8 @@ use lib.Seq.{length-take-le, take_all}
 use Rattle.text.specs.Front.{in_front}
 use Rattle.text.specs.Places.{line_end}
 use Rattle.text.proofs.FrontLaws.{front_same, front_then, front_last, last_room}
-use Rattle.writer.specs.declared.room.Fitted.{Fitted}
-use Rattle.writer.specs.Room.{PutIfFits}
+use Rattle.writer.specs.Room.{Put}
 use Rattle.writer.specs.Runs.{back_texts}
-use Rattle.writer.proofs.FitLaws.{put_not, put_whole, fits_in, fits_not}
 use Rattle.trial.specs.Trial.{undo_text}
 use Rattle.loader.specs.Lent.{Lent}
 
@@ -56,55 +53,55 @@ module _ (h f steps before : List ℕ) (n e x : ℕ) (q : x ≡ line_end f 0) (w
   whole = ap length (sym parts) ∙ length-append first (body ++ rest) ∙ omega (arith, length-append body rest, first_long, rest_long)
 
   -- they alone are longer than the buffer
-  pub frame_long_lem : (old new : List ℕ) → length old < frame → PutIfFits text (length old) old (record { fits = false; size = 0 }) new
-  frame_long_lem old new l = put_not text (length old) old new _ refl (omega (arith, whole))
+  pub frame_long_lem : (old : List ℕ) → length old < frame → length old < length text
+  frame_long_lem old l = omega (arith, whole)
 
   module _ (old : List ℕ) (l : frame ≤ length old) where
-    module _ (new : List ℕ) (k : ℕ) (p : k ≡ length first) (u : new ≡ in_front first old) where
-      module _ (b : Fitted) (last : List ℕ) (v : PutIfFits body (length old - frame) (take (length new - k) (drop k new)) b last) where
-        -- the steps taken back don't fit it
-        pub put_long : b.fits ≡ false → (z : List ℕ) → PutIfFits text (length old) old b z
-        put_long g z = put_not text (length old) old z b g (omega (arith, whole, l, fits_not _ _ _ last b v g))
+    -- the steps taken back don't fit it
+    pub put_long : length old - frame < length body → length old < length text
+    put_long g = omega (arith, whole, l)
 
-        module _ (t : b.fits ≡ true) where
-          -- the buffer with both
-          abbrev mid : List ℕ
-          mid = put_mid k (length new - k) new last
+    module _ (new : List ℕ) (k : ℕ) (p : k ≡ length first) (u : new ≡ in_front first old) (b : ℕ) (last : List ℕ) (v : Put body (length old - frame) (take (length new - k) (drop k new)) b last) where
+      -- the buffer with both
+      abbrev mid : List ℕ
+      mid = put_mid k (length new - k) new last
 
-          roomy : length text ≤ length old
-          roomy = omega (arith, whole, l, fits_in _ _ _ last b v t)
+      roomy : length text ≤ length old
+      roomy = omega (arith, whole, l, v.fits)
 
-          two : k + b.size ≡ length (first ++ body)
-          two = omega (arith, length-append first body, v.size t)
+      two : k + b ≡ length (first ++ body)
+      two = omega (arith, length-append first body, v.size)
 
-          -- they end within the buffer
-          pub put_two : k + b.size ≤ length mid
-          put_two =
-              omega (
-                arith,
-                roomy,
-                whole,
-                first_long,
-                v.size t,
-                front_same (first ++ body) old mid (omega (arith, roomy, whole, first_long, two, v.size t)) (front_then first body old new last k p u (v.front t)),
-              )
+      -- they end within the buffer
+      pub put_two : k + b ≤ length mid
+      put_two =
+          omega (
+            arith,
+            roomy,
+            whole,
+            first_long,
+            v.size,
+            front_same (first ++ body) old mid (omega (arith, roomy, whole, first_long, two, v.size)) (front_then first body old new last k p u v.front),
+          )
 
-          -- as far as can be counted
-          pub put_fits : length old < 2 ^ 64 → Fits w64 (k + b.size)
-          put_fits c = record { fits = omega (arith, roomy, whole, first_long, v.size t) }
+      -- as far as can be counted
+      pub put_fits : length old < 2 ^ 64 → Fits w64 (k + b)
+      put_fits c = record { fits = omega (arith, roomy, whole, first_long, v.size) }
 
-          -- the last has room
-          pub put_rest : length rest ≤ length (take (length mid - (k + b.size)) (drop (k + b.size) mid))
-          put_rest = last_room first body [] old new last [] k b.size p u (v.size t) (v.front t) (length rest) (omega (arith, roomy, whole, first_long, rest_long, v.size t))
+      -- the last has room
+      pub put_rest : length rest ≤ length (take (length mid - (k + b)) (drop (k + b) mid))
+      put_rest = last_room first body [] old new last [] k b p u v.size v.front (length rest) (omega (arith, roomy, whole, first_long, rest_long, v.size))
 
-          module _ (j : ℕ) (s : j ≡ length rest) where
-            -- all can be counted
-            pub put_all_fits : length old < 2 ^ 64 → Fits w64 (k + b.size + j)
-            put_all_fits c = record { fits = omega (arith, roomy, whole, first_long, rest_long, v.size t) }
+      module _ (j : ℕ) (s : j ≡ length rest) where
+        -- all can be counted
+        pub put_all_fits : length old < 2 ^ 64 → Fits w64 (k + b + j)
+        put_all_fits c = record { fits = omega (arith, roomy, whole, first_long, rest_long, v.size) }
 
-            -- and are the undo
-            pub put_done : (end : List ℕ) → end ≡ in_front rest (take (length mid - (k + b.size)) (drop (k + b.size) mid))
-                → PutIfFits text (length old) old (record { fits = true; size = k + b.size + j }) (put_mid (k + b.size) (length mid - (k + b.size)) mid end)
-            put_done end z =
-                put_whole text (length old) old _ (k + b.size + j) roomy (omega (arith, whole, first_long, rest_long, v.size t))
-                (front_last first body rest old new last end k b.size p u (v.size t) (v.front t) z ∙ ap (λ x. in_front x old) parts)
+        -- and are the undo
+        pub put_done : (end : List ℕ) → end ≡ in_front rest (take (length mid - (k + b)) (drop (k + b) mid))
+            → Put text (length old) old (k + b + j) (put_mid (k + b) (length mid - (k + b)) mid end)
+        put_done end z = record {
+          fits = roomy;
+          size = omega (arith, whole, first_long, rest_long, v.size);
+          front = front_last first body rest old new last end k b p u v.size v.front z ∙ ap (λ x. in_front x old) parts;
+        }

@@ -33,11 +33,9 @@ pub fn fill_undo(
     ensures { (result ≡ leb (length (undo_text holding.now file.now steps.now before.now count end)) (length out.old))
         × (result ≡ true → out.new ≡ then_zeros (length out.old) (undo_text holding.now file.now steps.now before.now count end)) }
 {
-    let undo = put_undo(&mut *out, holding, file, steps, before, count, end);
-    if !undo.fits {
+    let Some(used) = put_undo(&mut *out, holding, file, steps, before, count, end) else {
         return false;
-    }
-    let used = undo.size;
+    };
     put::zeros(&mut out[used..]);
     true
 }

@@ -6,7 +6,6 @@ ghost use Rattle.loader.specs.Lent.{Lent};
 
 use text::lines::line_end;
 use text::put;
-use writer::room::Fitted;
 use writer::runs::write_back;
 
 // The file's first line, the steps taken back, and what follows the body, each into what is still free of the buffer.
@@ -18,25 +17,17 @@ pub fn put_undo(
     before: &[u64],
     count: usize,
     end: usize,
-) -> Fitted
+) -> Option<usize>
     requires { (count ≤ length steps.now) × Lent file.now before.now count end }
     ensures { PutIfFits (undo_text holding.now file.now steps.now before.now count end) (length out.old) out.old result out.new }
 {
     let start = line_end(file, 0) + 2;
     let frame = start + (file.len() - end);
     if out.len() < frame {
-        return Fitted {
-            fits: false,
-            size: 0,
-        };
+        return None;
     }
     let room = out.len() - frame;
     let at = put::bytes(&mut *out, &file[0..start]);
-    let body = write_back(&mut out[at..], holding, file, steps, before, count, room);
-    if !body.fits {
-        return body;
-    }
-    let pos = at + body.size;
-    let size = pos + put::bytes(&mut out[pos..], &file[end..]);
-    Fitted { fits: true, size }
+    let pos = at + write_back(&mut out[at..], holding, file, steps, before, count, room)?;
+    Some(pos + put::bytes(&mut out[pos..], &file[end..]))
 }

@@ -1,11 +1,9 @@
 -- What C finds in the arrays and buffers that it lent, by the meaning's definitions.
 use Rattle.std.specs.Prelude.{◌≡◌, List, [], ◌∷◌, ℕ}
-use Rattle.base.specs.Lists.{pick}
 use Rattle.meaning.specs.Table.{scottish}
 use Rattle.meaning.specs.Load.{load_file}
 use Rattle.meaning.specs.Enquiries.{Slice, first, second, Found}
 use Rattle.meaning.specs.Answers.{number_list}
-use Rattle.enquiries.specs.declared.finding.Finding.{Finding}
 
 -- an enquiry's numbers in their order: code, line, field, and the part's start and length
 abbrev pub part_list : Found → List ℕ
@@ -19,14 +17,6 @@ side_of second = 1
 -- the same with the side, where a part stands in either of two slices
 abbrev pub sided_list : Found → List ℕ
 sided_list f = f.answer.code ∷ f.answer.line ∷ f.answer.field ∷ side_of f.slice ∷ f.start ∷ f.size ∷ []
-
--- those of the code's finding
-abbrev pub finding_list : Finding → List ℕ
-finding_list g = g.answer.code ∷ g.answer.line ∷ g.answer.field ∷ g.start ∷ g.size ∷ []
-
--- and with the side
-abbrev pub sided_finding_list : Finding → List ℕ
-sided_finding_list g = g.answer.code ∷ g.answer.line ∷ g.answer.field ∷ pick g.infile 1 0 ∷ g.start ∷ g.size ∷ []
 
 -- what load leaves in its two buffers, of `room` and `undo_room` bytes, and in its answer
 abbrev pub Loads : List ℕ → List ℕ → ℕ → ℕ → List ℕ → List ℕ → List ℕ → Type 0

@@ -15,5 +15,6 @@ pub fn muiwash_load(
 )
     ensures { Loads holding.now file.now (length out.old) (length undo.old) out.new undo.new answer.new }
 {
-    *answer = in_order(load(holding, file, &mut *out, &mut *undo));
+    let loaded = load(holding, file, &mut *out, &mut *undo);
+    *answer = in_order(Answer::from(loaded));
 }

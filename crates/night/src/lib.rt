@@ -21,15 +21,13 @@ pub fn night<R: Files>(rt: &R, holding: &[u8], change: &[u8], printed: &mut [u8;
 {
     let mut old = [0u8; ONE_MORE];
     let mut file = [0u8; ONE_MORE];
-    let held = read_file(rt, holding, &mut old);
-    let sent = read_file(rt, change, &mut file);
-    let n = held.size;
-    let m = sent.size;
-    print(
-        held.readable,
-        &old[0..n],
-        sent.readable,
-        &file[0..m],
-        printed,
-    )
+    let held = match read_file(rt, holding, &mut old) {
+        Ok(size) => Some(&old[..size]),
+        Err(_) => None,
+    };
+    let sent = match read_file(rt, change, &mut file) {
+        Ok(size) => Some(&file[..size]),
+        Err(_) => None,
+    };
+    print(held, sent, printed)
 }

@@ -4,8 +4,9 @@
 // each is run and compared byte for byte. Cases that no file of 65,536 bytes can hold, or no buffer of as many, are built here.
 ghost use Rattle.std.specs.Prelude.{◌≡◌, ◌≤◌, length};
 
+use answers::numbers::Answer;
 use loader::load;
-use night::input::read_file;
+use night::input::{read_file, size_read};
 use night::night;
 use program::{MOST, print};
 use shown::asked::{MOST_ASKED, read_full};
@@ -13,10 +14,11 @@ use shown::built::{put_holding, put_text};
 use shown::said::{say, say_line, say_number, say_numbers};
 use std::io;
 use std::rt::Files;
+use text::lines::{is_plain_byte, plain_end};
 
 // The first line of what was printed.
 fn say_first<R: Print>(rt: &R, s: &[u8]) -> io::Result<()> {
-    let end = text::lines::plain_end(s, 0);
+    let end = plain_end(s, 0);
     say_line(rt, &s[0..end])
 }
 
@@ -40,9 +42,9 @@ fn run<R: Files + Print>(rt: &R, folder: &[u8]) -> io::Result<()> {
     let mut printed = [0u8; MOST];
     let n = night(rt, &holding[0..h], &change[0..c], &mut printed);
     let mut kept = [0u8; MOST];
-    let m = read_file(rt, &stored[0..p], &mut kept).size;
+    let m = size_read(read_file(rt, &stored[0..p], &mut kept));
     say(rt, folder)?;
-    if text::order::is_same(&printed[0..n], &kept[0..m]) {
+    if printed[0..n] == kept[0..m] {
         say(rt, b" as stored: ")?;
     } else {
         say(rt, b" NOT AS STORED: ")?;
@@ -51,11 +53,8 @@ fn run<R: Files + Print>(rt: &R, folder: &[u8]) -> io::Result<()> {
 }
 
 fn nights<R: Files + Print>(rt: &R, s: &[u8]) -> io::Result<()> {
-    let mut at = 0;
-    while at < s.len() {
-        let end = text::lines::plain_end(s, at);
-        run(rt, &s[at..end])?;
-        at = end + 1;
+    for folder in s.split_inclusive(|b| !is_plain_byte(*b)) {
+        run(rt, &folder[..plain_end(folder, 0)])?;
     }
     Ok(())
 }
@@ -70,16 +69,11 @@ fn answer<R: Print>(
     undo: &mut [u8],
     undo_size: usize,
 ) -> io::Result<()> {
-    if out.len() < size {
+    if out.len() < size || undo.len() < undo_size {
         return Ok(());
     }
-    if undo.len() < undo_size {
-        return Ok(());
-    }
-    say_numbers(
-        rt,
-        load(holding, file, &mut out[0..size], &mut undo[0..undo_size]),
-    )?;
+    let loaded = load(holding, file, &mut out[0..size], &mut undo[0..undo_size]);
+    say_numbers(rt, Answer::from(loaded))?;
     say(rt, b"\n")
 }
 
@@ -104,7 +98,7 @@ fn insert<R: Files + Print>(
     say_number(rt, undo_size as u64)?;
     say(rt, b": ")?;
     let mut file = [0u8; 512];
-    let n = read_file(rt, b"insert.csv", &mut file).size;
+    let n = size_read(read_file(rt, b"insert.csv", &mut file));
     let mut out = room();
     let mut undo = [0u8; 512];
     answer(
@@ -133,11 +127,11 @@ fn zeros<R: Print>(rt: &R, size: usize) -> io::Result<()>
 {
     let s = [0u8; 65537];
     let mut printed = [0u8; MOST];
-    let n = print(true, &s[0..size], true, b"", &mut printed);
+    let n = print(Some(&s[0..size]), Some(b""), &mut printed);
     say_number(rt, size as u64)?;
     say(rt, b" zeros for a holding: ")?;
     say_first(rt, &printed[0..n])?;
-    let m = print(true, b"", true, &s[0..size], &mut printed);
+    let m = print(Some(b""), Some(&s[0..size]), &mut printed);
     say_number(rt, size as u64)?;
     say(rt, b" zeros for a change: ")?;
     say_first(rt, &printed[0..m])

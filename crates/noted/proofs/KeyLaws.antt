@@ -12,7 +12,7 @@ use lib.ListN.{length, get_or, take, drop}
 use Rattle.base.specs.Lists.{pick, all, same, bytes}
 use Rattle.base.specs.Tests.{and_l, and_r}
 use Rattle.base.specs.ListLaws.{same_eq}
-use Rattle.theory.specs.Decimal.{value, value_f}
+use Rattle.theory.specs.Decimal.{value}
 use Rattle.meaning.specs.Lines.{fields_of}
 use Rattle.meaning.specs.Forms.{Form, number, at_least1, decimal, date, time, text, change_type, xref_type, file_type, key_text, quoted, inside, is_digit, is_number, is_text, is_key, one_of, is_textual, is_empty, has_form, sound_as}
 use Rattle.meaning.specs.Kinds.{Kind}
@@ -32,11 +32,11 @@ use Rattle.noted.proofs.PassedLaws.{placed_content, passed_record, passed_many, 
 
 -- ---- a field by its first byte
 
--- no bytes are 0
-pub read_none : (f : List ℕ) → length f ≡ 0 → 0 ≡ number_read f
-unfolding number_read value value_f
-read_none [] h = refl
-read_none (x ∷ f) h = absurd (omega arith)
+-- no bytes are a number as well
+pub read_none : (f : List ℕ) (n : ℕ) → length f ≡ 0 → n ≡ value (take 16 f) → n ≡ number_read f
+unfolding number_read
+read_none [] n h e = e
+read_none (x ∷ f) n h e = absurd (omega arith)
 
 -- a quote begins a text
 pub read_text : (f : List ℕ) (n : ℕ) → get_or f 0 0 ≡ 34 → n ≡ value (digits_in f) → n ≡ number_read f

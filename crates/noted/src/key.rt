@@ -18,10 +18,7 @@ use text::fields::noted_field;
 fn number_read(f: &[u8]) -> u64
     ensures { result ≡ number_read f.now }
 {
-    if f.len() == 0 {
-        return 0;
-    }
-    if f[0] == 34 {
+    if !f.is_empty() && f[0] == b'"' {
         return text_number(f);
     }
     plain_number(f)
@@ -44,15 +41,11 @@ pub fn key_noted(kind: Kind, s: &[u8], at: usize, end: usize, ends: &[usize]) ->
     ensures { key_list result ≡ key_numbers (rec_of (line_at s.now at)) }
 {
     let l = layout(kind);
-    let places = l.key;
     let line = &s[at..end];
-    let first = number_noted(line, ends, places[0]);
-    let second = number_noted(line, ends, places[1]);
-    let third = number_noted(line, ends, places[2]);
     Key {
         kind: l.number,
-        first: first,
-        second: second,
-        third: third,
+        first: number_noted(line, ends, l.key[0]),
+        second: number_noted(line, ends, l.key[1]),
+        third: number_noted(line, ends, l.key[2]),
     }
 }

@@ -29,14 +29,10 @@ pub fn starts_noted(kind: Kind, s: &[u8], at: usize, end: usize, ends: &[usize])
     requires { PassedAs (kind_meant kind) s.now ends.now at end }
     ensures { 0 < result → RefsNoted s.now at result (rec_of (line_at s.now at)) }
 {
-    let l = layout(kind);
-    let places = l.by;
+    let places = layout(kind).by;
     let first = start_noted(ends, places[0]);
     let second = start_noted(ends, places[1]);
-    if 65535 < first {
-        return 0;
-    }
-    if 65535 < second {
+    if 65535 < first || 65535 < second {
         return 0;
     }
     (first + second * 65536) as u32

@@ -1,5 +1,2 @@
-pub mod AnswerLaws
 pub mod NumberLaws
 pub mod ByteLaws
-pub mod DateLaws
-pub mod MonthLaws

@@ -1,11 +1,13 @@
 -- The laws of a line by its kind: it begins with the kind's identifier, and the rows are the kind's.
 use mathlib.Core.Path.{◌≡◌, refl, sym, ap, ◌∙◌}
 use mathlib.Core.Bool.{true, ◌&&◌}
-use mathlib.Core.Option.{Option, none, some}
+use mathlib.Core.Option.{some}
 use mathlib.Core.List.{List, ◌∷◌, ◌++◌, map}
 use Prim.Native.Nat.{ℕ, suc, ◌+◌, ◌-◌, ◌≤◌, ◌<◌}
 use native.Mathlib.Omega.{arith}
 use lib.Dec.{T, eqb, eqb→eq}
+use Rattle.std.specs.Prelude.{Option as Answer, IfSome}
+use Rattle.std.proofs.lemmas.Option.{IfSome_then}
 use lib.ListN.{length, get_or, drop, length-map, take-append-drop, get_or-map}
 use lib.Seq.{drop-drop}
 use Rattle.base.specs.Lists.{all, bytes, same}
@@ -21,6 +23,8 @@ use Rattle.laws.specs.Scottish.{scottish_knows}
 use Rattle.laws.specs.Body.{kind_out, ident_in}
 use Rattle.text.specs.Places.{plain_len, plain_end}
 use Rattle.words.specs.Words.{upto}
+use Rattle.layout.specs.declared.kinds.Kind.{Kind as Code}
+use Rattle.layout.specs.Meant.{kind_meant}
 use Rattle.layout.specs.Rows.{bare, row_of, decoded}
 use Rattle.layout.proofs.TableLaws.{codes, rows_right, no_row_lem}
 use Rattle.layout.proofs.CheckLaws.{fields_low, fields_high}
@@ -28,11 +32,6 @@ use Rattle.pass.specs.Passed.{Passed, Started}
 use Rattle.pass.specs.Kinds.{Begins, PassedAs}
 use Rattle.pass.proofs.TidyLaws.{plain_past}
 use Rattle.pass.proofs.UptoLaws.{upto_then, upto_one}
-
--- what the two bytes say
-pub begins_is : (s : List ℕ) (at : ℕ) (o : Option Kind) → o ≡ kind_of scottish (upto s at (at + 2)) → at + 2 < length s → get_or s (at + 2) 0 ≡ 44 → Begins s at o
-begins_is s at none e h c = tt
-begins_is s at (some k) e h c = (h, sym e, c)
 
 -- a kind's identifier is two plain bytes
 two_plain : (k : Kind) → T (eqb (length (ident k)) 2 && all plain (ident k))
@@ -108,15 +107,16 @@ module _ (k : Kind) (rows : List ℕ) (e : rows ≡ codes k) where
         inside = l;
       }
 
--- ---- in the arm of a kind, by an enum of the code and the kind that is meant by each of its cases
+-- ---- in the arm of a kind, by the enum of the code
 
-module _ {Named : Type 0} (meant : Named → Kind) (kind kind' : Named) (e : kind ≡ kind') (rows s : List ℕ) (at : ℕ) (q : rows ≡ codes (meant kind')) (b : Begins s at (some (meant kind))) where
+module _ (kind kind' : Code) (e : kind ≡ kind') (rows s : List ℕ) (at : ℕ) (q : rows ≡ codes (kind_meant kind')) (b : Begins s at (some (kind_meant kind))) where
   -- its rows are walked
   pub arm_started : (a : List ℕ) → 32 ≤ length a → get_or a 0 0 ≡ 2 → (length rows ≤ length a) × Started rows s a at
-  arm_started a w n = (omega (arith, rows_few (meant kind') rows q), kind_started (meant kind') rows q s a at n (rw e at b))
+  arm_started a w n = (omega (arith, rows_few (kind_meant kind') rows q), kind_started (kind_meant kind') rows q s a at n (rw e at b))
 
   -- what they pass is a line of the kind
   pub arm_passed :
-      (a a' : List ℕ) (r : ℕ) → 32 ≤ length a → (length a' ≡ length a) × (0 < r → Passed (map decoded rows) s a' at r × (r < length s))
-      → (length a' ≡ length a) × (0 < r → PassedAs (meant kind) s a' at r)
-  arm_passed a a' r w p = (p.0, λ l. rw e (kind_passed (meant kind') rows q s a' at r (rw e at b) (omega (arith, p.0)) (p.1 l).1 (p.1 l).0))
+      (a a' : List ℕ) (o : Answer ℕ) → 32 ≤ length a → (length a' ≡ length a) × IfSome o (λ r. Passed (map decoded rows) s a' at r × (r < length s))
+      → (length a' ≡ length a) × IfSome o (λ r. PassedAs (kind_meant kind) s a' at r)
+  arm_passed a a' o w p =
+      (p.0, IfSome_then o p.1 (λ r l. rw e (kind_passed (kind_meant kind') rows q s a' at r (rw e at b) (omega (arith, p.0)) l.1 l.0)))

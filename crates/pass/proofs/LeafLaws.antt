@@ -1,13 +1,18 @@
 -- The laws of the leaves: how what they test says that what they saw is a field of their form.
 use mathlib.Core.Path.{◌≡◌, refl, sym, ap, ◌∙◌}
 use mathlib.Core.Bool.{Bool, true, false, not, ◌&&◌, and-false}
+use mathlib.Core.Logic.{◌⊎◌, inl, inr}
 use mathlib.Core.List.{List, [], ◌∷◌, ◌++◌}
 use Prim.Native.Nat.{ℕ, ◌+◌, ◌-◌, ◌%◌, ◌≤◌, ◌<◌}
+use native.Mathlib.Decide.{dec_le}
 use native.Mathlib.Omega.{arith}
 use borrow.Author.Tests.{not-true, le-leb, ne_eqb}
 use lib.Dec.{T, eqb, leb}
 use lib.ListN.{length, get_or, take, drop}
 use lib.Seq.{get_or-take, get_or-drop}
+use Rattle.std.specs.Prelude.{Option, None, Some, IfSome}
+use Rattle.std.specs.Bool.{then_some}
+use Rattle.std.specs.Int.{from_bool}
 use Rattle.base.specs.Lists.{all, pick, same, up_to, past, bytes}
 use Rattle.base.specs.ListLaws.{same_eq}
 use Rattle.base.specs.Tests.{and_l, and_r, T_true}
@@ -28,67 +33,104 @@ use Rattle.pass.proofs.UptoLaws.{upto_then, upto_one, upto_first, upto_length}
 
 -- ---- a leaf's answer
 
--- nothing is seen
-pub past_not : {test : List ℕ → Bool} {s : List ℕ} {at : ℕ} → Past test s at 0
-past_not l = absurd (omega arith)
+-- what holds of a value if a test holds, holds of what is answered if it does
+pub some_if : (P : ℕ → Type 0) (b : Bool) (r : ℕ) (o : Option ℕ) → o ≡ then_some b r → (b ≡ true → P r) → IfSome o P
+some_if P true r o e f = rw e (f refl)
+some_if P false r o e f = rw e tt
 
 -- what is tested where it stands
-pub past_yes :
-    (test : List ℕ → Bool) (s : List ℕ) (at r : ℕ) (b : Bool) → at ≤ r → r < length s → b ≡ test (upto s at r) → b ≡ true → Past test s at r
-past_yes test s at r b h l e t _ = record { forward = h; inside = l; holds = sym e ∙ t }
+pub seen_tested :
+    (test : List ℕ → Bool) (s : List ℕ) (at r : ℕ) (b : Bool) → at ≤ r → r < length s → b ≡ test (upto s at r) → b ≡ true → Seen test s at r
+seen_tested test s at r b h l e t = record { forward = h; inside = l; holds = sym e ∙ t }
+
+-- what is seen if a test holds, is answered if it does
+pub past_if : (test : List ℕ → Bool) (s : List ℕ) (at r : ℕ) (b : Bool) (o : Option ℕ) → o ≡ then_some b r → (b ≡ true → Seen test s at r) → Past test s at o
+past_if test s at r b o e f = some_if (λ x. Seen test s at x) b r o e f
+
+-- the test is that of what stands there
+pub past_tested :
+    (test : List ℕ → Bool) (s : List ℕ) (at r : ℕ) (b : Bool) (o : Option ℕ) → at ≤ r → r < length s → b ≡ test (upto s at r) → o ≡ then_some b r
+    → Past test s at o
+past_tested test s at r b o h l e q = past_if test s at r b o q (seen_tested test s at r b h l e)
 
 -- so many bytes, where what was tested of them says that they are so
-pub past_some : (test : List ℕ → Bool) (s : List ℕ) (at n : ℕ) → at + n < length s → test (take n (drop at s)) ≡ true → Past test s at (at + n)
-past_some test s at n l e _ =
+pub past_some :
+    (test : List ℕ → Bool) (s : List ℕ) (at n : ℕ) (b : Bool) (o : Option ℕ) → at + n < length s → (b ≡ true → test (take n (drop at s)) ≡ true)
+    → o ≡ then_some b (at + n) → Past test s at o
+past_some test s at n b o l f q =
     let z : at + n - at ≡ n = omega arith in
-    record { forward = omega arith; inside = l; holds = rw z e }
+    past_if test s at (at + n) b o q (λ t. record { forward = omega arith; inside = l; holds = rw z (f t) })
 
 -- no bytes
-pub past_none : (test : List ℕ → Bool) (s : List ℕ) (at : ℕ) → at < length s → test [] ≡ true → Past test s at at
-past_none test s at l e _ =
+pub past_none :
+    (test : List ℕ → Bool) (s : List ℕ) (at : ℕ) (b : Bool) (o : Option ℕ) → at < length s → (b ≡ true → test [] ≡ true) → o ≡ then_some b at → Past test s at o
+past_none test s at b o l f q =
     let z : at - at ≡ 0 = omega arith in
-    record { forward = omega arith; inside = l; holds = rw z e }
+    past_if test s at at b o q (λ t. record { forward = omega arith; inside = l; holds = rw z (f t) })
 
 -- another test, that holds where the first does
-past_as : (p q : List ℕ → Bool) (s : List ℕ) (at r : ℕ) → (p (upto s at r) ≡ true → q (upto s at r) ≡ true) → Past p s at r → Past q s at r
-past_as p q s at r f h l = let g = h l in record { forward = g.forward; inside = g.inside; holds = f g.holds }
+past_as : (p q : List ℕ → Bool) (s : List ℕ) (at : ℕ) (o : Option ℕ) → ((f : List ℕ) → p f ≡ true → q f ≡ true) → Past p s at o → Past q s at o
+past_as p q s at None f h = tt
+past_as p q s at (Some r) f h = record { forward = h.forward; inside = h.inside; holds = f (upto s at r) h.holds }
 
 -- ---- bytes that are known
 
 -- one
-pub one_seen : (test : List ℕ → Bool) (s : List ℕ) (at x : ℕ) → at + 1 < length s → get_or s at 0 ≡ x → test (x ∷ []) ≡ true → Past test s at (at + 1)
-one_seen test s at x l e t _ = record { forward = omega arith; inside = l; holds = rw (upto_one s at (omega arith), e) t }
+one_seen : (test : List ℕ → Bool) (s : List ℕ) (at x : ℕ) → at + 1 < length s → get_or s at 0 ≡ x → test (x ∷ []) ≡ true → Seen test s at (at + 1)
+one_seen test s at x l e t = record { forward = omega arith; inside = l; holds = rw (upto_one s at (omega arith), e) t }
 
--- one within quotes
-pub quoted_seen :
-    (test : List ℕ → Bool) (s : List ℕ) (at x : ℕ) → at + 3 < length s → get_or s at 0 ≡ 34 → get_or s (at + 2) 0 ≡ 34 → get_or s (at + 1) 0 ≡ x
-    → test (quoted (x ∷ [])) ≡ true → Past test s at (at + 3)
-quoted_seen test s at x l e g k t _ =
-    let z : at + 1 + 1 ≡ at + 2 = omega arith in
-    let y : at + 2 + 1 ≡ at + 3 = omega arith in
-    record {
-      forward = omega arith;
-      inside = l;
-      holds = rw (upto_first s at (at + 3) (omega arith) (omega arith), e, upto_first s (at + 1) (at + 3) (omega arith) (omega arith), k, z, ← y, upto_one s (at + 2) (omega arith), g) t;
-    }
+-- one of two
+pub either_seen :
+    (test : List ℕ → Bool) (s : List ℕ) (at x : ℕ) → at + 1 < length s → x ≤ get_or s at 0 → get_or s at 0 ≤ x + 1 → test (x ∷ []) ≡ true
+    → test ((x + 1) ∷ []) ≡ true → Seen test s at (at + 1)
+either_seen test s at x l h k t u = go (dec_le (get_or s at 0) x)
+  where
+    go : Dec (get_or s at 0 ≤ x) → Seen test s at (at + 1)
+    go (yes m) = one_seen test s at x l (omega arith) t
+    go (no m) = one_seen test s at (x + 1) l (omega arith) u
+
+-- three, one by one
+three : (f : List ℕ) → length f ≡ 3 → get_or f 0 0 ∷ get_or f 1 0 ∷ get_or f 2 0 ∷ [] ≡ f
+three [] e = absurd (omega arith)
+three (x ∷ []) e = absurd (omega arith)
+three (x ∷ y ∷ []) e = absurd (omega arith)
+three (x ∷ y ∷ z ∷ []) e = refl
+three (x ∷ y ∷ z ∷ u ∷ f) e = absurd (omega arith)
+
+-- a letter within quotes
+pub change_seen :
+    (s : List ℕ) (at : ℕ) (x : ℕ) → at + 3 < length s → get_or (upto s at (at + 3)) 0 0 ≡ 34 → get_or (upto s at (at + 3)) 1 0 ≡ x
+    → (x ≡ 68) ⊎ ((x ≡ 73) ⊎ (x ≡ 85)) → get_or (upto s at (at + 3)) 2 0 ≡ 34 → Seen (has_form by_characters change_type) s at (at + 3)
+unfolding has_form one_of same bytes
+change_seen s at x l e y o g =
+    let n : at + 3 - at ≡ 3 = omega arith in
+    let f : upto s at (at + 3) ≡ 34 ∷ x ∷ 34 ∷ [] = sym (three (upto s at (at + 3)) (upto_length s at (at + 3) (omega arith) ∙ n)) ∙ rw (e, y, g) in
+    record { forward = omega arith; inside = l; holds = rw f (letter o) }
+  where
+    letter : (x ≡ 68) ⊎ ((x ≡ 73) ⊎ (x ≡ 85)) → has_form by_characters change_type (34 ∷ x ∷ 34 ∷ []) ≡ true
+    letter (inl e) = rw e
+    letter (inr (inl e)) = rw e
+    letter (inr (inr e)) = rw e
 
 -- ---- numbers
 
 -- 1 to w digits
-pub number_yes :
+pub number_seen :
     (s : List ℕ) (at r w : ℕ) → at ≤ r → r < length s → T (all is_digit (upto s at r)) → (r ≡ at → ⊥) → r - at ≤ w
-    → Past (has_form by_characters (number w)) s at r
+    → Seen (has_form by_characters (number w)) s at r
 unfolding has_form is_number
-number_yes s at r w h l d n k _ =
+number_seen s at r w h l d n k =
     let e = upto_length s at r (omega arith) in
     record { forward = h; inside = l; holds = rw (e, le-leb 1 (r - at) (omega arith), le-leb (r - at) w k) (T_true (all is_digit (upto s at r)) d) }
 
 -- that are worth 1 or more
-pub least_yes :
-    (s : List ℕ) (at r w : ℕ) (b : Bool) → Past (has_form by_characters (number w)) s at r → b ≡ leb 1 (value (upto s at r)) → b ≡ true
-    → Past (has_form by_characters (at_least1 w)) s at r
+pub least_past :
+    (s : List ℕ) (at r w : ℕ) (b : Bool) (o : Option ℕ) → Seen (has_form by_characters (number w)) s at r → b ≡ leb 1 (value (upto s at r)) → o ≡ then_some b r
+    → Past (has_form by_characters (at_least1 w)) s at o
 unfolding has_form
-least_yes s at r w b p e t = past_as (has_form by_characters (number w)) (has_form by_characters (at_least1 w)) s at r (λ h. rw h (sym e ∙ t)) p
+least_past s at r w b o p e q =
+    past_if (has_form by_characters (at_least1 w)) s at r b o q
+    (λ t. record { forward = p.forward; inside = p.inside; holds = let h = p.holds in rw h (sym e ∙ t) })
 
 -- ---- decimals
 
@@ -122,79 +164,85 @@ decimal_is w d f x y u n k = let g = number_digits w x n in rw (u, point_before 
 
 -- a minus in front is left out
 unsigned_is :
-    (s : List ℕ) (at r m : ℕ) → at < length s → m ≡ pick (eqb (get_or s at 0) 45) 1 0 → at + m < r
+    (s : List ℕ) (at r m : ℕ) → at < length s → m ≡ from_bool (eqb (get_or s at 0) 45) → at + m < r
     → unsigned (upto s at r) ≡ upto s (at + m) r
 unfolding unsigned
 unsigned_is s at r m h e l = rw (upto_first s at r (omega arith) h) (go (eqb (get_or s at 0) 45) e)
   where
-    go : (b : Bool) → m ≡ pick b 1 0 → pick b (upto s (at + 1) r) (get_or s at 0 ∷ upto s (at + 1) r) ≡ upto s (at + m) r
+    go : (b : Bool) → m ≡ from_bool b → pick b (upto s (at + 1) r) (get_or s at 0 ∷ upto s (at + 1) r) ≡ upto s (at + m) r
     go true z = rw z
     go false z = let y : at + 0 ≡ at = omega arith in rw (z, y) (sym (upto_first s at r (omega arith) h))
 
+-- it is one byte
+bit_low : (b : Bool) (m : ℕ) → m ≡ from_bool b → m ≤ 1
+bit_low true m e = omega arith
+bit_low false m e = omega arith
+
 -- digits, a point and d digits after an optional minus
-pub decimal_yes :
-    (s : List ℕ) (at m p w d : ℕ) (b : Bool) → at < length s → m ≡ pick (eqb (get_or s at 0) 45) 1 0
-    → Past (has_form by_characters (number w)) s (at + m) p → (p ≡ 0 → ⊥) → get_or s p 0 ≡ 46 → p + 1 + d < length s
-    → b ≡ is_digits d (upto s (p + 1) (p + 1 + d)) → b ≡ true → Past (has_form by_characters (decimal w d)) s at (p + 1 + d)
-decimal_yes s at m p w d b h e n z c k q t _ =
-    let g = n (omega arith) in
+pub decimal_past :
+    (s : List ℕ) (at m p w d : ℕ) (b : Bool) (o : Option ℕ) → at + 40 ≤ length s → d ≤ 15 → m ≡ from_bool (eqb (get_or s at 0) 45)
+    → Seen (has_form by_characters (number w)) s (at + m) p → p ≤ at + m + 16 → get_or s p 0 ≡ 46
+    → b ≡ is_digits d (upto s (p + 1) (p + 1 + d)) → o ≡ then_some b (p + 1 + d) → Past (has_form by_characters (decimal w d)) s at o
+decimal_past s at m p w d b o h n e g l c q y =
     let v = g.forward in
+    let i : m ≤ 1 = bit_low (eqb (get_or s at 0) 45) m e in
+    let k : p + 1 + d < length s = omega arith in
     let join : upto s (at + m) (p + 1 + d) ≡ upto s (at + m) p ++ (46 ∷ upto s (p + 1) (p + 1 + d)) =
     upto_then s (at + m) p (p + 1 + d) v (omega arith) ∙ rw (upto_first s p (p + 1 + d) (omega arith) g.inside, c) in
-    record {
+    past_if (has_form by_characters (decimal w d)) s at (p + 1 + d) b o y (λ t. record {
       forward = omega arith;
       inside = k;
       holds =
-          decimal_is w d (upto s at (p + 1 + d)) (upto s (at + m) p) (upto s (p + 1) (p + 1 + d)) (unsigned_is s at (p + 1 + d) m h e (omega arith) ∙ join) g.holds (sym q ∙ t);
-    }
+          decimal_is w d (upto s at (p + 1 + d)) (upto s (at + m) p) (upto s (p + 1) (p + 1 + d)) (unsigned_is s at (p + 1 + d) m (omega arith) e (omega arith) ∙ join) g.holds (sym q ∙ t);
+    })
 
 -- ---- texts
 
 -- two quotes, where nothing need be there
 pub text_empty :
-    (s : List ℕ) (at w : ℕ) (filled : Bool) → at + 2 < length s → get_or s at 0 ≡ 34 → get_or s (at + 1) 0 ≡ 34 → filled ≡ false
-    → Past (sound_as by_characters (text w) filled) s at (at + 1 + 1)
+    (s : List ℕ) (at w : ℕ) (filled : Bool) (o : Option ℕ) → at + 2 < length s → get_or s at 0 ≡ 34 → get_or s (at + 1) 0 ≡ 34
+    → o ≡ then_some (not filled) (at + 1 + 1) → Past (sound_as by_characters (text w) filled) s at o
 unfolding sound_as is_empty is_textual same
-text_empty s at w filled h e q f _ =
-    record {
+text_empty s at w filled o h e q y =
+    past_if (sound_as by_characters (text w) filled) s at (at + 1 + 1) (not filled) o y (λ f. record {
       forward = omega arith;
       inside = omega arith;
-      holds = rw (upto_first s at (at + 1 + 1) (omega arith) (omega arith), e, upto_one s (at + 1) (omega arith), q, f);
-    }
+      holds = rw (upto_first s at (at + 1 + 1) (omega arith) (omega arith), e, upto_one s (at + 1) (omega arith), q) f;
+    })
 
 -- a text that does not begin with two quotes is sound
 pub text_other :
-    (s : List ℕ) (at r w : ℕ) (filled : Bool) → (get_or s (at + 1) 0 ≡ 34 → ⊥) → Past (has_form by_characters (text w)) s at r
-    → Past (sound_as by_characters (text w) filled) s at r
+    (s : List ℕ) (at w : ℕ) (filled : Bool) (o : Option ℕ) → (get_or s (at + 1) 0 ≡ 34 → ⊥) → Past (has_form by_characters (text w)) s at o
+    → Past (sound_as by_characters (text w) filled) s at o
 unfolding sound_as is_empty is_textual
-text_other s at r w filled n p l =
-    let g = p l in
-    record { forward = g.forward; inside = g.inside; holds = go g (same (upto s at r) (34 ∷ 34 ∷ [])) refl }
+text_other s at w filled None n p = tt
+text_other s at w filled (Some r) n g = record { forward = g.forward; inside = g.inside; holds = go (same (upto s at r) (34 ∷ 34 ∷ [])) refl }
   where
-    second : Seen (has_form by_characters (text w)) s at r → upto s at r ≡ 34 ∷ 34 ∷ [] → get_or s (at + 1) 0 ≡ 34
-    second g e =
+    second : upto s at r ≡ 34 ∷ 34 ∷ [] → get_or s (at + 1) 0 ≡ 34
+    second e =
         let k : 2 ≡ r - at = ap length (sym e) ∙ upto_length s at r (let i = g.inside in omega arith) in
         sym (get_or-take (r - at) (drop at s) 1 0 (omega arith) ∙ get_or-drop at s 1 0) ∙ ap (λ f. get_or f 1 0) e
 
-    go : Seen (has_form by_characters (text w)) s at r → (b : Bool) → same (upto s at r) (34 ∷ 34 ∷ []) ≡ b → pick b (not filled) (has_form by_characters (text w) (upto s at r)) ≡ true
-    go g true e = absurd (n (second g (same_eq (upto s at r) (34 ∷ 34 ∷ []) (rw e tt))))
-    go g false e = g.holds
+    go : (b : Bool) → same (upto s at r) (34 ∷ 34 ∷ []) ≡ b → pick b (not filled) (has_form by_characters (text w) (upto s at r)) ≡ true
+    go true e = absurd (n (second (same_eq (upto s at r) (34 ∷ 34 ∷ []) (rw e tt))))
+    go false e = g.holds
 
 -- at most w bytes of ASCII within quotes
 pub text_ascii :
-    (s : List ℕ) (at last w : ℕ) → at + 1 ≤ last → last + 1 < length s → get_or s at 0 ≡ 34 → get_or s last 0 ≡ 34
-    → T (all is_ascii_text (upto s (at + 1) last)) → last - (at + 1) ≤ w → Past (has_form by_characters (text w)) s at (last + 1)
+    (s : List ℕ) (at last w : ℕ) (o : Option ℕ) → at + 1 ≤ last → last + 1 < length s → get_or s at 0 ≡ 34 → get_or s last 0 ≡ 34
+    → T (all is_ascii_text (upto s (at + 1) last)) → o ≡ then_some (leb (last - (at + 1)) w) (last + 1) → Past (has_form by_characters (text w)) s at o
 unfolding has_form
-text_ascii s at last w h l e q a k _ =
+text_ascii s at last w o h l e q a y =
     let n = upto_length s (at + 1) last (omega arith) in
     let f : upto s at (last + 1) ≡ quoted (upto s (at + 1) last) =
     upto_first s at (last + 1) (omega arith) (omega arith) ∙ rw (e, upto_then s (at + 1) last (last + 1) h (omega arith), upto_one s last (omega arith), q) in
-    record { forward = omega arith; inside = l; holds = rw f (few (upto s (at + 1) last) a (omega arith)) }
+    past_if (has_form by_characters (text w)) s at (last + 1) (leb (last - (at + 1)) w) o y
+    (λ k. record { forward = omega arith; inside = l; holds = rw f (few (upto s (at + 1) last) a (rw (← n) at k)) })
   where
-    few : (t : List ℕ) → T (all is_ascii_text t) → length t ≤ w → has_form by_characters (text w) (quoted t) ≡ true
+    few : (t : List ℕ) → T (all is_ascii_text t) → leb (length t) w ≡ true → has_form by_characters (text w) (quoted t) ≡ true
     few t a k =
         T_true (is_text by_characters w (quoted t))
-        (text_in_lem by_characters w t (rw (ascii_width w t (T_true (all is_ascii_text t) a), le-leb (length t) w k) tt))
+        (text_in_lem by_characters w t (rw (ascii_width w t (T_true (all is_ascii_text t) a), k) tt))
 
 -- ---- a field by its row
 
@@ -233,16 +281,16 @@ form_sound m filled f n h = go (same f (empty_of m)) refl
 
 -- the leaf of the row's form saw it
 pub filled_as :
-    (m n : Form) (row : ℕ) (s : List ℕ) (at r : ℕ) → n ≡ form_decoded row → n ≡ m → T (not (is_free_text m)) → Past (has_form by_characters m) s at r
-    → Past (sound_by row) s at r
-filled_as m n row s at r e q t p =
-    past_as (has_form by_characters m) (sound_by row) s at r (λ h. rw (← e, q) (form_sound m (filled_decoded row) (upto s at r) t h)) p
+    (m n : Form) (row : ℕ) (s : List ℕ) (at : ℕ) (o : Option ℕ) → n ≡ form_decoded row → n ≡ m → T (not (is_free_text m)) → Past (has_form by_characters m) s at o
+    → Past (sound_by row) s at o
+filled_as m n row s at o e q t p =
+    past_as (has_form by_characters m) (sound_by row) s at o (λ f h. rw (← e, q) (form_sound m (filled_decoded row) f t h)) p
 
 -- the leaf of texts did
 pub text_as :
-    (w : ℕ) (n : Form) (b : Bool) (row : ℕ) (s : List ℕ) (at r : ℕ) → n ≡ form_decoded row → n ≡ text w → b ≡ filled_decoded row
-    → Past (sound_as by_characters (text w) b) s at r → Past (sound_by row) s at r
-text_as w n b row s at r e q f p = past_as (sound_as by_characters (text w) b) (sound_by row) s at r (λ h. rw (← e, q, ← f) h) p
+    (w : ℕ) (n : Form) (b : Bool) (row : ℕ) (s : List ℕ) (at : ℕ) (o : Option ℕ) → n ≡ form_decoded row → n ≡ text w → b ≡ filled_decoded row
+    → Past (sound_as by_characters (text w) b) s at o → Past (sound_by row) s at o
+text_as w n b row s at o e q f p = past_as (sound_as by_characters (text w) b) (sound_by row) s at o (λ _ h. rw (← e, q, ← f) h) p
 
 -- the decimals that a form has
 decimals : Form → ℕ

@@ -21,7 +21,7 @@ use Rattle.layout.specs.Rows.{Row, no_row, form_decoded, filled_decoded, decoded
 use Rattle.layout.specs.Check.{lowest_bad}
 use Rattle.pass.specs.Tidy.{tidy}
 use Rattle.words.specs.Words.{upto}
-use Rattle.pass.specs.Past.{Seen, Past}
+use Rattle.pass.specs.Past.{Seen}
 use Rattle.pass.specs.Passed.{Passed, Started}
 use Rattle.pass.proofs.UptoLaws.{upto_then, upto_one, upto_length}
 use Rattle.pass.proofs.TidyLaws.{tidy_quotes, tidy_ends, tidy_plain, before_comma, at_last, plain_before}
@@ -187,10 +187,6 @@ module _ (rows s a : List ℕ) (at k i e : ℕ) (w : Walked (map decoded rows) s
   -- a CR LF follows the last
   pub line_end_lem : k + 1 ≡ length rows → (b : Bool) → b ≡ ends_here (drop e s) → b ≡ true → Passed (map decoded rows) s (set a k (e - at)) at e
   line_end_lem n b q t = walk_end (map decoded rows) s a at k i e w p.forward (omega (arith, p.inside)) (rw length-map j) (omega arith) sound_here (rw length-map n) (sym q ∙ t)
-
--- a field that was passed was seen, unless the answer is 0
-pub seen_there : {test : List ℕ → Bool} {s : List ℕ} {at r : ℕ} → Past test s at r → (r ≡ 0 → ⊥) → Seen test s at r
-seen_there p n = p (omega arith)
 
 -- the first field is passed already
 pub line_start : (rows s a : List ℕ) (at : ℕ) → length rows ≤ length a → Started rows s a at → Walked (map decoded rows) s a at 1 (at + 3)

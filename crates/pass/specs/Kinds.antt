@@ -1,6 +1,6 @@
 -- A line that was passed, by its kind.
-use Rattle.std.specs.Prelude.{◌≡◌, List, map, ℕ, ◌+◌, ◌<◌, length, get_or}
-use Rattle.std.proofs.Math.Option.{Option, none, some}
+use Rattle.std.specs.Prelude.{◌≡◌, List, map, ℕ, ◌+◌, ◌<◌, Option, IfSome, length, get_or}
+use Rattle.std.proofs.Math.Option.{Option as Maybe, none, some}
 use Rattle.meaning.specs.Lines.{identifier}
 use Rattle.meaning.specs.Kinds.{Kind}
 use Rattle.meaning.specs.Format.{kind_of}
@@ -9,12 +9,11 @@ use Rattle.words.specs.Words.{upto}
 use Rattle.layout.specs.Meant.{kind_meant}
 use Rattle.layout.specs.Rows.{bare}
 use Rattle.layout.specs.Check.{Parted}
-use Rattle.pass.specs.declared.kind.Found.{Found}
-use Rattle.pass.specs.declared.kind.Found.TheVariants.{Line, Nothing}
+use Rattle.pass.specs.declared.kind.Passed.{Passed as Line}
 use Rattle.pass.specs.Passed.{Passed}
 
 -- a line begins with the two bytes of a kind and a comma, if a kind was found
-abbrev pub Begins : List ℕ → ℕ → Option Kind → Type 0
+abbrev pub Begins : List ℕ → ℕ → Maybe Kind → Type 0
 Begins s at none = Unit {0}
 Begins s at (some k) = (at + 2 < length s) × (kind_of scottish (upto s at (at + 2)) ≡ some k) × (get_or s (at + 2) 0 ≡ 44)
 
@@ -25,7 +24,6 @@ pub record PassedAs (k : Kind) (s a : List ℕ) (at e : ℕ) : Type 0 where
   pub parted : Parted k (upto s at e) a
   pub inside : e < length s
 
--- what was found is so
-abbrev pub FoundAs : List ℕ → ℕ → List ℕ → Found → Type 0
-FoundAs s at a (Line k e) = PassedAs (kind_meant k) s a at e
-FoundAs s at a Nothing = Unit {0}
+-- if a line was found, it was passed as what it is said to be
+abbrev pub FoundAs : List ℕ → ℕ → List ℕ → Option Line → Type 0
+FoundAs s at a r = IfSome r (λ l. PassedAs (kind_meant l.kind) s a at l.end)

@@ -1,5 +1,5 @@
 -- What is known of a field that was passed.
-use Rattle.std.specs.Prelude.{◌≡◌, Bool, true, List, ℕ, ◌≤◌, ◌<◌, length}
+use Rattle.std.specs.Prelude.{◌≡◌, Bool, true, List, ℕ, ◌≤◌, ◌<◌, Option, IfSome, length}
 use Rattle.words.specs.Words.{upto}
 
 -- a field was seen from `at` up to r, and a byte stands there; test says what was tested of it
@@ -8,6 +8,6 @@ pub record Seen (test : List ℕ → Bool) (s : List ℕ) (at r : ℕ) : Type 0 
   pub inside : r < length s
   pub holds : test (upto s at r) ≡ true
 
--- a field was seen up to r, or r is 0
-abbrev pub Past : (List ℕ → Bool) → List ℕ → ℕ → ℕ → Type 0
-Past test s at r = 0 < r → Seen test s at r
+-- if an end was found, a field was seen up to it
+abbrev pub Past : (List ℕ → Bool) → List ℕ → ℕ → Option ℕ → Type 0
+Past test s at r = IfSome r (λ e. Seen test s at e)

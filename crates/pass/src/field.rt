@@ -13,13 +13,13 @@ use layout::rules::{form_of, is_mandatory};
 // How many bytes a field's leaf may look at.
 pub const ROOM: usize = 40;
 
-// Where a filled field ends.
-fn past_filled(s: &[u8], at: usize, row: u32) -> usize
+// Where a filled field ends, if it is seen to be sound.
+#[inline(always)]
+fn past_filled(s: &[u8], at: usize, row: u32) -> Option<usize>
     requires { at + 40 ≤ length s.now }
     ensures { Past (sound_by row) s.now at result }
 {
-    let form = form_of(row);
-    match form {
+    match form_of(row) {
         Form::Number(w) => past_number(s, at, w),
         Form::AtLeast1(w) => past_at_least_1(s, at, w),
         Form::Decimal(w, d) => past_decimal(s, at, w, d),
@@ -37,25 +37,20 @@ fn past_filled(s: &[u8], at: usize, row: u32) -> usize
 fn may_be_none(row: u32) -> bool
     ensures { result ≡ true → sound_by row [] ≡ true }
 {
-    if is_mandatory(row) {
-        return false;
-    }
-    !is_textual(form_of(row))
+    !is_mandatory(row) && !is_textual(form_of(row))
 }
 
-// Where the field that starts at `at` ends, if it is seen to be sound as its row has it and starts before `stop`; or 0.
-pub fn past_field(s: &[u8], at: usize, row: u32, stop: usize) -> usize
+// Where the field that starts at `at` ends, if it is seen to be sound as its row has it and starts before `stop`.
+#[inline(always)]
+pub fn past_field(s: &[u8], at: usize, row: u32, stop: usize) -> Option<usize>
     requires { stop ≡ length s.now - 40 }
     ensures { Past (sound_by row) s.now at result }
 {
     if stop <= at {
-        return 0;
+        return None;
     }
     if s[at] == b',' {
-        if may_be_none(row) {
-            return at;
-        }
-        return 0;
+        return may_be_none(row).then_some(at);
     }
     past_filled(s, at, row)
 }

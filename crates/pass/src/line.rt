@@ -1,47 +1,26 @@
 // A line by its rows.
-ghost use Rattle.std.specs.Prelude.{◌≡◌, map, ◌-◌, ◌≤◌, ◌<◌, length};
+ghost use Rattle.std.specs.Prelude.{◌≡◌, map, ◌≤◌, ◌<◌, IfSome, length};
 ghost use Rattle.layout.specs.Rows.{decoded};
 ghost use Rattle.pass.specs.Passed.{Passed, Started};
 
 use crate::field::{ROOM, past_field};
 use text::lines::ends_at;
 
-// From where on a field has less room than a leaf may look at.
-fn near_end(s: &[u8]) -> usize
-    ensures { result ≡ length s.now - 40 }
-{
-    if s.len() < ROOM {
-        return 0;
-    }
-    s.len() - ROOM
-}
-
 // Where the line that starts at `at` ends, if each field is seen to be sound as its row has it and a CR LF ends the last, with their ends
-// noted from the line's start on; or 0. Its first field is known to be two bytes before a comma, and sound, and its end is noted.
-pub fn pass_line(s: &[u8], at: usize, rows: &[u32], ends: &mut [usize]) -> usize
+// noted from the line's start on. Its first field is known to be two bytes before a comma, and sound, and its end is noted.
+pub fn pass_line(s: &[u8], at: usize, rows: &[u32], ends: &mut [usize]) -> Option<usize>
     requires { (length rows.now ≤ length ends.old) × Started rows.now s.now ends.old at }
-    ensures { (length ends.new ≡ length ends.old) × (0 < result → Passed (map decoded rows.now) s.now ends.new at result × (result < length s.now)) }
+    ensures { (length ends.new ≡ length ends.old) × IfSome result (λ r. Passed (map decoded rows.now) s.now ends.new at r × (r < length s.now)) }
 {
-    let stop = near_end(s);
-    let mut i = at + 3;
-    let mut k = 1;
-    while k < rows.len() {
-        let end = past_field(s, i, rows[k], stop);
-        if end == 0 {
-            return 0;
-        }
+    let stop = s.len().saturating_sub(ROOM); // from there on a field has less room than a leaf may look at
+    let mut start = at + 3;
+    for k in 1..rows.len() {
+        let end = past_field(s, start, rows[k], stop)?;
         ends[k] = end - at;
-        k += 1;
         if s[end] != b',' {
-            if k != rows.len() {
-                return 0;
-            }
-            if ends_at(s, end) {
-                return end;
-            }
-            return 0;
+            return (k + 1 == rows.len() && ends_at(s, end)).then_some(end);
         }
-        i = end + 1;
+        start = end + 1;
     }
-    0 // a comma follows the last field: there is one too many
+    None // a comma follows the last field: there is one too many
 }

@@ -7,7 +7,8 @@ use native.Mathlib.Decide.{dec_le}
 use native.Mathlib.Nat.{lt_of_not-le}
 use native.Mathlib.Omega.{arith}
 use borrow.Author.Rules.{rules}
-use lib.Dec.{T}
+use lib.Dec.{T, eqb, eqb→eq}
+use borrow.Author.Tests.{eq-eqb}
 use lib.ListN.{length, get_or, take, drop, take-append-drop, drop_of_length-le}
 use lib.Seq.{take-add, length-take-le}
 use Rattle.base.specs.Lists.{all, some?}
@@ -18,7 +19,9 @@ use Rattle.theory.specs.Keyed.{Keyed}
 use Rattle.theory.specs.Store.{get, gets, Asc}
 use Rattle.theory.specs.Rank.{ahead, rank, ranks}
 use Rattle.theory.proofs.RankLaws.{rank_scan, rank_stop, ahead_before}
-use Rattle.text.specs.declared.order.Order.{Order}
+use Rattle.std.specs.declared.cmp.Ordering.{Ordering}
+use Rattle.std.specs.declared.cmp.Ordering.TheVariants.{Less, Equal, Greater}
+use Rattle.std.specs.Ordering.{is_gt as ordering_gt, is_eq as ordering_eq}
 use Rattle.text.specs.Order.{tri_of}
 use Rattle.keys.specs.Numbers.{key_list, key_numbers, numbered}
 use Rattle.entries.specs.Entries.{record_of}
@@ -28,6 +31,24 @@ use Rattle.places.specs.Places.{says}
 use Rattle.places.specs.Ordered.{Ordered}
 use Rattle.places.proofs.SaysLaws.{length_says, says_at, says_split}
 use Rattle.places.proofs.OrderedLaws.{ordered_asc, tagged_in, tagged_at}
+
+-- ---- answers of an order
+
+gt_told : (o : Ordering) (c : Tri) → tri_of o ≡ c → ordering_gt o ≡ is_gt c
+gt_told o c e = go o ∙ ap is_gt e
+  where
+    go : (o : Ordering) → ordering_gt o ≡ is_gt (tri_of o)
+    go Less = refl
+    go Equal = refl
+    go Greater = refl
+
+eq_told : (o : Ordering) (c : Tri) → tri_of o ≡ c → ordering_eq o ≡ is_eq c
+eq_told o c e = go o ∙ ap is_eq e
+  where
+    go : (o : Ordering) → ordering_eq o ≡ is_eq (tri_of o)
+    go Less = refl
+    go Equal = refl
+    go Greater = refl
 
 -- ---- the search
 
@@ -46,7 +67,7 @@ module _ (h f a t : List ℕ) (n : ℕ) (k : List ℕ) (w : Ordered h f a t n) w
 
   module _ (low high mid : ℕ) (g : Placing h f a n k low high) (y : low < high) (m : mid ≡ low + (high - low) / 2) where
     -- a record in the middle that stands before the key leaves the upper half
-    upper : lex k (key_numbers (record_of h f (get_or a mid 0))) ≡ gt → Placing h f a n k (mid + 1) high
+    upper : is_gt (lex k (key_numbers (record_of h f (get_or a mid 0)))) ≡ true → Placing h f a n k (mid + 1) high
     upper z =
         let b : T (ahead numbered k (record_of h f (get_or a mid 0))) = unfold ahead in rw z tt in
         let before = ahead_before numbered k (take mid (says h f a n)) (record_of h f (get_or a mid 0)) (drop (suc mid) (says h f a n)) (subst (Asc numbered) (says_split h f a n w.within mid (omega (arith, g.within))) (ordered_asc h f a t n w)) b in
@@ -68,13 +89,13 @@ module _ (h f a t : List ℕ) (n : ℕ) (k : List ℕ) (w : Ordered h f a t n) w
           within = omega (arith, g.within);
         }
 
-    module _ (o p : Order) (u : tri_of o ≡ lex k (key_numbers (record_of h f (get_or a mid 0)))) (q : o ≡ p) where
+    module _ (o : Ordering) (u : tri_of o ≡ lex k (key_numbers (record_of h f (get_or a mid 0)))) (b : Bool) (q : b ≡ ordering_gt o) where
       -- so it goes by what is told of it
-      pub placing_up : tri_of p ≡ gt → Placing h f a n k (mid + 1) high
-      placing_up z = upper (sym u ∙ ap tri_of q ∙ z)
+      pub placing_up : b ≡ true → Placing h f a n k (mid + 1) high
+      placing_up z = upper (sym (gt_told o _ u) ∙ sym q ∙ z)
 
-      pub placing_down : is_gt (tri_of p) ≡ false → Placing h f a n k low mid
-      placing_down z = lower (ap is_gt (sym u ∙ ap tri_of q) ∙ z)
+      pub placing_down : b ≡ false → Placing h f a n k low mid
+      placing_down z = lower (sym (gt_told o _ u) ∙ sym q ∙ z)
 
   -- where the two meet is the key's place
   pub placing_done : (low high : ℕ) → Placing h f a n k low high → high ≤ low → low ≡ rank numbered k (says h f a n)
@@ -152,8 +173,8 @@ module _ (h f a : List ℕ) (n i : ℕ) (k : List ℕ) (l : n ≤ length a) (r :
         go gt t = absurd t
 
     -- as is told of it
-    pub stands_at : (o p : Order) → tri_of o ≡ lex k (key_numbers (record_of h f (get_or a i 0))) → o ≡ p → b ≡ is_eq (tri_of p) → b ≡ some? (get numbered k (says h f a n))
-    stands_at o p u q v = stands_by (v ∙ ap is_eq (ap tri_of (sym q) ∙ u))
+    pub stands_at : (o : Ordering) → tri_of o ≡ lex k (key_numbers (record_of h f (get_or a i 0))) → b ≡ ordering_eq o → b ≡ some? (get numbered k (says h f a n))
+    stands_at o u v = stands_by (v ∙ eq_told o _ u)
 
 pub ruleset standing = (rules, stands_past, stands_at, tagged_in, tagged_at)
 
@@ -166,7 +187,7 @@ module _ (h f a t : List ℕ) (n v : ℕ) (w : Ordered h f a t n) (e : Tells v) 
 
     -- a lower tag in the middle leaves the upper half
     pub tagged_up : get_or t mid 0 < v → Placing h f a n (key_list (key_tagged v)) (mid + 1) high
-    tagged_up o = upper h f a t n (key_list (key_tagged v)) w low high mid g y m (sym (tags_after (get_or t mid 0) v (key_tagged v) _ mid_told (e.tag z) o))
+    tagged_up o = upper h f a t n (key_list (key_tagged v)) w low high mid g y m (sym (ap is_gt (tags_after (get_or t mid 0) v (key_tagged v) _ mid_told (e.tag z) o)))
 
     -- any other the lower half
     pub tagged_down : v ≤ get_or t mid 0 → Placing h f a n (key_list (key_tagged v)) low mid
@@ -174,13 +195,21 @@ module _ (h f a t : List ℕ) (n v : ℕ) (w : Ordered h f a t n) (e : Tells v) 
 
   module _ (i : ℕ) (r : i ≡ rank numbered (key_list (key_tagged v)) (says h f a n)) (m : i < n) where
     -- the tag at the key's place is the key's
-    pub tagged_stands : get_or t i 0 ≡ v → true ≡ some? (get numbered (key_list (key_tagged v)) (says h f a n))
+    tagged_stands : get_or t i 0 ≡ v → true ≡ some? (get numbered (key_list (key_tagged v)) (says h f a n))
     tagged_stands o = stands_by h f a n i (key_list (key_tagged v)) w.within r true m (ap is_eq (tags_same (get_or t i 0) v (key_tagged v) _ (tagged_at h f a t n w i m) (e.tag z) (omega arith) (omega arith) e.even))
 
     -- or another's
-    pub tagged_other : (get_or t i 0 ≡ v → ⊥) → false ≡ some? (get numbered (key_list (key_tagged v)) (says h f a n))
+    tagged_other : (get_or t i 0 ≡ v → ⊥) → false ≡ some? (get numbered (key_list (key_tagged v)) (says h f a n))
     tagged_other o = stands_by h f a n i (key_list (key_tagged v)) w.within r false m (tags_other (get_or t i 0) v (key_tagged v) _ (tagged_at h f a t n w i m) (e.tag z) o)
+
+    -- which tells whether it stands
+    pub tagged_told : eqb (get_or t i 0) v ≡ some? (get numbered (key_list (key_tagged v)) (says h f a n))
+    tagged_told = go (eqb (get_or t i 0) v) refl
+      where
+        go : (b : Bool) → eqb (get_or t i 0) v ≡ b → b ≡ some? (get numbered (key_list (key_tagged v)) (says h f a n))
+        go true q = tagged_stands (eqb→eq (get_or t i 0) v (subst T (sym q) tt))
+        go false q = tagged_other (λ o. subst T (sym (eq-eqb (get_or t i 0) v o) ∙ q) tt)
 
 pub ruleset tagplacing = (rules, placing_start, tagged_up, tagged_down, placing_done, placing_in, mid_tag_in)
 
-pub ruleset tagstanding = (rules, stands_past, tagged_stands, tagged_other, tagged_in)
+pub ruleset tagstanding = (rules, stands_past, tagged_told, tagged_in)

@@ -11,11 +11,11 @@ unfoldable pub says : List ℕ → List ℕ → List ℕ → ℕ → List Rec
 says h f a n = map (record_of h f) (take n a)
 
 -- the array once the elements from i up to n have made room for v
-unfoldable pub opened : List ℕ → ℕ → ℕ → ℕ → List ℕ
+unfoldable pub opened : {A : Type 0} → List A → ℕ → ℕ → A → List A
 opened a n i v = take i a ++ (v ∷ (take (n - i) (drop i a) ++ drop (n + 1) a))
 
 -- the array once the elements after i and below n have closed up
-unfoldable pub closed : List ℕ → ℕ → ℕ → List ℕ
+unfoldable pub closed : {A : Type 0} → List A → ℕ → ℕ → List A
 closed a n i = take i a ++ (take (n - (i + 1)) (drop (i + 1) a) ++ drop (n - 1) a)
 
 -- what a record with the key `own` refers to by one row is met: nothing, or the key of a record of st that is not its own

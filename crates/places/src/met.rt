@@ -10,8 +10,8 @@ ghost use Rattle.places.specs.Places.{says, met_by};
 ghost use Rattle.places.specs.Ordered.{Ordered};
 
 use crate::search::{place, stands};
-use entries::references::{is_same_key, references};
-use keys::{Key, Referred};
+use entries::references::{Named, is_same_key, references};
+use keys::Key;
 
 // Whether one reference of the record whose key is `own` is met.
 fn is_met(
@@ -21,12 +21,12 @@ fn is_met(
     tags: &[u64],
     count: usize,
     own: Key,
-    to: Referred,
+    to: Option<Key>,
 ) -> bool
     requires { Ordered holding.now file.now places.now tags.now count }
     ensures { result ≡ met_by (says holding.now file.now places.now count) (key_list own) (referred_as to) }
 {
-    let Referred::To(key) = to else {
+    let Some(key) = to else {
         return true;
     };
     if is_same_key(key, own) {
@@ -48,12 +48,11 @@ pub fn meets(
     requires { Ordered holding.now file.now places.now tags.now count × T (fine scottish (record_of holding.now file.now entry)) }
     ensures { result ≡ meets (keyed scottish) (refs_of scottish) (says holding.now file.now places.now count) (record_of holding.now file.now entry) }
 {
-    let named = references(holding, file, entry);
-    let own = named.own;
-    let first = named.first;
-    let second = named.second;
-    if !is_met(holding, file, places, tags, count, own, first) {
-        return false;
+    let Named { own, to } = references(holding, file, entry);
+    for key in to {
+        if !is_met(holding, file, places, tags, count, own, key) {
+            return false;
+        }
     }
-    is_met(holding, file, places, tags, count, own, second)
+    true
 }

@@ -14,21 +14,21 @@ ghost use Rattle.places.specs.Ordered.{Ordered};
 use entries::key::against;
 use entries::tags::tag;
 use keys::Key;
-use text::order::Order;
+use std::cmp::Ordering;
 
 // How a key stands to that of an entry: as their tags do, and only where both have a tag that is not of one key alone is the line read.
-fn by_tags(holding: &[u8], file: &[u8], entry: u64, its: u64, ours: u64, key: Key) -> Order
+fn by_tags(holding: &[u8], file: &[u8], entry: u64, its: u64, ours: u64, key: Key) -> Ordering
     requires { (its ≡ tag_of (key_numbers (record_of holding.now file.now entry))) × (ours ≡ tag_of (key_list key)) }
     ensures { tri_of result ≡ lex (key_list key) (key_numbers (record_of holding.now file.now entry)) }
 {
     if ours < its {
-        return Order::Before;
+        return Ordering::Less;
     }
     if its < ours {
-        return Order::After;
+        return Ordering::Greater;
     }
     if ours % 2 == 0 {
-        return Order::Same;
+        return Ordering::Equal;
     }
     against(holding, file, entry, key)
 }
@@ -50,11 +50,10 @@ pub fn place(
     let mut high = count;
     while low < high {
         let mid = low + (high - low) / 2;
-        let next = mid + 1;
-        match by_tags(holding, file, places[mid], tags[mid], ours, key) {
-            Order::Before => high = mid,
-            Order::Same => high = mid,
-            Order::After => low = next,
+        if by_tags(holding, file, places[mid], tags[mid], ours, key).is_gt() {
+            low = mid + 1;
+        } else {
+            high = mid;
         }
     }
     low
@@ -73,14 +72,7 @@ pub fn stands(
     requires { Ordered holding.now file.now places.now tags.now count × (i ≡ rank numbered (key_list key) (says holding.now file.now places.now count)) }
     ensures { result ≡ some? (get numbered (key_list key) (says holding.now file.now places.now count)) }
 {
-    if count <= i {
-        return false;
-    }
-    match by_tags(holding, file, places[i], tags[i], tag(key), key) {
-        Order::Before => false,
-        Order::Same => true,
-        Order::After => false,
-    }
+    i < count && by_tags(holding, file, places[i], tags[i], tag(key), key).is_eq()
 }
 
 // Where the key of an even tag stands among the first `count` entries, or would stand: tags alone tell.
@@ -101,9 +93,9 @@ pub fn place_tagged(
         let mid = low + (high - low) / 2;
         if tags[mid] < ours {
             low = mid + 1;
-            continue;
+        } else {
+            high = mid;
         }
-        high = mid;
     }
     low
 }
@@ -121,11 +113,5 @@ pub fn stands_tagged(
     requires { Ordered holding.now file.now places.now tags.now count × Tells ours × (ours ≡ no_tag → ⊥) × (i ≡ rank numbered (key_list (key_tagged ours)) (says holding.now file.now places.now count)) }
     ensures { result ≡ some? (get numbered (key_list (key_tagged ours)) (says holding.now file.now places.now count)) }
 {
-    if count <= i {
-        return false;
-    }
-    if tags[i] == ours {
-        return true;
-    }
-    false
+    i < count && tags[i] == ours
 }

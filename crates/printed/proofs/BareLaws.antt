@@ -1,11 +1,12 @@
 -- The laws of what stands before the zeros at the end.
-use mathlib.Core.Path.{◌≡◌, refl, sym, ap, ◌∙◌}
+use mathlib.Core.Path.{◌≡◌, refl, sym, ap, ap₂, ◌∙◌}
 use mathlib.Core.List.{List, [], ◌∷◌, ◌++◌, append_assoc, append-nil}
-use Prim.Native.Nat.{ℕ, zero, suc, ◌-◌, ◌≤◌, ◌<◌}
+use Prim.Native.Nat.{ℕ, zero, suc, ◌+◌, ◌≤◌, ◌<◌}
+use native.Mathlib.Numerals.{add-one}
 use native.Mathlib.Omega.{arith}
-use borrow.Author.Rules.{rules}
-use lib.ListN.{length, get_or, take}
-use lib.Seq.{take-suc, take_all}
+use lib.ListN.{length, get_or, take, drop, length-drop}
+use lib.Seq.{take-suc}
+use Rattle.std.proofs.lemmas.List.{get_or-drop, take-append-drop}
 use Rattle.base.specs.Lists.{zeros}
 use Rattle.meaning.specs.Records.{joined}
 use Rattle.printed.specs.Printed.{on_bare, bare}
@@ -39,33 +40,27 @@ unfolding joined bare on_bare
 bare_joined [] = refl
 bare_joined (t ∷ ts) = bare_kept t (10 ∷ joined ts) 12 ∙ ap (λ l. t ++ (13 ∷ 10 ∷ l)) (bare_joined ts)
 
--- ---- the walk from the end, with n bytes left
+-- ---- the last byte that is no zero
 
-module _ (s : List ℕ) (n : ℕ) (h : 0 < n) (k : n ≤ length s) where
-  last_of : take n s ≡ take (n - 1) s ++ (get_or s (n - 1) 0 ∷ [])
-  last_of = let e : n ≡ suc (n - 1) = omega arith in ap (λ m. take m s) e ∙ take-suc s (n - 1) 0 (omega arith)
+-- bytes that are zeros
+all_zeros : (s : List ℕ) → ((k : ℕ) → k < length s → get_or s k 0 ≡ 0) → s ≡ zeros (length s)
+unfolding zeros
+all_zeros [] z = refl
+all_zeros (x ∷ s) z = ap₂ (λ y l. y ∷ l) (z 0 (omega arith)) (all_zeros s (λ k h. z (suc k) (omega arith)))
 
-  -- a zero is left out
-  pub bare_turn : get_or s (n - 1) 0 ≡ 0 → bare (take n s) ≡ bare s → bare (take (n - 1) s) ≡ bare s
-  bare_turn z e = sym (bare_zero (take (n - 1) s)) ∙ ap (λ x. bare (take (n - 1) s ++ (x ∷ []))) (sym z) ∙ ap bare (sym last_of) ∙ e
-
-  -- at any other byte all before it stand
-  pub bare_found : (get_or s (n - 1) 0 ≡ 0 → ⊥) → bare (take n s) ≡ bare s → take n s ≡ bare s
-  unfolding bare
-  bare_found z e = sym (ap bare last_of ∙ go (get_or s (n - 1) 0) z ∙ sym last_of) ∙ e
-    where
-      go : (x : ℕ) → (x ≡ 0 → ⊥) → bare (take (n - 1) s ++ (x ∷ [])) ≡ take (n - 1) s ++ (x ∷ [])
-      go zero f = absurd (f refl)
-      go (suc x) f = bare_kept (take (n - 1) s) [] x
-
--- all are left at the start
-pub bare_start : (s : List ℕ) → bare (take (length s) s) ≡ bare s
-bare_start s = ap bare (take_all (length s) s (omega arith))
-
--- none are left at the end
-pub bare_none : (s : List ℕ) (n : ℕ) → n ≤ 0 → bare (take n s) ≡ bare s → take n s ≡ bare s
+-- all before the last and it itself stand
+pub bare_last : (s : List ℕ) (i : ℕ) → i < length s → (get_or s i 0 ≡ 0 → ⊥) → ((k : ℕ) → i + 1 ≤ k → k < length s → get_or s k 0 ≡ 0) → take (i + 1) s ≡ bare s
 unfolding bare
-bare_none s zero h e = e
-bare_none s (suc n) h e = absurd (omega arith)
+bare_last s i h n z =
+    let after : drop (i + 1) s ≡ zeros (length (drop (i + 1) s)) = all_zeros (drop (i + 1) s) (λ k l. get_or-drop (i + 1) s k 0 ∙ z (i + 1 + k) (omega arith) (omega (arith, length-drop (i + 1) s))) in
+    let front : take (i + 1) s ≡ take i s ++ (get_or s i 0 ∷ []) = rw add-one (take-suc s i 0 h) in
+    sym (ap bare (sym (take-append-drop (i + 1) s) ∙ ap (λ l. take (i + 1) s ++ l) after) ∙ bare_zeros (take (i + 1) s) (length (drop (i + 1) s)) ∙ ap bare front ∙ kept (get_or s i 0) n ∙ sym front)
+  where
+    kept : (x : ℕ) → (x ≡ 0 → ⊥) → bare (take i s ++ (x ∷ [])) ≡ take i s ++ (x ∷ [])
+    kept zero f = absurd (f refl)
+    kept (suc x) f = bare_kept (take i s) [] x
 
-pub ruleset baring = (rules, bare_turn, bare_found, bare_start, bare_none)
+-- where there is none, nothing stands
+pub bare_nothing : (s : List ℕ) → ((k : ℕ) → k < length s → get_or s k 0 ≡ 0) → bare s ≡ []
+unfolding bare
+bare_nothing s z = ap bare (all_zeros s z) ∙ bare_zeros [] (length s)

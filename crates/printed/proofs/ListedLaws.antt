@@ -13,7 +13,7 @@ use Rattle.theory.specs.DecimalLaws.{length_dec}
 use Rattle.meaning.specs.Answers.{Numbers}
 use Rattle.meaning.specs.Program.{comma_separated, print_numbers}
 use Rattle.text.specs.Front.{in_front}
-use Rattle.text.proofs.FrontLaws.{front_same, front_then, front_room, front_last, last_room}
+use Rattle.text.proofs.FrontLaws.{front_same, front_then, front_room, front_last}
 use Rattle.text.proofs.NumberLaws.{width_most}
 use Rattle.printed.specs.Printed.{number_then, three_then}
 
@@ -65,15 +65,7 @@ three_count a b c mark n m k p q r =
 
 module _ (a b c : ℕ) (mark old new : List ℕ) (n : ℕ) (room : 62 + length mark ≤ length old) (p : n ≡ length (number_then a (44 ∷ []))) (s : n ≤ 21)
     (q : new ≡ in_front (number_then a (44 ∷ [])) old) where
-  -- the second has room
-  pub second_room : 21 ≤ length (take (length new - n) (drop n new))
-  second_room = front_room (number_then a (44 ∷ [])) old new n 21 p q (omega arith)
-
   module _ (m : ℕ) (last : List ℕ) (r : m ≡ length (number_then b (44 ∷ []))) (t : m ≤ 21) (u : last ≡ in_front (number_then b (44 ∷ [])) (take (length new - n) (drop n new))) where
-    -- and so has the third
-    pub third_room : 20 + length mark ≤ length (take (length (put_mid n (length new - n) new last) - (n + m)) (drop (n + m) (put_mid n (length new - n) new last)))
-    third_room = last_room (number_then a (44 ∷ [])) (number_then b (44 ∷ [])) [] old new last [] n m p q r u (20 + length mark) (omega arith)
-
     -- with the third all are there
     pub three_done : (end : List ℕ)
         → end ≡ in_front (number_then c mark) (take (length (put_mid n (length new - n) new last) - (n + m)) (drop (n + m) (put_mid n (length new - n) new last)))
@@ -81,7 +73,7 @@ module _ (a b c : ℕ) (mark old new : List ℕ) (n : ℕ) (room : 62 + length m
     unfolding three_then
     three_done end w = front_last (number_then a (44 ∷ [])) (number_then b (44 ∷ [])) (number_then c mark) old new last end n m p q r u w
 
-pub ruleset threefold = (rules, second_room, third_room, three_count, three_done)
+pub ruleset threefold = (rules, three_count, three_done)
 
 -- ---- all numbers of an answer
 
@@ -107,19 +99,11 @@ pub listed_count : (a : Numbers) (n m k : ℕ) → n ≡ length (told a) → m �
 listed_count a n m k p q r = omega (arith, length-append (told a) (counted a ++ placed a), length-append (counted a) (placed a), ap length (parts a))
 
 module _ (a : Numbers) (old new : List ℕ) (n : ℕ) (room : 148 ≤ length old) (p : n ≡ length (told a)) (s : n ≤ 63) (q : new ≡ in_front (told a) old) where
-  -- the counts have room
-  pub counts_room : 63 ≤ length (take (length new - n) (drop n new))
-  counts_room = front_room (told a) old new n 63 p q (omega arith)
-
   module _ (m : ℕ) (last : List ℕ) (r : m ≡ length (counted a)) (t : m ≤ 63) (u : last ≡ in_front (counted a) (take (length new - n) (drop n new))) where
-    -- and so has the place
-    pub place_room : 22 ≤ length (take (length (put_mid n (length new - n) new last) - (n + m)) (drop (n + m) (put_mid n (length new - n) new last)))
-    place_room = last_room (told a) (counted a) [] old new last [] n m p q r u 22 (omega arith)
-
     -- with it all are there
     pub listed_done : (end : List ℕ)
         → end ≡ in_front (placed a) (take (length (put_mid n (length new - n) new last) - (n + m)) (drop (n + m) (put_mid n (length new - n) new last)))
         → put_mid (n + m) (length (put_mid n (length new - n) new last) - (n + m)) (put_mid n (length new - n) new last) end ≡ in_front (print_numbers a) old
     listed_done end w = front_last (told a) (counted a) (placed a) old new last end n m p q r u w ∙ ap (λ t. in_front t old) (parts a)
 
-pub ruleset listed = (rules, listed_count, counts_room, place_room, listed_done)
+pub ruleset listed = (rules, listed_count, listed_done)

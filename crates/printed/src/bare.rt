@@ -6,12 +6,8 @@ ghost use Rattle.printed.specs.Printed.{bare};
 pub fn bare_length(s: &[u8]) -> usize
     ensures { (result ≤ length s.now) × (take result s.now ≡ bare s.now) }
 {
-    let mut n = s.len();
-    while 0 < n {
-        if s[n - 1] != 0 {
-            return n;
-        }
-        n -= 1;
+    match s.iter().rposition(|b| *b != 0) {
+        Some(last) => last + 1,
+        None => 0,
     }
-    n
 }

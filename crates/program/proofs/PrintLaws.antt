@@ -1,10 +1,12 @@
 -- The laws of what is printed.
-use mathlib.Core.Path.{◌≡◌, ap, ◌∙◌}
+use mathlib.Core.Path.{◌≡◌, refl, ap, ◌∙◌}
+use Rattle.std.specs.Prelude as std
+use Rattle.std.specs.Prelude.{Some, None, IsSome}
+use Rattle.std.specs.Borrow.{Bor}
 use mathlib.Core.Bool.{Bool, true, false, false≢true}
 use mathlib.Core.List.{List, [], ◌++◌, append-nil}
 use Prim.Native.Nat.{ℕ, ◌+◌, ◌-◌}
 use native.Mathlib.Omega.{arith}
-use borrow.Author.Rules.{rules}
 use borrow.Rule.Slice.PartMut.{put_mid}
 use lib.Dec.{leb}
 use lib.ListN.{length, take, drop, length-append}
@@ -15,20 +17,18 @@ use Rattle.meaning.specs.Holding.{written}
 use Rattle.meaning.specs.Load.{Loaded, loaded, if_undo_fits, tried, load, load_file, then_zeros}
 use Rattle.meaning.specs.Undo.{undo_bytes}
 use Rattle.meaning.specs.Program.{print_numbers, print_load, program, program_room, unusable}
-use Rattle.meaning.specs.Answers.{Answer, alone, refused_with}
+use Rattle.meaning.specs.Answers.{Answer, alone}
 use Rattle.laws.proofs.Takes.{TookSays, took_takes}
 use Rattle.laws.specs.Scottish.{scottish_regular}
 use Rattle.text.specs.Front.{in_front}
 use Rattle.text.proofs.FrontLaws.{front_then}
-use Rattle.answers.specs.Meant.{answer_of, refusal_of, refusal_meant, numbers_meant}
+use Rattle.answers.specs.Meant.{numbers_meant}
 use Rattle.answers.specs.declared.numbers.Answer.{Answer as Numbers}
-use Rattle.meaning.specs.Codes.{undo_too_long, input_unusable}
-use Rattle.answers.specs.declared.refusal.Refusal.{Refusal}
-use Rattle.answers.proofs.RefusalLaws.{refused_made}
+use Rattle.meaning.specs.Codes.{undo_too_long}
 use Rattle.loader.specs.Outcome.{Outcome}
 use Rattle.printed.specs.Printed.{bare}
 use Rattle.printed.proofs.BareLaws.{bare_zeros, bare_joined}
-use Rattle.program.specs.Outcome.{input_of}
+use Rattle.program.specs.Outcome.{input_of, read_of}
 
 -- a new holding stays whole
 abbrev Whole : Answer → Type 0
@@ -60,6 +60,10 @@ print_load_lem room undo_room old b = go (load scottish room undo_room old b) (l
     go (took new n) w = rw (bare_zeros new (room - length new), w)
     go (refused r) w = rw (bare_zeros [] room, append-nil)
 
+-- the answer that is made of an outcome is its own
+pub printed_as : (old b out undo : List ℕ) (x a : Numbers) → Outcome old b 65536 65536 x out undo → a ≡ x → Outcome old b 65536 65536 a out undo
+printed_as old b out undo x a o e = rw e o
+
 module _ (old b : List ℕ) (a : Numbers) (out undo : List ℕ) (o : Outcome old b 65536 65536 a out undo) (size : ℕ) (z : take size out ≡ bare out) where
   -- the same of the numbers and the bytes that the code has
   print_parts : print_numbers (numbers_meant a) ++ take (size - 0) (drop 0 out) ≡ print_load (load scottish 65536 65536 old b)
@@ -90,18 +94,8 @@ both_usable true false old b e f = absurd (false≢true f)
 pub print_all : (w p old new : List ℕ) (r : ℕ) → w ≡ p → r ≡ length w → new ≡ in_front w old → (r ≡ length p) × (new ≡ in_front p old)
 print_all w p old new r e q f = (q ∙ ap length e, f ∙ ap (λ t. in_front t old) e)
 
--- ---- what is refused before it is read
-
-module _ (x : Refusal) (a : Numbers) (h : x ≡ refusal_of (alone input_unusable)) (q : a ≡ answer_of (refused_with (refusal_meant x))) where
-  e : a ≡ answer_of (refused_with (alone input_unusable))
-  e = refused_made x (alone input_unusable) a q h
-
-  -- how much is printed
-  pub unusable_count : (n : ℕ) → n ≡ length (print_numbers (numbers_meant a)) → n ≡ length (print_numbers (refused_with (alone input_unusable)))
-  unusable_count n p = p ∙ ap (λ x. length (print_numbers (numbers_meant x))) e
-
-  -- and what
-  pub unusable_done : (old new : List ℕ) → new ≡ in_front (print_numbers (numbers_meant a)) old → new ≡ in_front (print_numbers (refused_with (alone input_unusable))) old
-  unusable_done old new p = p ∙ ap (λ x. in_front (print_numbers (numbers_meant x)) old) e
-
-pub ruleset unusing = (rules, unusable_count, unusable_done)
+-- so an input that is usable was read
+pub usable_some : (o : std.Option (Bor (List ℕ))) → false ≡ unusable (read_of o) → IsSome o
+unfolding unusable
+usable_some (Some b) e = refl
+usable_some None e = absurd (false≢true e)

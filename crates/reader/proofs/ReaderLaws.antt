@@ -1,27 +1,21 @@
 -- The laws of a reader's places.
-use mathlib.Core.Path.{◌≡◌, refl}
+use mathlib.Core.Path.{◌≡◌, refl, sym, ap, ap₂, ◌∙◌}
 use mathlib.Core.Bool.{Bool, true, false}
-use mathlib.Core.List.{List}
+use mathlib.Core.List.{List, [], ◌∷◌, map}
 use Prim.Native.Nat.{ℕ, ◌+◌, ◌-◌, ◌≤◌, ◌<◌}
 use native.Mathlib.Omega.{arith}
 use borrow.Author.Rules.{rules}
 use borrow.Author.Tests.{lt-ltb, le-ltb, ltb-false}
 use denote.Ref.{Bor}
 use lib.Dec.{ltb}
-use lib.ListN.{length, drop}
+use lib.ListN.{length, take, drop}
 use Rattle.base.specs.Lists.{pick}
 use Rattle.base.proofs.Walk.{at_end_lem}
+use Rattle.meaning.specs.Lines.{Line, lines_of}
 use Rattle.text.specs.Places.{line_len, line_end}
 use Rattle.text.specs.Parts.{StandsIn}
-use Rattle.reader.specs.Reading.{start_in, next_line}
-
--- what is said of a reader is said of what it was made of: its line
-pub handed_is : (f s t : Bor (List ℕ)) (at n : ℕ) → f ≡ s → at ≡ n → StandsIn t f (start_in f.now at) (line_len (drop at f.now)) → StandsIn t s (start_in s.now n) (line_len (drop n s.now))
-handed_is f s t at n e z h = rw (e, z) at h
-
--- and its place past that
-pub past_is : (f s : Bor (List ℕ)) (at n x : ℕ) → f ≡ s → at ≡ n → x ≡ next_line f.now at → x ≡ next_line s.now n
-past_is f s at n x e z h = rw (e, z) at h
+use Rattle.text.proofs.LineLaws.{lines_at, lines_end}
+use Rattle.reader.specs.Reading.{start_in, next_line, lines_left}
 
 -- past the end the line is empty
 pub line_past : (s r : Bor (List ℕ)) (at : ℕ) → length s.now < at → StandsIn r s 0 (0 - 0) → StandsIn r s (start_in s.now at) (line_len (drop at s.now))
@@ -52,15 +46,27 @@ next_last s at e h q l = rw (le-ltb (length s) at h, ← q, le-ltb e (length s) 
 
 pub ruleset past = (rules, next_past, next_more, next_last)
 
--- a reader goes on, as long as there are bytes
-next_on : (s : List ℕ) (at : ℕ) → at < length s → at < next_line s at
-unfolding next_line
-next_on s at h = rw (le-ltb (length s) at (omega arith)) (go (ltb (line_end s at) (length s)) refl)
-  where
-    go : (b : Bool) → ltb (line_end s at) (length s) ≡ b → at < pick b (line_end s at + 2) (line_end s at)
-    go true e = omega arith
-    go false e = let end : length s ≤ line_end s at = ltb-false (line_end s at) (length s) e in omega arith
+-- ---- the lines that are left
 
--- and fewer are left
-pub next_less : (s : List ℕ) (at r : ℕ) → at < length s → r ≡ next_line s at → length s - r < length s - at
-next_less s at r h e = let on : at < next_line s at = next_on s at h in omega arith
+-- past the end there are none
+pub left_none : (s : List ℕ) (at : ℕ) → length s ≤ at → lines_left s at ≡ []
+unfolding lines_left
+left_none s at h = rw (lines_end s at h)
+
+-- else the first is the one that the reader stands at
+pub left_first : (s t : Bor (List ℕ)) (line : List ℕ) (at n : ℕ) → at < length s.now → line ≡ take (line_len (drop at s.now)) (drop (start_in s.now at) s.now) → t ≡ s → n ≡ next_line s.now at
+    → lines_left s.now at ≡ line ∷ lines_left t.now n
+unfolding lines_left start_in next_line
+left_first s t line at n h e f g =
+    let here : start_in s.now at ≡ at = rw (le-ltb (length s.now) at (omega arith)) in
+    ap texts (lines_at s.now at h) ∙ ap₂ (λ x xs. x ∷ texts xs) (sym (rw here at e)) (rw f (rest (ltb (line_end s.now at) (length s.now)) refl (rw (le-ltb (length s.now) at (omega arith)) at g)))
+  where
+    texts : List Line → List (List ℕ)
+    texts ls = map (λ l. l.text) ls
+
+    rest : (b : Bool) → ltb (line_end s.now at) (length s.now) ≡ b → n ≡ pick b (line_end s.now at + 2) (line_end s.now at)
+        → lines_of (drop (at + (line_len (drop at s.now) + 2)) s.now) ≡ lines_of (drop n s.now)
+    rest true w q = ap (λ k. lines_of (drop k s.now)) (omega arith)
+    rest false w q =
+        let over : length s.now ≤ line_end s.now at = ltb-false (line_end s.now at) (length s.now) w in
+        lines_end s.now (at + (line_len (drop at s.now) + 2)) (omega arith) ∙ sym (lines_end s.now n (omega arith))

@@ -41,10 +41,8 @@ pub fn put_lines(out: &mut [u8], pos: usize, first: u64, last: u64) -> usize
     ensures { result ≤ length out.new }
 {
     let mut at = pos;
-    let mut n = first;
-    while n < last {
-        n += 1;
-        at = put_line(&mut *out, at, n);
+    for n in first..last {
+        at = put_line(&mut *out, at, n + 1);
     }
     at
 }

@@ -29,11 +29,8 @@ pub fn say_three<R: Print>(rt: &R, a: u64, b: u64, c: u64) -> io::Result<()> {
 pub fn say_numbers<R: Print>(rt: &R, a: Answer) -> io::Result<()> {
     let numbers = in_order(a);
     say_number(rt, numbers[0])?;
-    let mut i = 1;
-    while i < Answer::NUMBERS {
-        say(rt, b",")?;
-        say_number(rt, numbers[i])?;
-        i += 1;
+    for number in &numbers[1..] {
+        print!(rt; ",{number}")?;
     }
     Ok(())
 }

@@ -1,31 +1,36 @@
 -- The laws of a run: a sound file's body is read line by line, and each way out ends as the run of its changes does.
-use mathlib.Core.Path.{◌≡◌, refl, sym, ap, ◌∙◌, subst}
-use mathlib.Core.Option.{Option, none, some}
+use mathlib.Core.Path.{◌≡◌, refl, sym, ap, ap₂, ◌∙◌, subst}
+use mathlib.Core.Bool.{Bool, true, false}
+use mathlib.Core.Option.{Option, none, some, some-injective}
+use Rattle.std.specs.Prelude as std
+use Rattle.std.specs.Prelude.{Result, Ok, Err, Some, None}
 use mathlib.Core.List.{List, [], ◌∷◌, ◌++◌, append-nil, nil≢cons}
 use Prim.Native.Nat.{ℕ, suc, ◌+◌, ◌-◌, ◌*◌, ◌≤◌, ◌<◌}
 use native.Mathlib.Decide.{dec_le}
 use native.Mathlib.Nat.{lt_of_not-le}
 use native.Mathlib.Omega.{arith}
 use borrow.Author.Rules.{rules}
-use borrow.Author.Tests.{not-true, not-false, ne_eqb}
-use mir.Syntax.{w64}
-use mir.Val.{Fits}
+use borrow.Author.Tests.{lt-ltb, le-ltb}
 use lib.Dec.{T}
 use lib.ListN.{length, get_or, take, drop, set, length-set}
 use lib.Seq.{drop-drop}
-use Rattle.base.specs.Lists.{pick, all}
-use Rattle.base.specs.Tests.{and_l, and_r}
+use Rattle.base.specs.Lists.{pick, keep_if, all}
+use Rattle.base.specs.Tests.{and_l, and_r, some≢none}
 use Rattle.theory.specs.Step.{Change, after, back}
 use Rattle.theory.specs.Answer.{fault, file}
 use Rattle.theory.specs.Run as Theory
 use Rattle.theory.specs.Run.{Out, done, stop, on}
 use Rattle.meaning.specs.Lines.{lines_of, fields_of}
-use Rattle.meaning.specs.Kinds.{Role, body_line, metadata_line, role}
+use Rattle.meaning.specs.Kinds.{Kind, Role, body_line, metadata_line, role}
 use Rattle.meaning.specs.Table.{scottish}
 use Rattle.meaning.specs.Records.{Rec, keyed, op_of, change_of}
 use Rattle.meaning.specs.Holding.{is_held}
 use Rattle.meaning.specs.File.{Sheet, read_file, most_body}
-use Rattle.meaning.specs.Answers.{Read}
+use Rattle.meaning.specs.Answers.{Read, of_line, at_line}
+use Rattle.answers.specs.declared.codes.Code.{Code}
+use Rattle.answers.specs.declared.refusal.Refusal.{Refusal}
+use Rattle.answers.specs.Codes.{code_number}
+use Rattle.answers.specs.Meant.{refusal_meant}
 use Rattle.meaning.specs.Steps.{step_rules, step_code, run_steps}
 use Rattle.laws.specs.LinesAndFields.{ends_all}
 use Rattle.laws.specs.FileReadBack.{fine_c}
@@ -40,7 +45,7 @@ use Rattle.layout.specs.declared.kinds.HeldKind.{HeldKind}
 use Rattle.layout.specs.declared.kinds.Kind as code
 use Rattle.layout.specs.declared.kinds.Kind.TheVariants.{Header, Held, Metadata, Trailer}
 use Rattle.layout.specs.Meant.{held_meant, kind_meant}
-use Rattle.layout.proofs.KindLaws.{role_of, role_of_lem}
+use Rattle.layout.proofs.KindLaws.{role_of_lem}
 use Rattle.volume.specs.declared.lines.Line as read
 use Rattle.volume.specs.Meant.{change_meant}
 use Rattle.entries.specs.Entries.{rec_of, line_at}
@@ -50,12 +55,11 @@ use Rattle.places.specs.Places.{says}
 use Rattle.places.specs.Changes.{change, change_at, steps_back}
 use Rattle.places.proofs.BackLaws.{back_turn}
 use Rattle.judge.specs.declared.State.{State}
-use Rattle.judge.specs.Ready.{code_number, Ready}
+use Rattle.judge.specs.Ready.{Ready}
 use Rattle.steps.specs.declared.step.Stepped.{Stepped}
 use Rattle.steps.specs.declared.run.Ran.{Ran}
 use Rattle.steps.specs.Steps.{Carries, Steps}
-use Rattle.steps.specs.Run.{is_file, changes_of, body_from, Runs}
-use Rattle.steps.proofs.StepLaws.{code_none}
+use Rattle.steps.specs.Run.{is_file, changes_of, body_from, body_kind, body_meant, Kept, Runs}
 
 -- ---- the body of a sound file
 
@@ -134,121 +138,162 @@ go_start h f a o c steps before room s e y t p k q m =
     body : body_from (lines_of (drop (e + 2) f)) ≡ body_from (drop 1 (lines_of f))
     body = ap body_from (lines_after f 0 e q full)
 
+-- ---- the kind of a line
+
+body_told : (f : List ℕ) (at : ℕ) → at < length f → body_kind f at ≡ keep_if (is_held (role (rec_of (line_at f at)).kind)) (rec_of (line_at f at)).kind
+unfolding body_kind
+body_told f at m = rw (lt-ltb at (length f) m)
+
+-- past the end stands none
+pub kind_past : (f : List ℕ) (at : ℕ) → length f ≤ at → none ≡ body_kind f at
+unfolding body_kind
+kind_past f at m = rw (le-ltb at (length f) m)
+
+module _ (f : List ℕ) (at : ℕ) (m : at < length f) (x : code.Kind) (k : kind_meant x ≡ (rec_of (line_at f at)).kind) where
+  -- a held one stands there
+  pub kind_held : (d : HeldKind) → x ≡ Held d → some (held_meant d) ≡ body_kind f at
+  unfolding is_held keep_if
+  kind_held d e = sym (body_told f at m ∙ rw (sym k, e) (held d))
+    where
+      held : (d : HeldKind) → keep_if (is_held (role (held_meant d))) (held_meant d) ≡ some (held_meant d)
+      held d = rw (role_of_lem (Held d) (Held d) refl)
+
+  -- another is none of the body
+  pub kind_other : ((d : HeldKind) → x ≡ Held d → ⊥) → none ≡ body_kind f at
+  unfolding is_held keep_if
+  kind_other t = sym (body_told f at m ∙ rw (sym k) (other x refl))
+    where
+      other : (c : code.Kind) → x ≡ c → keep_if (is_held (role (kind_meant x))) (kind_meant x) ≡ none
+      other Header e = rw (role_of_lem x Header e)
+      other (Held d) e = absurd (t d e)
+      other Metadata e = rw (role_of_lem x Metadata e)
+      other Trailer e = rw (role_of_lem x Trailer e)
+
+module _ (f : List ℕ) (at : ℕ) (r : std.Option HeldKind) (q : body_meant r ≡ body_kind f at) where
+  -- a kind that is told is one of the body
+  pub in_body : (d : HeldKind) → r ≡ Some d → some (held_meant d) ≡ body_kind f at
+  in_body d e = sym (ap body_meant e) ∙ q
+
+  -- none is past it
+  pub no_body : r ≡ None → none ≡ body_kind f at
+  no_body e = sym (ap body_meant e) ∙ q
+
+  -- where one is told a line stands
+  pub body_inside : (d : HeldKind) → r ≡ Some d → at < length f
+  body_inside d e = elim (dec_le (length f) at) [ yes m ↦ absurd (some≢none (in_body d e ∙ sym (kind_past f at m))) | no m ↦ lt_of_not-le m ]
+
+-- ---- what a run answers, or another
+
+was_ran : Ran → Result Ran Refusal → Ran
+was_ran d (Ok r) = r
+was_ran d (Err w) = d
+
+was_refused : Refusal → Result Ran Refusal → Refusal
+was_refused d (Ok r) = d
+was_refused d (Err w) = w
+
 -- ---- each way out
 
 module _ (h f a₀ : List ℕ) (room : ℕ) (s₀ : State) (a o t steps before : List ℕ) (s : State) (at n : ℕ) (g : Going h f a₀ room s₀ a o t steps before s at n) where
-  ended : body_from (lines_of (drop at f)) ≡ [] → Runs h f a₀ a o t steps before room s₀ (record { code = 0; line = 0; state = s; steps = n; end = at })
+  ended : body_from (lines_of (drop at f)) ≡ [] → Runs h f a₀ a o t steps before room s₀ (Ok (record { state = s; steps = n; end = at }))
+  unfolding was_ran
   ended e = record {
     ended = run_nil ∙ ap (Theory.run (keyed scottish) (step_rules scottish room) (n + 2) (says h f a s.count)) (sym e) ∙ g.left;
-    ready = λ z. g.ready;
-    kept = λ z. record { few = omega (arith, g.few); backed = subst (λ cs. Backed h f a₀ s₀ a s cs steps before n) e g.backed; rest = g.rest };
+    refused = λ w z. cc;
+    ready = λ r z. subst (λ x. Ready h f a o t room x.state) (ap (was_ran (record { state = s; steps = n; end = at })) z) g.ready;
+    kept = λ r z. subst (Kept h f a₀ steps before s₀) (ap (was_ran (record { state = s; steps = n; end = at })) z) (record { few = omega (arith, g.few); backed = subst (λ cs. Backed h f a₀ s₀ a s cs steps before n) e g.backed; rest = g.rest });
   }
     where
       run_nil : done (says h f a s.count) ≡ Theory.run (keyed scottish) (step_rules scottish room) (n + 2) (says h f a s.count) []
       run_nil = unfold Theory.run in refl
 
-  -- where no line is left the run is done
-  pub go_done : (r : Ran) → r ≡ record { code = 0; line = 0; state = s; steps = n; end = at } → length f ≤ at → Runs h f a₀ a o t steps before room s₀ r
-  unfolding body_from
-  go_done r u m = rw u (ended (ap body_from (lines_end f at m)))
+  -- where no body line is left the run is done
+  pub go_done : none ≡ body_kind f at → Runs h f a₀ a o t steps before room s₀ (Ok (record { state = s; steps = n; end = at }))
+  unfolding body_kind body_from keep_if
+  go_done e = ended (elim (dec_le (length f) at) [ yes m ↦ ap body_from (lines_end f at m) | no m ↦ last (lt_of_not-le m) (is_held (role (rec_of (line_at f at)).kind)) refl ])
+    where
+      last : at < length f → (c : Bool) → is_held (role (rec_of (line_at f at)).kind) ≡ c → body_from (lines_of (drop at f)) ≡ []
+      last m true q = let z : none ≡ some (rec_of (line_at f at)).kind = e ∙ body_told f at m ∙ rw q in absurd (some≢none (sym z))
+      last m false q = unfold line_at in (ap body_from (lines_at f at m) ∙ rw q)
 
-  module _ (m : at < length f) (x : code.Kind) (k : kind_meant x ≡ (rec_of (line_at f at)).kind) where
-    body_at : (c : code.Kind) → x ≡ c → body_from (lines_of (drop at f)) ≡ pick (is_held (role_of c)) (change_at f at ∷ body_from (lines_of (drop (at + (line_len (drop at f) + 2)) f))) []
+  module _ (d : HeldKind) (u : some (held_meant d) ≡ body_kind f at) where
+    body_in : at < length f
+    body_in = elim (dec_le (length f) at) [ yes m ↦ absurd (some≢none (u ∙ sym (kind_past f at m))) | no m ↦ lt_of_not-le m ]
+
+    kept : (c : Bool) (k x : Kind) → some x ≡ keep_if c k → (c ≡ true) × (k ≡ x)
+    unfolding keep_if
+    kept true k x e = (refl, sym (some-injective x k e))
+    kept false k x e = absurd (some≢none e)
+
+    held_here : (is_held (role (rec_of (line_at f at)).kind) ≡ true) × ((rec_of (line_at f at)).kind ≡ held_meant d)
+    held_here = kept _ _ _ (u ∙ body_told f at body_in)
+
+    body_here : body_from (lines_of (drop at f)) ≡ change_at f at ∷ body_from (lines_of (drop (at + (line_len (drop at f) + 2)) f))
     unfolding body_from line_at
-    body_at c e = ap body_from (lines_at f at m) ∙ ap (λ o. pick (is_held o) (change_at f at ∷ body_from (lines_of (drop (at + (line_len (drop at f) + 2)) f))) []) (ap role (sym k) ∙ role_of_lem x c e)
+    body_here = ap body_from (lines_at f at body_in) ∙ ap (λ c. pick c (change_at f at ∷ body_from (lines_of (drop (at + (line_len (drop at f) + 2)) f))) []) held_here.0
 
-    -- where the metadata stands it is done too
-    pub go_last : (r : Ran) → r ≡ record { code = 0; line = 0; state = s; steps = n; end = at } → ((d : HeldKind) → x ≡ Held d → ⊥) → Runs h f a₀ a o t steps before room s₀ r
-    unfolding is_held
-    go_last r w t = rw w (ended (last x refl))
-      where
-        last : (c : code.Kind) → x ≡ c → body_from (lines_of (drop at f)) ≡ []
-        last Header e = body_at Header e
-        last (Held d) e = absurd (t d e)
-        last Metadata e = body_at Metadata e
-        last Trailer e = body_at Trailer e
+    fines_here : T (all (fine_c scottish) (change_at f at ∷ body_from (lines_of (drop (at + (line_len (drop at f) + 2)) f))))
+    fines_here = subst (λ cs. T (all (fine_c scottish) cs)) body_here g.fines
 
-    module _ (d : HeldKind) (u : x ≡ Held d) where
-      body_here : body_from (lines_of (drop at f)) ≡ change_at f at ∷ body_from (lines_of (drop (at + (line_len (drop at f) + 2)) f))
-      unfolding is_held
-      body_here = body_at (Held d) u
+    few_here : n + suc (length (body_from (lines_of (drop (at + (line_len (drop at f) + 2)) f)))) ≤ most_body
+    few_here = omega (arith, g.few, ap length body_here)
 
-      fines_here : T (all (fine_c scottish) (change_at f at ∷ body_from (lines_of (drop (at + (line_len (drop at f) + 2)) f))))
-      fines_here = subst (λ cs. T (all (fine_c scottish) cs)) body_here g.fines
+    -- a body line carries a sound record
+    pub go_carries : (e : ℕ) → e ≡ line_end f at → (l : read.Line) → l.kind ≡ d → change_meant l.change ≡ op_of (get_or (fields_of (take (e - at) (drop at f))) 1 []) → Carries f at l
+    go_carries e i l j c = record {
+      inside = omega (arith, body_in);
+      sound = and_l (fine_c scottish (change_at f at)) _ fines_here;
+      kinded = ap held_meant j ∙ sym held_here.1;
+      changed = c ∙ ap (λ t. op_of (get_or (fields_of t) 1 [])) (line_here_lem f at e i);
+    }
 
-      few_here : n + suc (length (body_from (lines_of (drop (at + (line_len (drop at f) + 2)) f)))) ≤ most_body
-      few_here = omega (arith, g.few, ap length body_here)
+    -- its step has a place among the steps
+    pub go_steps : n < length steps
+    go_steps = omega (arith, few_here, g.steps_space)
 
-      -- a body line carries a sound record
-      pub go_carries : (e : ℕ) → e ≡ line_end f at → (l : read.Line) → l.kind ≡ d → change_meant l.change ≡ op_of (get_or (fields_of (take (e - at) (drop at f))) 1 []) → Carries f at l
-      go_carries e i l j c = record {
-        inside = omega arith;
-        sound = and_l (fine_c scottish (change_at f at)) _ fines_here;
-        kinded = ap held_meant j ∙ ap kind_meant (sym u) ∙ k;
-        changed = c ∙ ap (λ t. op_of (get_or (fields_of t) 1 [])) (line_here_lem f at e i);
+    -- and among what stood before
+    pub go_before : n < length before
+    go_before = omega (arith, few_here, g.before_space)
+
+    module _ (b' o' t' : List ℕ) (r : Result Stepped Code) (w : Steps h f a b' o' t' room (change_at f at) s r) where
+      run_here : on (step_code scottish room (says h f a s.count) (change_at f at)) (n + 2)
+          (Theory.run (keyed scottish) (step_rules scottish room) (suc (n + 2)) (after (keyed scottish) (says h f a s.count) (change_at f at)) (body_from (lines_of (drop (at + (line_len (drop at f) + 2)) f))))
+          ≡ run_steps scottish room (says h f a₀ s₀.count) (changes_of (read_file scottish f))
+      unfolding Theory.run
+      run_here = sym (ap (Theory.run (keyed scottish) (step_rules scottish room) (n + 2) (says h f a s.count)) body_here) ∙ g.left
+
+      -- a step that is refused ends the run at its line
+      pub go_stop : (c : Code) (x : Refusal) → r ≡ Err c → refusal_meant x ≡ at_line (n + 2) (of_line (code_number c)) → Runs h f a₀ b' o' t' steps before room s₀ (Err x)
+      unfolding was_refused
+      go_stop c x z e = record {
+        ended = ap₂ stop (ap (λ p. p.line) e) (ap (λ p. p.code) e) ∙ sym (halt (step_code scottish room (says h f a s.count) (change_at f at)) (rw z at w.coded) _) ∙ run_here;
+        refused = λ y q. subst (λ p. refusal_meant p ≡ at_line p.line (of_line (code_number p.code))) (ap (was_refused x) q) (e ∙ ap₂ (λ l k. at_line l (of_line k)) (sym (ap (λ p. p.line) e)) (sym (ap (λ p. p.code) e)));
+        ready = λ m q. cc;
+        kept = λ m q. cc;
       }
+        where
+          halt : (o : Option ℕ) → some (code_number c) ≡ o → (y : Out (List Rec)) → on o (n + 2) y ≡ stop (n + 2) (code_number c)
+          halt o q y = unfold on in rw (← q)
 
-      -- its step has a place among the steps
-      pub go_steps : n < length steps
-      go_steps = omega (arith, few_here, g.steps_space)
+      -- one that is made leaves the lines after it, and what takes it back
+      pub go_turn : (v : Stepped) (e : ℕ) → r ≡ Ok v → e ≡ line_end f at → e ≤ length f → Going h f a₀ room s₀ b' o' t' (set steps n (2 * at + 1)) (set before n v.before) v.state (e + 2) (n + 1)
+      unfolding on back
+      go_turn v e z q m' =
+          let m : at < length f = body_in in
+          let x = w.left v z in
+          let i : at + (line_len (drop at f) + 2) ≡ e + 2 = omega arith in
+          let j : step_code scottish room (says h f a s.count) (change_at f at) ≡ none = sym (rw z at w.coded) in
+          let c : n + 1 + 2 ≡ suc (n + 2) = omega arith in
+          record {
+            left = rw (c, x.said, ← i) (rw j at run_here);
+            backed = rw (x.said, ← i) (back_turn h f steps before n at v.before (says h f a s.count) (body_from (lines_of (drop (at + (line_len (drop at f) + 2)) f))) _ go_steps go_before x.stood (subst (λ cs. Backed h f a₀ s₀ a s cs steps before n) body_here g.backed));
+            rest = lines_after f at e q m ∙ ap (drop 1) g.rest ∙ drop-drop 1 (n + 1) (lines_of f);
+            ready = x.ready;
+            fines = rw (← i) (and_r (fine_c scottish (change_at f at)) _ fines_here);
+            few = rw (← i) (omega (arith, few_here));
+            within = omega arith;
+            steps_space = rw length-set g.steps_space;
+            before_space = rw length-set g.before_space;
+          }
 
-      -- and among what stood before
-      pub go_before : n < length before
-      go_before = omega (arith, few_here, g.before_space)
-
-      module _ (b' o' t' : List ℕ) (r : Stepped) (w : Steps h f a b' o' t' room (change_at f at) s r) where
-        run_here : on (step_code scottish room (says h f a s.count) (change_at f at)) (n + 2)
-            (Theory.run (keyed scottish) (step_rules scottish room) (suc (n + 2)) (after (keyed scottish) (says h f a s.count) (change_at f at)) (body_from (lines_of (drop (at + (line_len (drop at f) + 2)) f))))
-            ≡ run_steps scottish room (says h f a₀ s₀.count) (changes_of (read_file scottish f))
-        unfolding Theory.run
-        run_here = sym (ap (Theory.run (keyed scottish) (step_rules scottish room) (n + 2) (says h f a s.count)) body_here) ∙ g.left
-
-        -- a step that is refused ends the run at its line
-        pub go_stop : (x : Ran) → x ≡ record { code = r.code; line = n + 2; state = s; steps = n; end = at } → (r.code ≡ 0 → ⊥) → Runs h f a₀ b' o' t' steps before room s₀ x
-        go_stop p v x = rw v (record {
-          ended = rw (ne_eqb r.code 0 x) (sym (halt (step_code scottish room (says h f a s.count) (change_at f at)) w.coded _) ∙ run_here);
-          ready = λ z. absurd (x z);
-          kept = λ z. absurd (x z);
-        })
-          where
-            halt : (o : Option ℕ) → r.code ≡ code_number o → (y : Out (List Rec)) → on o (n + 2) y ≡ stop (n + 2) r.code
-            halt none e y = absurd (x e)
-            halt (some c) e y = unfold on in ap (stop (n + 2)) (sym e)
-
-        -- one that is made leaves the lines after it, and what takes it back
-        pub go_turn : (e : ℕ) → r.code ≡ 0 → e ≡ line_end f at → e ≤ length f → Going h f a₀ room s₀ b' o' t' (set steps n (2 * at + 1)) (set before n r.before) r.state (e + 2) (n + 1)
-        unfolding on back
-        go_turn e z q m' =
-            let x = w.left z in
-            let i : at + (line_len (drop at f) + 2) ≡ e + 2 = omega arith in
-            let j = code_none room r.code (says h f a s.count) (change_at f at) w.coded z in
-            let c : n + 1 + 2 ≡ suc (n + 2) = omega arith in
-            record {
-              left = rw (c, x.said, ← i) (rw j at run_here);
-              backed = rw (x.said, ← i) (back_turn h f steps before n at r.before (says h f a s.count) (body_from (lines_of (drop (at + (line_len (drop at f) + 2)) f))) _ go_steps go_before x.stood (subst (λ cs. Backed h f a₀ s₀ a s cs steps before n) body_here g.backed));
-              rest = lines_after f at e q m ∙ ap (drop 1) g.rest ∙ drop-drop 1 (n + 1) (lines_of f);
-              ready = x.ready;
-              fines = rw (← i) (and_r (fine_c scottish (change_at f at)) _ fines_here);
-              few = rw (← i) (omega (arith, few_here));
-              within = omega arith;
-              steps_space = rw length-set g.steps_space;
-              before_space = rw length-set g.before_space;
-            }
-
-  -- steps can be counted
-  pub step_fits : Fits w64 (n + 1)
-  step_fits = record { fits = omega (arith, g.few) }
-
-  -- and lines
-  pub line_fits : Fits w64 (n + 2)
-  line_fits = record { fits = omega (arith, g.few) }
-
-  -- the next line's start can be
-  pub next_fits : (e : ℕ) → e ≤ length f → Fits w64 (e + 2)
-  next_fits e m = record { fits = omega (arith, g.ready.holds.file_short) }
-
--- the start of the second line can be counted
-pub first_fits : (h f a o t : List ℕ) (room : ℕ) (s : State) (e : ℕ) → Ready h f a o t room s → e ≤ length f → Fits w64 (e + 2)
-first_fits h f a o t room s e y m = record { fits = omega (arith, y.holds.file_short) }
-
-pub ruleset running = (rules, not-true, not-false, first_fits, go_start, go_done, go_last, go_carries, go_steps, go_before, go_stop, go_turn, step_fits, line_fits, next_fits)
+pub ruleset kinding = (rules, kind_past, kind_held, kind_other)

@@ -12,21 +12,20 @@ use mir.Val.{Fits}
 use lib.Dec.{T, leb, leb→le}
 use lib.ListN.{length, get_or, take, drop, set, length-append, length-drop, length-set}
 use lib.Seq.{length-take-le}
-use Rattle.base.specs.Lists.{all, some?, ask, at_most}
+use Rattle.base.specs.Lists.{all, some?, at_most}
 use Rattle.base.specs.ListLaws.{all_both}
 use Rattle.base.specs.Tests.{and_in, and_l, and_r, T_true, T_false}
 use Rattle.theory.specs.Fold.{all?}
 use Rattle.theory.proofs.FoldLaws.{length_put, all_put, put_all?}
 use Rattle.theory.specs.Store.{get, put, Asc}
 use Rattle.theory.specs.Refs.{meets, met}
-use Rattle.theory.specs.Step.{Op, ins, upd, del, Change, fails, passes, new, allowed, judge, after}
+use Rattle.theory.specs.Step.{Op, ins, upd, del, Change, passes, new, allowed, after}
 use Rattle.theory.proofs.StepLaws.{ok_judge, asc_after}
 use Rattle.meaning.specs.Records.{Rec, keyed, key_of, refs_of}
 use Rattle.meaning.specs.Table.{scottish}
 use Rattle.meaning.specs.Holding.{written, most_records}
-use Rattle.meaning.specs.Steps.{few, key_code, fits, step_rules, held_tests, step_code}
+use Rattle.meaning.specs.Steps.{few, fits, step_rules, held_tests, step_code}
 use Rattle.laws.specs.Body.{fine}
-use Rattle.meaning.specs.Codes.{reference_unmet, holding_too_long, too_many_records}
 use Rattle.layout.specs.Meant.{held_meant}
 use Rattle.volume.specs.declared.lines.Change as code-change
 use Rattle.volume.specs.declared.lines.Line.{Line}
@@ -47,45 +46,33 @@ use Rattle.places.proofs.CountLaws.{length_noted, count_open, count_close, count
 use Rattle.places.proofs.CountedLaws.{insert_open, insert_told, old_open, old_met, update_open, update_told, delete_told}
 use Rattle.judge.specs.declared.State.{State}
 use Rattle.judge.specs.declared.Judged.{Judged}
-use Rattle.judge.specs.Ready.{code_number, Ready, Judges}
+use Rattle.judge.specs.Ready.{Ready, Judges}
+use Rattle.answers.specs.declared.codes.Code.{Code}
+use Rattle.std.specs.Prelude.{Result, Ok, Err}
+use Rattle.theory.specs.Rank.{rank}
 use Rattle.judge.proofs.FindLaws.{get_both, found_at}
-use Rattle.judge.proofs.JudgeLaws.{ready_holds, holds_counted, holds_few, none_of}
+use Rattle.judge.proofs.JudgeLaws.{holds_counted, holds_few, none_of}
 use Rattle.steps.specs.declared.step.Stepped.{Stepped}
-use Rattle.steps.specs.Steps.{Carries, Steps}
+use Rattle.steps.specs.Steps.{Carries, Leaves, Steps}
 
--- ---- a code is never 0
+-- ---- a step that is judged
 
-abbrev Coded : Option ℕ → Type 0
-Coded none = Unit {0}
-Coded (some w) = w ≡ 0 → ⊥
+-- and not refused
+pub record Passed (h f a : List ℕ) (room : ℕ) (c : Change Rec) (s : State) (j : Judged) : Type 0 where
+  pub free : step_code scottish room (says h f a s.count) c ≡ none
+  pub placed : j.place ≡ rank numbered (key_numbers c.rec) (says h f a s.count)
+  pub within : j.place ≤ s.count
+  pub sized : j.size ≡ length (written (after (keyed scottish) (says h f a s.count) c))
 
-need_coded : (b : Bool) (w : ℕ) (o : Option ℕ) → (w ≡ 0 → ⊥) → Coded o → Coded (ask b w o)
-unfolding ask
-need_coded true w o n c = c
-need_coded false w o n c = n
+module _ (h f a : List ℕ) (room : ℕ) (c : Change Rec) (s : State) (r : Result Judged Code) (q : Judges h f a room c s r) where
+  -- as its Ok says
+  pub passed_ok : (j : Judged) → r ≡ Ok j → Passed h f a room c s j
+  passed_ok j e = let m = q.measured j e in record { free = sym (rw e at q.coded); placed = m.placed; within = m.within; sized = m.sized }
 
-op_coded : (p : Op) → key_code p ≡ 0 → ⊥
-op_coded ins e = omega arith
-op_coded upd e = omega arith
-op_coded del e = omega arith
-
-tests_coded : (room : ℕ) (st : List Rec) → Coded (fails (step_rules scottish room).tests st)
-unfolding fails
-tests_coded room st =
-    need_coded (few st) too_many_records (ask (met (keyed scottish) (refs_of scottish) st) reference_unmet (ask (fits room st) holding_too_long none)) (λ e. omega arith)
-    (need_coded (met (keyed scottish) (refs_of scottish) st) reference_unmet (ask (fits room st) holding_too_long none) (λ e. omega arith) (need_coded (fits room st) holding_too_long none (λ e. omega arith) tt))
-
-judge_coded : (room : ℕ) (st : List Rec) (c : Change Rec) → Coded (step_code scottish room st c)
-unfolding judge
-judge_coded room st c = need_coded (allowed c.op (get (keyed scottish) (key_of scottish c.rec) st)) (key_code c.op) (fails (step_rules scottish room).tests (after (keyed scottish) st c)) (op_coded c.op) (tests_coded room (after (keyed scottish) st c))
-
-zero_none : (o : Option ℕ) → Coded o → code_number o ≡ 0 → o ≡ none
-zero_none none c e = refl
-zero_none (some w) c e = absurd (c e)
-
--- code 0 is no refusal
-pub code_none : (room w : ℕ) (st : List Rec) (c : Change Rec) → w ≡ code_number (step_code scottish room st c) → w ≡ 0 → step_code scottish room st c ≡ none
-code_none room w st c e z = zero_none (step_code scottish room st c) (judge_coded room st c) (sym e ∙ z)
+-- what is left, or another
+was_left : Stepped → Result Stepped Code → Stepped
+was_left d (Ok n) = n
+was_left d (Err w) = d
 
 -- references that are met by keys are met by numbers
 met_told : (st : List Rec) → T (all (fine scottish) st) → T (met (keyed scottish) (refs_of scottish) st) → T (all (meets numbered ref_numbers st) st)
@@ -120,13 +107,9 @@ module _ (h f a o t : List ℕ) (room v : ℕ) (s : State) (y : Ready h f a o t 
   counted_now : s.count ≡ length (says h f a s.count)
   counted_now = holds_counted h f a o room s y.holds
 
-  -- a step that is refused leaves everything as it was
-  pub step_refused : (p : Op) (r : Stepped) → Judges h f a room (change p (record_of h f v)) s j → (j.code ≡ 0 → ⊥) → r ≡ record { code = j.code; state = s; before = v } → Steps h f a a o t room (change p (record_of h f v)) s r
-  step_refused p r q n e = rw e (record { coded = q.coded; left = λ z. absurd (n z) })
-
-  module _ (p : Op) (q : Judges h f a room (change p (record_of h f v)) s j) (z : j.code ≡ 0) where
+  module _ (p : Op) (q : Passed h f a room (change p (record_of h f v)) s j) where
     passed : T (allowed p (get (keyed scottish) (key_of scottish (record_of h f v)) (says h f a s.count))) × T (passes (step_rules scottish room).tests (after (keyed scottish) (says h f a s.count) (change p (record_of h f v))))
-    passed = ok_judge (keyed scottish) (step_rules scottish room) (says h f a s.count) (change p (record_of h f v)) (code_none room j.code (says h f a s.count) (change p (record_of h f v)) q.coded z)
+    passed = ok_judge (keyed scottish) (step_rules scottish room) (says h f a s.count) (change p (record_of h f v)) q.free
 
     few_after_lem : T (few (after (keyed scottish) (says h f a s.count) (change p (record_of h f v))))
     few_after_lem = and_l (few (after (keyed scottish) (says h f a s.count) (change p (record_of h f v)))) _ passed.1
@@ -157,17 +140,18 @@ module _ (h f a o t : List ℕ) (room v : ℕ) (s : State) (y : Ready h f a o t 
 
     stepped : (b c d : List ℕ) (m u : ℕ) → says h f b m ≡ after (keyed scottish) (says h f a s.count) (change p (record_of h f v)) → Ordered h f b c m → take m d ≡ by_key (tally (says h f b m)) (says h f b m)
         → length b ≡ length a → length c ≡ length o → length d ≡ length t → record_of h f u ≡ Option.get_or (get (keyed scottish) (key_of scottish (record_of h f v)) (says h f a s.count)) (record_of h f v)
-        → Steps h f a b c d room (change p (record_of h f v)) s (record { code = 0; state = record { count = m; size = j.size }; before = u })
+        → Steps h f a b c d room (change p (record_of h f v)) s (Ok (record { state = record { count = m; size = j.size }; before = u }))
+    unfolding was_left
     stepped b c d m u e i k l n w r = record {
-      coded = sym z ∙ q.coded;
-      left = λ x. record {
+      coded = sym q.free;
+      left = λ x z. subst (Leaves h f a b c d room (change p (record_of h f v)) s) (ap (was_left (record { state = record { count = m; size = j.size }; before = u })) z) (record {
         said = e;
         ready = record {
           holds = record {
             ordered = i;
             pass = subst (λ x. T (passes (held_tests scottish) x)) (sym e) (and_in (few (after (keyed scottish) (says h f a s.count) (change p (record_of h f v)))) _ few_after_lem (and_in (met (keyed scottish) (refs_of scottish) (after (keyed scottish) (says h f a s.count) (change p (record_of h f v)))) true met_after_lem tt));
-            sized = q.sized z ∙ ap (λ x. length (written x)) (sym e);
-            fits = omega (arith, q.sized z, fits_after);
+            sized = q.sized ∙ ap (λ x. length (written x)) (sym e);
+            fits = omega (arith, q.sized, fits_after);
             room_short = y.holds.room_short;
             held_short = y.holds.held_short;
             file_short = y.holds.file_short;
@@ -178,7 +162,7 @@ module _ (h f a o t : List ℕ) (room v : ℕ) (s : State) (y : Ready h f a o t 
           count_space = omega (arith, w, y.count_space);
         };
         stood = r;
-      };
+      });
     }
 
     meets_after : T (all (meets numbered ref_numbers (after (keyed scottish) (says h f a s.count) (change p (record_of h f v)))) (after (keyed scottish) (says h f a s.count) (change p (record_of h f v))))
@@ -220,9 +204,9 @@ module _ (h f a o t : List ℕ) (room v : ℕ) (s : State) (y : Ready h f a o t 
 
   -- ---- insert
 
-  module _ (q : Judges h f a room (change ins (record_of h f v)) s j) (z : j.code ≡ 0) where
+  module _ (q : Passed h f a room (change ins (record_of h f v)) s j) where
     ins_none : get (keyed scottish) (key_of scottish (record_of h f v)) (says h f a s.count) ≡ none
-    ins_none = none_of (get (keyed scottish) (key_of scottish (record_of h f v)) (says h f a s.count)) (T_false _ (passed ins q z).0)
+    ins_none = none_of (get (keyed scottish) (key_of scottish (record_of h f v)) (says h f a s.count)) (T_false _ (passed ins q).0)
 
     ins_count : length (after (keyed scottish) (says h f a s.count) (change ins (record_of h f v))) ≡ s.count + 1
     unfolding after
@@ -232,13 +216,9 @@ module _ (h f a o t : List ℕ) (room v : ℕ) (s : State) (y : Ready h f a o t 
     pub ins_place : j.place ≤ s.count
     ins_place = q.within
 
-    -- one record more can be counted
-    pub ins_fits : Fits w64 (s.count + 1)
-    ins_fits = record { fits = omega (arith, few_now) }
-
     ins_few : s.count < most_records
     unfolding at_most
-    ins_few = omega (arith, ins_count, leb→le (length (after (keyed scottish) st (change ins x))) most_records (few_after_lem ins q z))
+    ins_few = omega (arith, ins_count, leb→le (length (after (keyed scottish) st (change ins x))) most_records (few_after_lem ins q))
 
     -- there is room for one entry more
     pub ins_in : s.count < length a
@@ -259,7 +239,7 @@ module _ (h f a o t : List ℕ) (room v : ℕ) (s : State) (y : Ready h f a o t 
     unfolding after
     ins_says =
         put_says h f a (key_numbers (record_of h f v)) s.count j.place q.placed v ins_in q.within ins_get
-        ∙ put_both ins q z (some (record_of h f v))
+        ∙ put_both ins q (some (record_of h f v))
 
     module _ (b : List ℕ) (e : b ≡ opened a s.count j.place v) (i : ℕ) (m : i ≡ tag_of (key_numbers x)) (c : List ℕ) (n : c ≡ opened o s.count j.place i) (u : List ℕ) (w : u ≡ opened t s.count j.place 0) where
       ins_put : says h f b (s.count + 1) ≡ put numbered (key_numbers x) (some x) st
@@ -273,7 +253,7 @@ module _ (h f a o t : List ℕ) (room v : ℕ) (s : State) (y : Ready h f a o t 
 
       ins_ordered : Ordered h f b c (s.count + 1)
       ins_ordered =
-          ordered_next ins q z b c (s.count + 1) ins_said (sym ins_count) ins_long
+          ordered_next ins q b c (s.count + 1) ins_said (sym ins_count) ins_long
           (ap (take (s.count + 1)) n ∙ count_open tag_of o (key_numbers x) st s.count j.place y.holds.ordered.tagged q.placed x i ins_tags q.within ins_get (sym m) ∙ ap (by_key tag_of) (sym ins_put))
 
       -- its references can be counted in
@@ -286,13 +266,13 @@ module _ (h f a o t : List ℕ) (room v : ℕ) (s : State) (y : Ready h f a o t 
 
       ins_meets : T (meets numbered ref_numbers (put numbered (key_numbers x) (some x) st) x)
       unfolding after
-      ins_meets = rw (put_both ins q z (some x)) (put_all? (keyed scottish) (meets numbered ref_numbers (put (keyed scottish) (key_of scottish x) (some x) st)) (key_of scottish x) (some x) st (meets_after ins q z))
+      ins_meets = rw (put_both ins q (some x)) (put_all? (keyed scottish) (meets numbered ref_numbers (put (keyed scottish) (key_of scottish x) (some x) st)) (key_of scottish x) (some x) st (meets_after ins q))
 
       -- an entry more at its place, and its references counted in
-      pub ins_step : (d : List ℕ) (k : Bool) → Notes true (says h f b (s.count + 1)) x u d k → Steps h f a b c d room (change ins x) s (record { code = 0; state = record { count = s.count + 1; size = j.size }; before = v })
+      pub ins_step : (d : List ℕ) (k : Bool) → Notes true (says h f b (s.count + 1)) x u d k → Steps h f a b c d room (change ins x) s (Ok (record { state = record { count = s.count + 1; size = j.size }; before = v }))
       ins_step d k r =
           let p : d ≡ noted_all true (put numbered (key_numbers x) (some x) st) (opened t s.count j.place 0) (ref_numbers x) = r.noted (r.met ∙ T_true _ (subst (λ l. T (meets numbered ref_numbers l x)) (sym ins_put) ins_meets)) ∙ rw (ins_put, w) in
-          stepped ins q z b c d (s.count + 1) v ins_said ins_ordered
+          stepped ins q b c d (s.count + 1) v ins_said ins_ordered
           (said_told b d (s.count + 1) (put numbered (key_numbers x) (some x) st) ins_put (ap (take (s.count + 1)) p ∙ insert_told st s.count t counted_now asc_now met_now few_now y.counted x j.place q.placed ins_get ins_counts q.within ins_meets))
           ins_long (ap length n ∙ length_opened o s.count j.place i q.within ins_tags)
           (ap length p ∙ length_noted true (put numbered (key_numbers x) (some x) st) (ref_numbers x) (opened t s.count j.place 0) ∙ length_opened t s.count j.place 0 q.within ins_counts)
@@ -300,26 +280,26 @@ module _ (h f a o t : List ℕ) (room v : ℕ) (s : State) (y : Ready h f a o t 
 
   -- ---- update
 
-  module _ (q : Judges h f a room (change upd (record_of h f v)) s j) (z : j.code ≡ 0) where
+  module _ (q : Passed h f a room (change upd (record_of h f v)) s j) where
     upd_count : length (after (keyed scottish) (says h f a s.count) (change upd (record_of h f v))) ≡ s.count
     unfolding after
-    upd_count = omega (arith, rw (found_key upd q z (passed upd q z).0) at (length_put (keyed scottish) (key_of scottish (record_of h f v)) (some (record_of h f v)) (says h f a s.count)), counted_now)
+    upd_count = omega (arith, rw (found_key upd q (passed upd q).0) at (length_put (keyed scottish) (key_of scottish (record_of h f v)) (some (record_of h f v)) (says h f a s.count)), counted_now)
 
     -- the entry is in the array
     pub upd_in : j.place < length a
-    upd_in = omega (arith, found_in upd q z (passed upd q z).0, y.holds.ordered.within)
+    upd_in = omega (arith, found_in upd q (passed upd q).0, y.holds.ordered.within)
 
     upd_says : says h f (set a j.place v) s.count ≡ after (keyed scottish) (says h f a s.count) (change upd (record_of h f v))
     unfolding after
     upd_says =
-        set_says h f a (key_numbers (record_of h f v)) s.count j.place q.placed (record_of h f (get_or a j.place 0)) y.holds.ordered.within (found_in upd q z (passed upd q z).0) (found upd q z (passed upd q z).0) v
-        ∙ put_both upd q z (some (record_of h f v))
+        set_says h f a (key_numbers (record_of h f v)) s.count j.place q.placed (record_of h f (get_or a j.place 0)) y.holds.ordered.within (found_in upd q (passed upd q).0) (found upd q (passed upd q).0) v
+        ∙ put_both upd q (some (record_of h f v))
 
     abbrev old : Rec
     old = record_of h f (get_or a j.place 0)
 
     upd_get : get numbered (key_numbers x) st ≡ some old
-    upd_get = found upd q z (passed upd q z).0
+    upd_get = found upd q (passed upd q).0
 
     -- the references of the record that stood there can be counted out
     pub upd_asked : Ordered h f a o s.count × (s.count ≤ length t) × Open false st t (ref_numbers old)
@@ -333,10 +313,10 @@ module _ (h f a o t : List ℕ) (room v : ℕ) (s : State) (y : Ready h f a o t 
       upd_long = ap length upd_out ∙ length_noted false st (ref_numbers old) t
 
       upd_put : says h f (set a j.place v) s.count ≡ put numbered (key_numbers x) (some x) st
-      upd_put = set_says h f a (key_numbers x) s.count j.place q.placed old y.holds.ordered.within (found_in upd q z (passed upd q z).0) upd_get v
+      upd_put = set_says h f a (key_numbers x) s.count j.place q.placed old y.holds.ordered.within (found_in upd q (passed upd q).0) upd_get v
 
       upd_ordered : Ordered h f (set a j.place v) o s.count
-      upd_ordered = ordered_next upd q z (set a j.place v) o s.count upd_says (sym upd_count) (length-set a j.place v) (y.holds.ordered.tagged ∙ sym (ap (by_key tag_of) upd_put ∙ count_same tag_of x old st upd_get))
+      upd_ordered = ordered_next upd q (set a j.place v) o s.count upd_says (sym upd_count) (length-set a j.place v) (y.holds.ordered.tagged ∙ sym (ap (by_key tag_of) upd_put ∙ count_same tag_of x old st upd_get))
 
       -- then those of the new one in
       pub upd_asked_new : Ordered h f (set a j.place v) o s.count × (s.count ≤ length u) × Open true (says h f (set a j.place v) s.count) u (ref_numbers x)
@@ -348,25 +328,25 @@ module _ (h f a o t : List ℕ) (room v : ℕ) (s : State) (y : Ready h f a o t 
 
       upd_meets : T (meets numbered ref_numbers (put numbered (key_numbers x) (some x) st) x)
       unfolding after
-      upd_meets = rw (put_both upd q z (some x)) (put_all? (keyed scottish) (meets numbered ref_numbers (put (keyed scottish) (key_of scottish x) (some x) st)) (key_of scottish x) (some x) st (meets_after upd q z))
+      upd_meets = rw (put_both upd q (some x)) (put_all? (keyed scottish) (meets numbered ref_numbers (put (keyed scottish) (key_of scottish x) (some x) st)) (key_of scottish x) (some x) st (meets_after upd q))
 
       -- another entry at its place, the old references counted out and the new ones in
       pub upd_step : (d : List ℕ) (p : Bool) → Notes true (says h f (set a j.place v) s.count) x u d p
-          → Steps h f a (set a j.place v) o d room (change upd x) s (record { code = 0; state = record { count = s.count; size = j.size }; before = get_or a j.place 0 })
+          → Steps h f a (set a j.place v) o d room (change upd x) s (Ok (record { state = record { count = s.count; size = j.size }; before = get_or a j.place 0 }))
       upd_step d p w =
           let c : d ≡ noted_all true (put numbered (key_numbers x) (some x) st) (noted_all false st t (ref_numbers old)) (ref_numbers x) = w.noted (w.met ∙ T_true _ (subst (λ l. T (meets numbered ref_numbers l x)) (sym upd_put) upd_meets)) ∙ rw (upd_put, upd_out) in
-          stepped upd q z (set a j.place v) o d s.count (get_or a j.place 0) upd_says upd_ordered
+          stepped upd q (set a j.place v) o d s.count (get_or a j.place 0) upd_says upd_ordered
           (said_told (set a j.place v) d s.count (put numbered (key_numbers x) (some x) st) upd_put (ap (take s.count) c ∙ update_told st s.count t counted_now asc_now met_now few_now y.counted x j.place q.placed old upd_get upd_meets))
           (length-set a j.place v) refl
           (ap length c ∙ length_noted true (put numbered (key_numbers x) (some x) st) (ref_numbers x) (noted_all false st t (ref_numbers old)) ∙ length_noted false st (ref_numbers old) t)
-          (rw (found_key upd q z (passed upd q z).0))
+          (rw (found_key upd q (passed upd q).0))
 
   -- ---- delete
 
-  module _ (q : Judges h f a room (change del (record_of h f v)) s j) (z : j.code ≡ 0) where
+  module _ (q : Passed h f a room (change del (record_of h f v)) s j) where
     -- the entry is one of those that count
     pub del_place : j.place < s.count
-    del_place = found_in del q z (passed del q z).0
+    del_place = found_in del q (passed del q).0
 
     -- it is in the array
     pub del_in : j.place < length a
@@ -382,19 +362,19 @@ module _ (h f a o t : List ℕ) (room v : ℕ) (s : State) (y : Ready h f a o t 
 
     del_count : length (after (keyed scottish) (says h f a s.count) (change del (record_of h f v))) + 1 ≡ s.count
     unfolding after
-    del_count = omega (arith, rw (found_key del q z (passed del q z).0) at (length_put (keyed scottish) (key_of scottish (record_of h f v)) none (says h f a s.count)), counted_now)
+    del_count = omega (arith, rw (found_key del q (passed del q).0) at (length_put (keyed scottish) (key_of scottish (record_of h f v)) none (says h f a s.count)), counted_now)
 
     del_says : says h f (closed a s.count j.place) (s.count - 1) ≡ after (keyed scottish) (says h f a s.count) (change del (record_of h f v))
     unfolding after
     del_says =
-        close_says h f a (key_numbers (record_of h f v)) s.count j.place q.placed (record_of h f (get_or a j.place 0)) y.holds.ordered.within del_place (found del q z (passed del q z).0)
-        ∙ put_both del q z none
+        close_says h f a (key_numbers (record_of h f v)) s.count j.place q.placed (record_of h f (get_or a j.place 0)) y.holds.ordered.within del_place (found del q (passed del q).0)
+        ∙ put_both del q none
 
     abbrev gone : Rec
     gone = record_of h f (get_or a j.place 0)
 
     del_get : get numbered (key_numbers x) st ≡ some gone
-    del_get = found del q z (passed del q z).0
+    del_get = found del q (passed del q).0
 
     -- the references of the record that goes can be counted out
     pub del_asked : Ordered h f a o s.count × (s.count ≤ length t) × Open false st t (ref_numbers gone)
@@ -417,26 +397,20 @@ module _ (h f a o t : List ℕ) (room v : ℕ) (s : State) (y : Ready h f a o t 
 
       -- closed up over its place, its tag and its count
       pub del_step : (b m d : List ℕ) → b ≡ closed a s.count j.place → m ≡ closed o s.count j.place → d ≡ closed u s.count j.place
-          → Steps h f a b m d room (change del x) s (record { code = 0; state = record { count = s.count - 1; size = j.size }; before = get_or a j.place 0 })
+          → Steps h f a b m d room (change del x) s (Ok (record { state = record { count = s.count - 1; size = j.size }; before = get_or a j.place 0 }))
       del_step b m d e i w =
           let c : d ≡ closed (noted_all false st t (ref_numbers gone)) s.count j.place = w ∙ ap (λ l. closed l s.count j.place) del_out in
           let p : says h f b (s.count - 1) ≡ put numbered (key_numbers x) none st = ap (λ l. says h f l (s.count - 1)) e ∙ del_put in
           let n : s.count ≤ length (noted_all false st t (ref_numbers gone)) = omega (arith, del_counts, ap length del_out) in
           let long : length b ≡ length a = ap length e ∙ length_closed a s.count j.place del_place del_all in
           let said : says h f b (s.count - 1) ≡ after (keyed scottish) st (change del x) = ap (λ l. says h f l (s.count - 1)) e ∙ del_says in
-          stepped del q z b m d (s.count - 1) (get_or a j.place 0) said
-          (ordered_next del q z b m (s.count - 1) said (omega (arith, del_count)) long
+          stepped del q b m d (s.count - 1) (get_or a j.place 0) said
+          (ordered_next del q b m (s.count - 1) said (omega (arith, del_count)) long
           (ap (take (s.count - 1)) i ∙ count_close tag_of o (key_numbers x) st s.count j.place y.holds.ordered.tagged q.placed gone del_tags del_place del_get ∙ ap (by_key tag_of) (sym p)))
           (said_told b d (s.count - 1) (put numbered (key_numbers x) none st) p (ap (take (s.count - 1)) c ∙ delete_told st s.count t counted_now asc_now met_now few_now y.counted x j.place q.placed gone del_get n del_place))
           long (ap length i ∙ length_closed o s.count j.place del_place del_tags)
           (ap length w ∙ length_closed u s.count j.place del_place del_counts ∙ ap length del_out ∙ length_noted false st (ref_numbers gone) t)
-          (rw (found_key del q z (passed del q z).0))
-
-pub ruleset inserted = (rules, ready_holds, step_refused, ins_in, ins_place, ins_fits, ins_tags, ins_counts, ins_step)
-
-pub ruleset updated = (rules, ready_holds, step_refused, upd_in, upd_step)
-
-pub ruleset deleted = (rules, step_refused, del_place, del_in, del_all, del_one, del_tags, del_counts, del_step)
+          (rw (found_key del q (passed del q).0))
 
 -- ---- by kind, and by change
 
@@ -469,7 +443,7 @@ module _ (h f : List ℕ) (at : ℕ) (l : Line) (q : Carries f at l) where
   line_key k e = e ∙ ap key_numbers (sym filed)
 
   -- the line's change is made
-  pub step_made : (a b o t : List ℕ) (room : ℕ) (s : State) (r : Stepped) (k : code-change.Change) → l.change ≡ k → Steps h f a b o t room (change (change_meant k) (record_of h f (2 * at + 1))) s r → Steps h f a b o t room (change_at f at) s r
+  pub step_made : (a b o t : List ℕ) (room : ℕ) (s : State) (r : Result Stepped Code) (k : code-change.Change) → l.change ≡ k → Steps h f a b o t room (change (change_meant k) (record_of h f (2 * at + 1))) s r → Steps h f a b o t room (change_at f at) s r
   step_made a b o t room s r k e u = subst (λ c. Steps h f a b o t room c s r) (ap₂ change (ap change_meant (sym e) ∙ q.changed) filed) u
 
 pub ruleset stepping = (rules, twice_fits, odd_fits, line_in, line_kind, step_made)

@@ -1,5 +1,5 @@
 -- What a step leaves, and what the line of a step carries.
-use Rattle.std.specs.Prelude.{◌≡◌, List, ℕ, ◌≤◌, T, length}
+use Rattle.std.specs.Prelude.{◌≡◌, List, ℕ, ◌≤◌, T, length, Result, Ok}
 use Rattle.std.proofs.Math.Option.{get_or}
 use Rattle.theory.specs.Store.{get}
 use Rattle.theory.specs.Step.{Change, after}
@@ -7,6 +7,7 @@ use Rattle.meaning.specs.Table.{scottish}
 use Rattle.meaning.specs.Records.{Rec, keyed, key_of}
 use Rattle.meaning.specs.Steps.{step_code}
 use Rattle.laws.specs.Body.{fine}
+use Rattle.answers.specs.declared.codes.Code.{Code}
 use Rattle.layout.specs.Meant.{held_meant}
 use Rattle.volume.specs.Meant.{change_meant}
 use Rattle.volume.specs.declared.lines.Line.{Line}
@@ -14,7 +15,7 @@ use Rattle.entries.specs.Entries.{record_of}
 use Rattle.places.specs.Places.{says}
 use Rattle.places.specs.Changes.{change_at}
 use Rattle.judge.specs.declared.State.{State}
-use Rattle.judge.specs.Ready.{code_number, Ready}
+use Rattle.judge.specs.Ready.{code_found, Ready}
 use Rattle.steps.specs.declared.step.Stepped.{Stepped}
 
 -- the array says the state after the change, ready for the next, and the entry before is of what stood at the key, or of the change's own
@@ -23,10 +24,10 @@ pub record Leaves (h f a b g t : List ℕ) (room : ℕ) (c : Change Rec) (s : St
   pub ready : Ready h f b g t room r.state
   pub stood : record_of h f r.before ≡ get_or (get (keyed scottish) (key_of scottish c.rec) (says h f a s.count)) c.rec
 
--- a step: its code, and where that is 0 what it leaves
-pub record Steps (h f a b g t : List ℕ) (room : ℕ) (c : Change Rec) (s : State) (r : Stepped) : Type 0 where
-  pub coded : r.code ≡ code_number (step_code scottish room (says h f a s.count) c)
-  pub left : r.code ≡ 0 → Leaves h f a b g t room c s r
+-- a step: its code, or where it is not refused what it leaves
+pub record Steps (h f a b g t : List ℕ) (room : ℕ) (c : Change Rec) (s : State) (r : Result Stepped Code) : Type 0 where
+  pub coded : code_found r ≡ step_code scottish room (says h f a s.count) c
+  pub left : (n : Stepped) → r ≡ Ok n → Leaves h f a b g t room c s n
 
 -- the line at `at` carries a sound record, and its kind and change are those that were read
 pub record Carries (f : List ℕ) (at : ℕ) (l : Line) : Type 0 where

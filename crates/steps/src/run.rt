@@ -3,36 +3,34 @@ ghost use Rattle.std.specs.Prelude.{◌≡◌, ◌≤◌, T, length};
 ghost use Rattle.meaning.specs.Table.{scottish};
 ghost use Rattle.meaning.specs.File.{read_file, most_body};
 ghost use Rattle.judge.specs.Ready.{Ready};
-ghost use Rattle.steps.specs.Run.{is_file, Runs};
+ghost use Rattle.steps.specs.Run.{is_file, body_kind, body_meant, Runs};
 
 use crate::step::step;
+use answers::refusal::Refusal;
 use entries::record::record_kind;
 use judge::State;
-use layout::kinds::Kind;
+use layout::kinds::{HeldKind, Kind};
 use text::lines::line_end;
 use volume::lines::known;
 
-// The code and line of the first step that is refused, or two zeros and the state after the last; how many steps were made, and
-// where the line after them starts.
-#[derive(Clone, Copy)]
+// The state after the last step, how many steps were made, and where the line after them starts.
+#[derive(Clone, Copy, Debug, PartialEq, Eq)]
 pub struct Ran {
-    pub code: u64,
-    pub line: usize,
     pub state: State,
     pub steps: usize,
     pub end: usize,
 }
 
-// How a run ended.
-fn ended(code: u64, line: usize, state: State, steps: usize, end: usize) -> Ran
-    ensures { result ≡ record { code = code; line = line; state = state; steps = steps; end = end } }
+// The kind of the body line at `at`; none past the body.
+fn body_kind(file: &[u8], at: usize) -> Option<HeldKind>
+    ensures { body_meant result ≡ body_kind file.now at }
 {
-    Ran {
-        code,
-        line,
-        state,
-        steps,
-        end,
+    if file.len() <= at {
+        return None;
+    }
+    match record_kind(file, at) {
+        Kind::Held(kind) => Some(kind),
+        _ => None,
     }
 }
 
@@ -48,19 +46,16 @@ pub fn run(
     before: &mut [u64],
     start: State,
     room: usize,
-) -> Ran
+) -> Result<Ran, Refusal>
     requires { Ready holding.now file.now places.old tags.old counts.old room start × T (is_file (read_file scottish file.now)) × (most_body ≤ length steps.old) × (most_body ≤ length before.old) }
     ensures { Runs holding.now file.now places.old places.new tags.new counts.new steps.new before.new room start result }
 {
     let mut at = line_end(file, 0) + 2;
     let mut made = 0;
     let mut state = start;
-    while at < file.len() {
+    while let Some(kind) = body_kind(file, at) {
         let end = line_end(file, at);
-        let Kind::Held(kind) = record_kind(file, at) else {
-            return ended(0, 0, state, made, at);
-        };
-        let stepped = step(
+        let stepped = match step(
             holding,
             file,
             at,
@@ -70,16 +65,19 @@ pub fn run(
             &mut *counts,
             state,
             room,
-        );
-        let code = stepped.code;
-        if code != 0 {
-            return ended(code, made + 2, state, made, at);
-        }
+        ) {
+            Ok(stepped) => stepped,
+            Err(code) => return Err(Refusal::of_line(made as u64 + 2, code)),
+        };
         steps[made] = 2 * (at as u64) + 1;
         before[made] = stepped.before;
         state = stepped.state;
         at = end + 2;
         made += 1;
     }
-    ended(0, 0, state, made, at)
+    Ok(Ran {
+        state,
+        steps: made,
+        end: at,
+    })
 }

@@ -9,34 +9,22 @@ ghost use Rattle.places.specs.Changes.{change, change_at};
 ghost use Rattle.judge.specs.Ready.{Ready};
 ghost use Rattle.steps.specs.Steps.{Carries, Steps};
 
+use answers::codes::Code;
 use entries::key::line_key;
 use entries::tags::entry_tag;
-use judge::{State, judge_delete, judge_insert, judge_update};
+use judge::{Judged, State, judge_delete, judge_insert, judge_update};
 use keys::Key;
 use layout::kinds::HeldKind;
 use layout::records::{AppXref, Blpu, Lpi, Street, StreetXref};
-use places::counts;
 use places::counts::note;
 use places::moves::{close, open};
 use volume::lines::{Change, Line};
 
-// The code, or 0, the state after the step, and the entry that stood at the key, or the step's own where none did.
-#[derive(Clone, Copy)]
+// The state after a step, and the entry that stood at its key, or the step's own where none did.
+#[derive(Clone, Copy, Debug, PartialEq, Eq)]
 pub struct Stepped {
-    pub code: u64,
     pub state: State,
     pub before: u64,
-}
-
-// A step that changes nothing, as one that is refused does.
-fn unchanged(code: u64, state: State, entry: u64) -> Stepped
-    ensures { result ≡ record { code = code; state = state; before = entry } }
-{
-    Stepped {
-        code,
-        state,
-        before: entry,
-    }
 }
 
 // An insert of an entry's record.
@@ -50,28 +38,22 @@ fn insert(
     key: Key,
     state: State,
     room: usize,
-) -> Stepped
+) -> Result<Stepped, Code>
     requires { Ready holding.now file.now places.old tags.old counts.old room state × T (fine scottish (record_of holding.now file.now entry)) × (key_list key ≡ key_numbers (record_of holding.now file.now entry)) }
     ensures { Steps holding.now file.now places.old places.new tags.new counts.new room (change ins (record_of holding.now file.now entry)) state result }
 {
-    let judged = judge_insert(holding, file, places, tags, entry, key, state, room);
-    let code = judged.code;
-    let i = judged.place;
-    let size = judged.size;
-    if code != 0 {
-        return unchanged(code, state, entry);
-    }
+    let judged = judge_insert(holding, file, places, tags, entry, key, state, room)?;
+    let Judged { place, size } = judged;
     let count = state.count;
     let next = count + 1;
-    open(&mut *places, count, i, entry);
-    open(&mut *tags, count, i, entry_tag(holding, file, entry));
-    counts::open(&mut *counts, count, i, 0);
+    open(&mut *places, count, place, entry);
+    open(&mut *tags, count, place, entry_tag(holding, file, entry));
+    open(&mut *counts, count, place, 0);
     note(holding, file, places, tags, &mut *counts, next, entry, true);
-    Stepped {
-        code: 0,
+    Ok(Stepped {
         state: State { count: next, size },
         before: entry,
-    }
+    })
 }
 
 // An update to an entry's record.
@@ -85,21 +67,16 @@ fn update(
     key: Key,
     state: State,
     room: usize,
-) -> Stepped
+) -> Result<Stepped, Code>
     requires { Ready holding.now file.now places.old tags.now counts.old room state × T (fine scottish (record_of holding.now file.now entry)) × (key_list key ≡ key_numbers (record_of holding.now file.now entry)) }
     ensures { Steps holding.now file.now places.old places.new tags.now counts.new room (change upd (record_of holding.now file.now entry)) state result }
 {
-    let judged = judge_update(holding, file, places, tags, entry, key, state, room);
-    let code = judged.code;
-    let i = judged.place;
-    let size = judged.size;
-    if code != 0 {
-        return unchanged(code, state, entry);
-    }
+    let judged = judge_update(holding, file, places, tags, entry, key, state, room)?;
+    let Judged { place, size } = judged;
     let count = state.count;
-    let old = places[i];
+    let old = places[place];
     note(holding, file, places, tags, &mut *counts, count, old, false);
-    places[i] = entry;
+    places[place] = entry;
     note(
         holding,
         file,
@@ -110,11 +87,10 @@ fn update(
         entry,
         true,
     );
-    Stepped {
-        code: 0,
+    Ok(Stepped {
         state: State { count, size },
         before: old,
-    }
+    })
 }
 
 // A delete at the key of an entry's record.
@@ -128,19 +104,14 @@ fn delete(
     key: Key,
     state: State,
     room: usize,
-) -> Stepped
+) -> Result<Stepped, Code>
     requires { Ready holding.now file.now places.old tags.old counts.old room state × T (fine scottish (record_of holding.now file.now entry)) × (key_list key ≡ key_numbers (record_of holding.now file.now entry)) }
     ensures { Steps holding.now file.now places.old places.new tags.new counts.new room (change del (record_of holding.now file.now entry)) state result }
 {
-    let judged = judge_delete(holding, file, places, tags, counts, entry, key, state, room);
-    let code = judged.code;
-    let i = judged.place;
-    let size = judged.size;
-    if code != 0 {
-        return unchanged(code, state, entry);
-    }
+    let judged = judge_delete(holding, file, places, tags, counts, entry, key, state, room)?;
+    let Judged { place, size } = judged;
     let count = state.count;
-    let gone = places[i];
+    let gone = places[place];
     note(
         holding,
         file,
@@ -151,17 +122,16 @@ fn delete(
         gone,
         false,
     );
-    close(&mut *places, count, i);
-    close(&mut *tags, count, i);
-    counts::close(&mut *counts, count, i);
-    Stepped {
-        code: 0,
+    close(&mut *places, count, place);
+    close(&mut *tags, count, place);
+    close(&mut *counts, count, place);
+    Ok(Stepped {
         state: State {
             count: count - 1,
             size,
         },
         before: gone,
-    }
+    })
 }
 
 // The step of the line that starts at `at` of the file: its record type's layout says its key, and its change what is done there.
@@ -175,12 +145,11 @@ pub fn step(
     counts: &mut [u16],
     state: State,
     room: usize,
-) -> Stepped
+) -> Result<Stepped, Code>
     requires { Ready holding.now file.now places.old tags.old counts.old room state × Carries file.now at line }
     ensures { Steps holding.now file.now places.old places.new tags.new counts.new room (change_at file.now at) state result }
 {
-    let kind = line.kind;
-    let change = line.change;
+    let Line { kind, change } = line;
     let entry = 2 * (at as u64) + 1;
     let key = match kind {
         HeldKind::Street => line_key(Street::LAYOUT, kind, file, at),

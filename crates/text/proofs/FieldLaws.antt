@@ -10,31 +10,26 @@ use borrow.Author.Rules.{rules}
 use lib.Dec.{eqb, ltb, eqb→eq, leb-suc-suc}
 use lib.ListN.{length, get_or, drop, take, length-drop}
 use lib.Seq.{drop-drop}
+use Rattle.std.specs.Prelude.{nat_eq, Option}
+use Rattle.std.specs.List.{position, position_or_len}
+use Rattle.std.specs.Option.{unwrap_or}
 use Rattle.base.specs.Lists.{pick, up_to}
 use Rattle.base.specs.Tests.{and_r}
 use Rattle.base.proofs.Walk.{at_cons, at_end_lem}
+use Rattle.base.proofs.StdLists.{up_to_length}
+use Rattle.base.proofs.StdPositions.{position_end, position_within}
 use Rattle.meaning.specs.Lines.{identifier, is_sep, turned, add_byte, fields_from, fields_of, quote_after, odd_quotes, has_fields, after_field}
+use Rattle.text.proofs.TailLaws.{tail, tail_below, tail_or, tail_end}
 use Rattle.text.specs.Places.{field_count, field_len}
 
--- ---- the walk to the first byte x
+-- ---- the bytes before the first x
 
--- the byte ends it
-pub up_stop : (x : ℕ) (l : List ℕ) (i n : ℕ) → i + length (up_to x (drop i l)) ≡ n → i < length l → get_or l i 0 ≡ x → i ≡ n
-unfolding up_to
-up_stop x l i n e h q = sym (add-zero i) ∙ (rw (at_cons l i h, eq-eqb (get_or l i 0) x q) at e)
-
--- another is passed
-pub up_turn :
-    (x : ℕ) (l : List ℕ) (i n : ℕ) → i + length (up_to x (drop i l)) ≡ n → i < length l → (get_or l i 0 ≡ x → ⊥) → (i + 1) + length (up_to x (drop (i + 1) l)) ≡ n
-unfolding up_to
-up_turn x l i n e h q = omega (arith, rw (at_cons l i h, ne_eqb (get_or l i 0) x q) at e)
-
--- so does the line's end
-pub up_done : (x : ℕ) (l : List ℕ) (i n : ℕ) → i + length (up_to x (drop i l)) ≡ n → length l ≤ i → i ≡ n
-unfolding up_to
-up_done x l i n e h = sym (add-zero i) ∙ (rw (at_end_lem l i h) at e)
-
-pub ruleset up = (rules, up_stop, up_turn, up_done)
+-- how many there are: `position`, or all
+pub identifier_position : (t : List ℕ) (r : Option ℕ) (n : ℕ) → r ≡ position (λ y. nat_eq y 44) t → n ≡ unwrap_or r (length t) → (n ≡ length (identifier t)) × (n ≤ length t)
+unfolding identifier
+identifier_position t r n e p =
+    let at : n ≡ position_or_len (λ y. nat_eq y 44) t = position_end (λ y. nat_eq y 44) t r n e p in
+    (at ∙ sym (up_to_length 44 t), omega (arith, position_within (λ y. nat_eq y 44) t))
 
 -- the bytes before x are the front of the line
 up_part : (x : ℕ) (l : List ℕ) → take (length (up_to x l)) l ≡ up_to x l
@@ -53,13 +48,7 @@ identifier_part t = up_part 44 t
 
 -- ---- one byte
 
--- a comma separates outside quotes
-pub sep_comma : (q : Bool) (b : ℕ) → b ≡ 44 → not q ≡ is_sep q b
-unfolding is_sep
-sep_comma true b e = refl
-sep_comma false b e = sym (eq-eqb b 44 e)
-
--- another byte does not
+-- another byte than a comma separates nothing
 pub sep_other : (q : Bool) (b : ℕ) → (b ≡ 44 → ⊥) → false ≡ is_sep q b
 unfolding is_sep
 sep_other true b n = refl
@@ -75,15 +64,15 @@ pub turn_other : (q : Bool) (b : ℕ) → (b ≡ 34 → ⊥) → q ≡ turned q 
 unfolding turned
 turn_other q b n = rw (ne_eqb b 34 n)
 
-pub ruleset byte = (rules, sep_comma, sep_other, turn_quote, turn_other)
+-- a comma outside quotes separates
+pub sep_here : (q : Bool) (b : ℕ) → b ≡ 44 → q ≡ false → is_sep q b ≡ true
+unfolding is_sep
+sep_here q b e o = rw (o, eq-eqb b 44 e)
 
--- a byte above the comma separates nothing
-pub high_sep : (q : Bool) (b : ℕ) → 44 < b → is_sep q b ≡ false
-high_sep q b h = sym (sep_other q b (λ e. omega arith))
-
--- and turns nothing
-pub high_stays : (q : Bool) (b : ℕ) → 44 < b → turned q b ≡ q
-high_stays q b h = sym (turn_other q b (λ e. omega arith))
+-- nothing within quotes does
+pub sep_inside : (q : Bool) (b : ℕ) → q ≡ true → is_sep q b ≡ false
+unfolding is_sep
+sep_inside q b o = rw o
 
 -- a separator stands outside quotes
 pub sep_outside : (q : Bool) (b : ℕ) → is_sep q b ≡ true → q ≡ false
@@ -199,16 +188,41 @@ pub end_turn :
 unfolding field_len
 end_turn l q i x b q' e h p t k = rw k (omega (arith, rw (at_cons l i h, sym p ∙ t) at e))
 
--- so is a byte above the comma
-pub end_high : (l : List ℕ) (q : Bool) (i x : ℕ) → end_at l q i ≡ x → i < length l → 44 < get_or l i 0 → end_at l q (i + 1) ≡ x
-end_high l q i x e h g = end_turn l q i x false q e h (sym (high_sep q (get_or l i 0) g)) refl (sym (high_stays q (get_or l i 0) g))
-
 -- so does the line's end
-pub end_done : (l : List ℕ) (q : Bool) (i x : ℕ) → end_at l q i ≡ x → length l ≤ i → i ≡ x
+pub end_done : (l : List ℕ) (q : Bool) (i x : ℕ) → end_at l q i ≡ x → length l ≤ i → i ≤ length l → length l ≡ x
 unfolding field_len
-end_done l q i x e h = sym (add-zero i) ∙ (rw (at_end_lem l i h) at e)
+end_done l q i x e h k = omega (arith, rw (at_end_lem l i h) at e)
 
-pub ruleset ending = (rules, end_stop, end_turn, end_high, end_done)
+-- the same walk over the tail from `at` on
+module _ (t : List ℕ) (at i : ℕ) (q : Bool) (e : end_at t q (at + i) ≡ end_at t false at) where
+  on : (q' : Bool) → i < length (tail t at) → is_sep q (get_or (tail t at) i 0) ≡ false → q' ≡ turned q (get_or (tail t at) i 0) → end_at t q' (at + (i + 1)) ≡ end_at t false at
+  on q' h s k =
+      let n : at + (i + 1) ≡ at + i + 1 = omega arith in
+      rw n (end_turn t q (at + i) _ false q' e (tail_below t at i h) (sym s ∙ ap (is_sep q) (tail_or t at i)) refl (k ∙ ap (turned q) (tail_or t at i)))
+
+  -- a comma outside quotes ends the field
+  pub end_found : i < length (tail t at) → get_or (tail t at) i 0 ≡ 44 → q ≡ false → (at + i ≡ end_at t false at) × (at ≤ at + i) × (at + i ≤ length t)
+  end_found h b o =
+      let l = tail_below t at i h in
+      (end_stop t q (at + i) _ true e l (sym (sep_here q _ (sym (tail_or t at i) ∙ b) o)) refl, omega arith, omega arith)
+
+  -- one within quotes doesn't
+  pub end_inside : (q' : Bool) → i < length (tail t at) → get_or (tail t at) i 0 ≡ 44 → q ≡ true → q' ≡ q → end_at t q' (at + (i + 1)) ≡ end_at t false at
+  end_inside q' h b o k = on q' h (sep_inside q _ o) (k ∙ turn_other q _ (λ z. omega arith))
+
+  -- a quote turns quoting
+  pub end_quote : (q' : Bool) → i < length (tail t at) → get_or (tail t at) i 0 ≡ 34 → q' ≡ not q → end_at t q' (at + (i + 1)) ≡ end_at t false at
+  end_quote q' h b k = on q' h (sym (sep_other q _ (λ z. omega arith))) (k ∙ turn_quote q _ b)
+
+  -- another byte is passed
+  pub end_other : (q' : Bool) → i < length (tail t at) → (get_or (tail t at) i 0 ≡ 44 → ⊥) → (get_or (tail t at) i 0 ≡ 34 → ⊥) → q' ≡ q → end_at t q' (at + (i + 1)) ≡ end_at t false at
+  end_other q' h b o k = on q' h (sym (sep_other q _ b)) (k ∙ turn_other q _ o)
+
+  -- the line's end ends the field
+  pub end_none : at ≤ length t → length (tail t at) ≤ i → i ≤ length (tail t at) → length t ≡ end_at t false at
+  end_none h k l = let n = tail_end t at i h k l in end_done t q (at + i) _ e (omega arith) (omega arith)
+
+pub ruleset ending = (rules, end_found, end_inside, end_quote, end_other, end_none)
 
 -- ---- the fields of the meaning
 

@@ -1,3 +1,4 @@
+pub mod TailLaws
 pub mod LineLaws
 pub mod FieldLaws
 pub mod SplitLaws

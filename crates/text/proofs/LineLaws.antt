@@ -13,50 +13,8 @@ use lib.Seq.{drop-drop}
 use Rattle.base.specs.Lists.{all, pick}
 use Rattle.base.proofs.Walk.{at_cons, at_end_lem}
 use Rattle.meaning.specs.Lines.{Line, grow, lines_of, plain, ends_well}
+use Rattle.text.proofs.TailLaws.{tail, tail_below, tail_or, tail_end}
 use Rattle.text.specs.Places.{ends_here, line_len, line_end, plain_len, plain_end}
-
--- ---- one byte
-
--- a byte above CR is plain
-pub plain_high : (b : ℕ) → 13 < b → true ≡ plain b
-unfolding plain
-plain_high b h = rw (ne_eqb b 13 (λ e. omega arith), ne_eqb b 10 (λ e. omega arith))
-
--- CR is not
-pub plain_cr : (b : ℕ) → b ≡ 13 → false ≡ plain b
-unfolding plain
-plain_cr b e = rw (eq-eqb b 13 e)
-
--- of the others LF alone is not
-pub plain_low : (b : ℕ) → (b ≡ 13 → ⊥) → not (eqb b 10) ≡ plain b
-unfolding plain
-plain_low b n = rw (ne_eqb b 13 n)
-
-pub ruleset plainly = (rules, plain_high, plain_cr, plain_low)
-
--- ---- a CR LF at an index
-
--- past the end there is none
-pub ends_past : (s : List ℕ) (i : ℕ) → length s ≤ i → false ≡ ends_here (drop i s)
-ends_past s i h = rw (at_end_lem s i h)
-
--- the last byte is none
-pub ends_last : (s : List ℕ) (i : ℕ) → i < length s → length s ≤ i + 1 → false ≡ ends_here (drop i s)
-ends_last s i h h' = rw (at_cons s i h, at_end_lem s (i + 1) h')
-
--- another byte than CR starts none
-pub ends_other : (s : List ℕ) (i : ℕ) → i < length s → (get_or s i 0 ≡ 13 → ⊥) → false ≡ ends_here (drop i s)
-ends_other s i h n = rw (at_cons s i h) (sym (go (drop (i + 1) s)))
-  where
-    go : (r : List ℕ) → ends_here (get_or s i 0 ∷ r) ≡ false
-    go [] = refl
-    go (y ∷ r) = rw (ne_eqb (get_or s i 0) 13 n)
-
--- after a CR the next byte decides
-pub ends_cr : (s : List ℕ) (i : ℕ) → i < length s → get_or s i 0 ≡ 13 → i + 1 < length s → eqb (get_or s (i + 1) 0) 10 ≡ ends_here (drop i s)
-ends_cr s i h e h' = rw (at_cons s i h, at_cons s (i + 1) h', eq-eqb (get_or s i 0) 13 e)
-
-pub ruleset ends = (rules, ends_past, ends_last, ends_other, ends_cr)
 
 -- ---- the walk of a line, i bytes on
 
@@ -86,20 +44,28 @@ line_other s i x e h b = line_turn s i x false e h (sym (rw (at_cons s i h) (go 
     go (y ∷ r) = rw (ne_eqb (get_or s i 0) 13 b)
 
 -- so do the bytes' end
-pub line_done : (s : List ℕ) (i x : ℕ) → line_end s i ≡ x → length s ≤ i → i ≡ x
+pub line_done : (s : List ℕ) (i x : ℕ) → line_end s i ≡ x → length s ≤ i → i ≤ length s → length s ≡ x
 unfolding line_len
-line_done s i x e h = omega (arith, step)
+line_done s i x e h k = omega (arith, step)
   where
     step : line_len (drop i s) ≡ 0
     step = rw (at_end_lem s i h)
 
-pub ruleset tocr = (rules, line_other)
+-- the same walk over the tail from `at` on
+module _ (s : List ℕ) (at i : ℕ) (e : line_end s (at + i) ≡ line_end s at) where
+  pub line_found : (b : Bool) → i < length (tail s at) → b ≡ ends_here (drop (at + i) s) → b ≡ true → (at + i ≡ line_end s at) × (at ≤ at + i) × (at + i ≤ length s)
+  line_found b h q t = (line_stop s (at + i) _ b e q t, omega arith, omega (arith, tail_below s at i h))
 
--- with the bytes after it that are none
-pub line_on : (s : List ℕ) (i r x : ℕ) (b : Bool) → line_end s r ≡ line_end s (i + 1) → line_end s i ≡ x → i < length s → b ≡ ends_here (drop i s) → b ≡ false → line_end s r ≡ x
-line_on s i r x b u e h q t = u ∙ line_turn s i x b e h q t
+  pub line_on : (b : Bool) → i < length (tail s at) → b ≡ ends_here (drop (at + i) s) → b ≡ false → line_end s (at + (i + 1)) ≡ line_end s at
+  line_on b h q t = let n : at + (i + 1) ≡ at + i + 1 = omega arith in rw n (line_turn s (at + i) _ b e (tail_below s at i h) q t)
 
-pub ruleset line = (rules, line_stop, line_on, line_done)
+  pub line_on_other : i < length (tail s at) → (get_or (tail s at) i 0 ≡ 13 → ⊥) → line_end s (at + (i + 1)) ≡ line_end s at
+  line_on_other h f = let n : at + (i + 1) ≡ at + i + 1 = omega arith in rw n (line_other s (at + i) _ e (tail_below s at i h) (λ z. f (tail_or s at i ∙ z)))
+
+  pub line_none : at ≤ length s → length (tail s at) ≤ i → i ≤ length (tail s at) → length s ≡ line_end s at
+  line_none h k l = let n = tail_end s at i h k l in line_done s (at + i) _ e (omega arith) (omega arith)
+
+pub ruleset line = (rules, line_found, line_on, line_on_other, line_none)
 
 -- ---- the lines of the meaning
 
@@ -162,11 +128,22 @@ unfolding plain_len
 plain_turn s i x b e h q t = omega (arith, rw (at_cons s i h, sym q ∙ t) at e)
 
 -- so do the bytes' end
-pub plain_done : (s : List ℕ) (i x : ℕ) → plain_end s i ≡ x → length s ≤ i → i ≡ x
+pub plain_done : (s : List ℕ) (i x : ℕ) → plain_end s i ≡ x → length s ≤ i → i ≤ length s → length s ≡ x
 unfolding plain_len
-plain_done s i x e h = sym (add-zero i) ∙ (rw (at_end_lem s i h) at e)
+plain_done s i x e h k = omega (arith, rw (at_end_lem s i h) at e)
 
-pub ruleset plains = (rules, not-true, not-false, plain_stop, plain_turn, plain_done)
+-- the same walk over the tail from `at` on
+module _ (s : List ℕ) (at i : ℕ) (e : plain_end s (at + i) ≡ plain_end s at) where
+  pub plain_found : (b : Bool) → i < length (tail s at) → b ≡ plain (get_or (tail s at) i 0) → b ≡ false → (at + i ≡ plain_end s at) × (at ≤ at + i) × (at + i ≤ length s)
+  plain_found b h q t = let l = tail_below s at i h in (plain_stop s (at + i) _ b e l (q ∙ ap plain (tail_or s at i)) t, omega arith, omega arith)
+
+  pub plain_on : (b : Bool) → i < length (tail s at) → b ≡ plain (get_or (tail s at) i 0) → b ≡ true → plain_end s (at + (i + 1)) ≡ plain_end s at
+  plain_on b h q t = let n : at + (i + 1) ≡ at + i + 1 = omega arith in rw n (plain_turn s (at + i) _ b e (tail_below s at i h) (q ∙ ap plain (tail_or s at i)) t)
+
+  pub plain_none : at ≤ length s → length (tail s at) ≤ i → i ≤ length (tail s at) → length s ≡ plain_end s at
+  plain_none h k l = let n = tail_end s at i h k l in plain_done s (at + i) _ e (omega arith) (omega arith)
+
+pub ruleset plains = (rules, not-true, not-false, plain_found, plain_on, plain_none)
 
 -- ---- a line that ends well is one that its first CR or LF ends
 

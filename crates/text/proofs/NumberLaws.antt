@@ -1,7 +1,7 @@
 -- How the loops over digits meet the value and the width of theory's Decimal.
-use mathlib.Core.Path.{◌≡◌, refl}
+use mathlib.Core.Path.{◌≡◌, refl, sym, ap, ◌∙◌}
 use mathlib.Core.List.{List}
-use Prim.Native.Nat.{ℕ, ◌+◌, ◌-◌, ◌*◌, ◌/◌, ◌^◌, ◌≤◌, ◌<◌}
+use Prim.Native.Nat.{ℕ, zero, suc, max, ◌+◌, ◌-◌, ◌*◌, ◌/◌, ◌^◌, ◌≤◌, ◌<◌}
 use native.Mathlib.Nat.{pow-suc, pow-le-pow_right}
 use native.Mathlib.Numerals.{add-one}
 use native.Mathlib.Omega.{arith}
@@ -11,7 +11,7 @@ use mir.Syntax.{w64}
 use mir.Val.{Fits}
 use Rattle.base.proofs.Walk.{at_cons, at_end_lem}
 use Rattle.theory.specs.Decimal.{value, value_f, width}
-use Rattle.theory.specs.DecimalLaws.{width_small, width_big, width_pos, width_below}
+use Rattle.theory.specs.DecimalLaws.{width_small, width_big, width_below}
 
 -- ---- the value of digits
 
@@ -52,20 +52,14 @@ pub ruleset reading = (rules, value_start, value_turn, value_done, worth_turn, w
 pub width_most : (n : ℕ) → Fits w64 n → width n ≤ 20
 width_most n h = width_below 19 n (omega arith)
 
-module _ (n left d : ℕ) (e : d + width left ≡ width n + 1) where
-  -- a tenth is left, and one digit is counted
-  pub width_turn : 10 ≤ left → d + 1 + width (left / 10) ≡ width n + 1
-  width_turn h = omega (arith, width_big left h)
+-- by its logarithm
+width_log_pos : (k n : ℕ) → 10 ^ k ≤ n → n < 10 * 10 ^ k → width n ≡ k + 1
+width_log_pos zero n h g = width_small n (omega arith) ∙ omega arith
+width_log_pos (suc k) n h g =
+    let p : 10 ^ suc k ≡ 10 ^ k * 10 = pow-suc 10 k in
+    width_big n (omega arith) ∙ ap suc (width_log_pos k (n / 10) (omega arith) (omega arith)) ∙ omega arith
 
-  -- the last digit is counted
-  pub width_done : left < 10 → d ≡ width n
-  width_done h = omega (arith, width_small left h)
-
-  -- no more digits are counted than there are
-  pub width_room : width n ≤ 20 → d ≤ 20
-  width_room h = omega (arith, width_pos left)
-
-  pub width_fits : width n ≤ 20 → Fits w64 (d + 1)
-  width_fits h = omega (arith, width_pos left)
-
-pub ruleset counting = (rules, width_most, width_turn, width_done, width_room, width_fits)
+-- which 0 has no more of than 1
+pub width_log : (k n : ℕ) → 10 ^ k ≤ max n 1 → max n 1 < 10 * 10 ^ k → k + 1 ≡ width n
+width_log k zero h g = sym (width_log_pos k 1 h g) ∙ width_small 1 (omega arith) ∙ sym (width_small 0 (omega arith))
+width_log k (suc n) h g = sym (width_log_pos k (suc n) (omega arith) (omega arith))

@@ -1,37 +1,19 @@
 -- The laws of writing.
 use mathlib.Core.Path.{◌≡◌, refl, ap, ◌∙◌}
-use mathlib.Core.List.{List, [], ◌∷◌, ◌++◌, append-nil}
+use mathlib.Core.List.{List, ◌∷◌, ◌++◌}
 use Prim.Native.Nat.{ℕ, zero, suc, ◌+◌, ◌-◌, ◌/◌, ◌%◌, ◌≤◌, ◌<◌}
-use native.Mathlib.Numerals.{add-one}
 use native.Mathlib.Omega.{arith}
 use borrow.Author.Rules.{rules}
-use lib.ListN.{length, get_or, take, drop, set, length-set}
-use lib.Seq.{drop-set-lt, get_or-set_same, drop-cons, take-suc, append_snoc, take_all, length-take-le}
+use lib.ListN.{length, drop, set, length-set, replicate}
+use lib.Seq.{drop-set-lt, get_or-set_same, drop-cons, append_snoc}
 use Rattle.base.specs.Lists.{zeros}
-use Rattle.base.specs.ListLaws.{length_zeros}
-use Rattle.base.proofs.Walk.{at_end_lem}
 use Rattle.theory.specs.Decimal.{digits, dec, width}
 use Rattle.theory.specs.DecimalLaws.{length_dec}
 use Rattle.text.specs.Front.{in_front}
-use Rattle.text.proofs.FrontLaws.{front_none, front_more}
 
 -- a store keeps the length
 pub set_same : (new : List ℕ) (i v n : ℕ) → length new ≡ n → length (set new i v) ≡ n
 set_same new i v n e = rw length-set e
-
--- ---- the walk of a copy, i bytes on
-
--- one byte more
-pub copy_turn :
-    (s old new : List ℕ) (i : ℕ) → new ≡ in_front (take i s) old → i < length s → length s ≤ length old → set new i (get_or s i 0) ≡ in_front (take (i + 1) s) old
-copy_turn s old new i e h k =
-    rw (add-one i, take-suc s i 0 h) (front_more (take i s) old new i (get_or s i 0) (length-take-le i s (omega arith)) (omega arith) e)
-
--- all are there
-pub copy_done : (s old new : List ℕ) (i : ℕ) → new ≡ in_front (take i s) old → length s ≤ i → new ≡ in_front s old
-copy_done s old new i e h = rw (take_all i s h) at e
-
-pub ruleset copying = (rules, front_none, set_same, copy_turn, copy_done)
 
 -- ---- the walk of digits from the last, with i digits left to write
 
@@ -71,28 +53,10 @@ digit_done out x left (suc i) e h = absurd (omega arith)
 
 pub ruleset numbering = (rules, set_same, digit_start, digit_turn, digit_done)
 
--- ---- the walk of zeros, i zeros on
+-- ---- zeros
 
--- one zero more at the end
-zeros_snoc : (n : ℕ) → zeros (suc n) ≡ zeros n ++ 0 ∷ []
+-- as many of std's are
+pub zeros_replicate : (n : ℕ) → replicate n 0 ≡ zeros n
 unfolding zeros
-zeros_snoc zero = refl
-zeros_snoc (suc n) = ap (λ l. 0 ∷ l) (zeros_snoc n)
-
--- none yet
-pub zero_start : (old : List ℕ) → old ≡ in_front (zeros 0) old
-unfolding zeros
-zero_start old = front_none old
-
--- one more
-pub zero_turn : (old new : List ℕ) (i : ℕ) → new ≡ in_front (zeros i) old → length new ≡ length old → i < length new → set new i 0 ≡ in_front (zeros (i + 1)) old
-zero_turn old new i e k h = rw (add-one i, zeros_snoc i) (front_more (zeros i) old new i 0 (length_zeros i) (omega arith) e)
-
--- zeros to the end
-pub zero_done : (old new : List ℕ) (i : ℕ) → new ≡ in_front (zeros i) old → length new ≡ length old → length new ≤ i → i ≤ length old → new ≡ zeros (length old)
-unfolding in_front
-zero_done old new i e k h g =
-    let n : i ≡ length old = omega arith in
-    e ∙ rw (length_zeros i, at_end_lem old i (omega arith), append-nil, n)
-
-pub ruleset zeroing = (rules, set_same, zero_start, zero_turn, zero_done)
+zeros_replicate zero = refl
+zeros_replicate (suc n) = ap (λ l. 0 ∷ l) (zeros_replicate n)

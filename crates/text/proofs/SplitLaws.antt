@@ -1,6 +1,6 @@
 -- The laws of the walk that notes where the fields of a line end, and of a field by what is noted.
 use mathlib.Core.Path.{◌≡◌, refl, ap, ◌∙◌, sym}
-use mathlib.Core.Bool.{Bool, true, false}
+use mathlib.Core.Bool.{Bool, true, false, not}
 use mathlib.Core.List.{List, [], ◌∷◌}
 use Prim.Native.Nat.{ℕ, zero, suc, ◌+◌, ◌-◌, ◌≤◌, ◌<◌}
 use native.Mathlib.Nat.{add-zero}
@@ -15,7 +15,7 @@ use Rattle.base.specs.Lists.{pick}
 use Rattle.base.proofs.Walk.{at_cons, at_end_lem}
 use Rattle.meaning.specs.Lines.{is_sep, turned, add_byte, fields_from, fields_of}
 use Rattle.text.specs.Places.{field_count, field_len, field_end, ends_from, field_ends, Notes}
-use Rattle.text.proofs.FieldLaws.{sep_outside, sep_stays, high_sep, high_stays, fields_some, fields_at, count_at, count_start, count_sep, count_other, count_open, count_shut}
+use Rattle.text.proofs.FieldLaws.{sep_here, sep_inside, sep_other, sep_outside, sep_stays, turn_quote, turn_other, fields_some, fields_at, count_at, count_start, count_sep, count_other, count_open, count_shut}
 
 -- ---- as many ends as fields
 
@@ -55,11 +55,6 @@ split_other t a q m i b q' s h p f k =
     let n : suc i ≡ i + 1 = omega arith in
     record { counted = count_other t q m i _ b q' s.counted h p f k; left = s.left ∙ rw (at_cons t i h, z, k, n); noted = s.noted }
 
--- one above the comma, at once
-pub split_high : (t a : List ℕ) (q : Bool) (m i : ℕ) → Splitting t a q m i → i < length t → 44 < get_or t i 0 → Splitting t a q m (i + 1)
-split_high t a q m i s h g =
-    split_other t a q m i false q s h (sym (high_sep q (get_or t i 0) g)) refl (sym (high_stays q (get_or t i 0) g))
-
 -- what is noted next
 noted_next : (t a : List ℕ) (m i : ℕ) (es : List ℕ) → drop m (field_ends t) ≡ i ∷ es → ((j : ℕ) → j < m → j < length a → get_or a j 0 ≡ get_or (field_ends t) j 0)
     → (j : ℕ) → j < m + 1 → j < length (set a m i) → get_or (set a m i) j 0 ≡ get_or (field_ends t) j 0
@@ -91,10 +86,30 @@ split_sep t a c q m i b s h p f e =
       noted = rw e (noted_next t a m i _ here s.noted);
     }
 
+-- ---- the same by the byte
+
+module _ (t a : List ℕ) (q : Bool) (m i : ℕ) (s : Splitting t a q m i) (h : i < length t) where
+  -- a comma outside quotes separates
+  pub split_comma : (c : List ℕ) → get_or t i 0 ≡ 44 → q ≡ false → c ≡ set a m i → Splitting t c q (m + 1) (i + 1)
+  split_comma c b o e = split_sep t a c q m i true s h (sym (sep_here q (get_or t i 0) b o)) refl e
+
+  -- one within quotes doesn't
+  pub split_inside : get_or t i 0 ≡ 44 → q ≡ true → Splitting t a q m (i + 1)
+  split_inside b o = split_other t a q m i false q s h (sym (sep_inside q (get_or t i 0) o)) refl (turn_other q (get_or t i 0) (λ z. omega arith))
+
+  -- a quote turns quoting
+  pub split_quote : (q' : Bool) → get_or t i 0 ≡ 34 → q' ≡ not q → Splitting t a q' m (i + 1)
+  split_quote q' b k = split_other t a q m i false q' s h (sep_other q (get_or t i 0) (λ z. omega arith)) refl (k ∙ turn_quote q (get_or t i 0) b)
+
+  -- another byte is passed
+  pub split_byte : (get_or t i 0 ≡ 44 → ⊥) → (get_or t i 0 ≡ 34 → ⊥) → Splitting t a q m (i + 1)
+  split_byte b o = split_other t a q m i false q s h (sep_other q (get_or t i 0) b) refl (turn_other q (get_or t i 0) o)
+
 -- the line's end ends the last
-pub split_notes : (t a c : List ℕ) (q : Bool) (m i : ℕ) → Splitting t a q m i → length t ≤ i → c ≡ set a m i → Notes t c
+pub split_notes : (t a c : List ℕ) (q : Bool) (m i : ℕ) → Splitting t a q m i → length t ≤ i → i ≤ length t → c ≡ set a m (length t) → Notes t c
 unfolding ends_from fields_of field_ends
-split_notes t a c q m i s h e =
+split_notes t a c q m i s h k f =
+    let e : c ≡ set a m i = f ∙ ap (λ n. set a m n) (omega arith) in
     let last : drop m (ends_from false 0 t) ≡ i ∷ [] = s.left ∙ rw (at_end_lem t i h) in
     let size : length (ends_from false 0 t) - m ≡ 1 = sym (length-drop m (ends_from false 0 t)) ∙ ap length last in
     let all : (j : ℕ) → j < m + 1 → j < length c → get_or c j 0 ≡ get_or (ends_from false 0 t) j 0 = rw e (noted_next t a m i [] last s.noted) in
@@ -108,7 +123,7 @@ split_open t a q m i s h e = count_open t q m i _ s.counted h e
 pub split_shut : (t a : List ℕ) (q : Bool) (m i : ℕ) → Splitting t a q m i → length t ≤ i → q ≡ false → m + 1 ≡ field_count t
 split_shut t a q m i s h e = count_shut t q m i _ s.counted h e
 
-pub ruleset splits = (rules, split_start, split_other, split_high, split_sep, split_notes, split_open, split_shut)
+pub ruleset splits = (rules, split_start, split_comma, split_inside, split_quote, split_byte, split_notes, split_open, split_shut)
 
 -- ---- a field by what is noted
 
@@ -192,9 +207,13 @@ stands_from t (suc k) at h l = go (ltb n (length t - at)) refl (fields_at t at) 
 
 -- each field of a line stands between what is noted
 module _ (t a : List ℕ) (n : Notes t a) where
-  pub noted_first : (l : 0 < length (fields_of t)) → 0 < length a → Stands t (get_or (fields_of t) 0 []) 0 (get_or a 0 0)
+  noted_first : (l : 0 < length (fields_of t)) → 0 < length a → Stands t (get_or (fields_of t) 0 []) 0 (get_or a 0 0)
   unfolding fields_of field_ends
   noted_first l g = rw (n.ends 0 l g) (stands_from t 0 0 (omega arith) l)
+
+  -- the first from the line's start
+  pub noted_front : (l : 0 < length (fields_of t)) → 0 < length a → (get_or a 0 0 ≤ length t) × (take (get_or a 0 0) t ≡ get_or (fields_of t) 0 [])
+  noted_front l g = let s = noted_first l g in let z : get_or a 0 0 - 0 ≡ get_or a 0 0 = omega arith in (s.within, rw z at s.bytes)
 
   pub noted_later : (k : ℕ) → (k ≡ 0 → ⊥) → (l : k < length (fields_of t)) → k < length a → Stands t (get_or (fields_of t) k []) (get_or a (k - 1) 0 + 1) (get_or a k 0)
   unfolding fields_of field_ends

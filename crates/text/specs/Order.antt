@@ -1,10 +1,10 @@
 -- The order of two, as code answers it.
+use Rattle.std.specs.declared.cmp.Ordering.{Ordering}
+use Rattle.std.specs.declared.cmp.Ordering.TheVariants.{Less, Equal, Greater}
 use Rattle.theory.specs.Tri.{Tri, lt, eq, gt}
-use Rattle.text.specs.declared.order.Order.{Order}
-use Rattle.text.specs.declared.order.Order.TheVariants.{Before, Same, After}
 
 -- what an answer says
-abbrev pub tri_of : Order → Tri
-tri_of Before = lt
-tri_of Same = eq
-tri_of After = gt
+abbrev pub tri_of : Ordering → Tri
+tri_of Less = lt
+tri_of Equal = eq
+tri_of Greater = gt

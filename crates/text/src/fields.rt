@@ -1,34 +1,13 @@
 // A double quote opens or closes quoting; fields are separated by commas outside quotes.
 ghost use Rattle.std.specs.Prelude.{◌≡◌, ◌≤◌, ◌<◌, [], length, get_or, set};
-ghost use Rattle.meaning.specs.Lines.{identifier, is_sep, turned, fields_of};
+ghost use Rattle.meaning.specs.Lines.{identifier, fields_of};
 ghost use Rattle.text.specs.Places.{field_count, Notes, field_end, FieldAt};
 
 // Where the identifier ends: at the first comma, or where the line does.
 pub fn identifier_end(line: &[u8]) -> usize
     ensures { (result ≡ length (identifier line.now)) × (result ≤ length line.now) }
 {
-    let mut i = 0;
-    while i < line.len() {
-        if line[i] == 44 {
-            return i;
-        }
-        i += 1;
-    }
-    i
-}
-
-// Whether a byte separates two fields, where quoting stands as it does.
-pub fn is_sep(quoted: bool, b: u8) -> bool
-    ensures { result ≡ is_sep quoted b }
-{
-    if b == 44 { !quoted } else { false }
-}
-
-// Quoting after a byte.
-pub fn turn(quoted: bool, b: u8) -> bool
-    ensures { result ≡ turned quoted b }
-{
-    if b == 34 { !quoted } else { quoted }
+    line.iter().position(|b| *b == b',').unwrap_or(line.len())
 }
 
 // Notes where field k of a line ends, if there is room for it.
@@ -46,35 +25,25 @@ pub fn split(line: &[u8], ends: &mut [usize]) -> usize
 {
     let mut quoted = false;
     let mut commas = 0;
-    let mut i = 0;
-    while i < line.len() {
-        let b = line[i];
-        if 44 < b {
-            i += 1; // neither a comma nor a quote
-            continue;
+    for (i, &b) in line.iter().enumerate() {
+        match b {
+            b',' if !quoted => {
+                note(ends, commas, i);
+                commas += 1;
+            }
+            b'"' => quoted = !quoted, // opens or closes quoting
+            _ => {}
         }
-        if is_sep(quoted, b) {
-            note(&mut *ends, commas, i);
-            commas += 1;
-            i += 1;
-            continue;
-        }
-        quoted = turn(quoted, b);
-        i += 1;
     }
-    note(&mut *ends, commas, i);
-    if quoted {
-        return 0;
-    }
-    commas + 1
+    note(ends, commas, line.len());
+    if quoted { 0 } else { commas + 1 }
 }
 
 // How many fields a line has; 0 where its quotes are odd.
 pub fn field_count(line: &[u8]) -> usize
     ensures { result ≡ field_count line.now }
 {
-    let mut ends = [0usize; 1];
-    split(line, &mut ends)
+    split(line, &mut [])
 }
 
 // Field k of a line whose fields' ends are noted.
@@ -82,12 +51,11 @@ pub fn noted_field<'a>(line: &'a [u8], ends: &[usize], k: usize) -> &'a [u8]
     requires { Notes line.now ends.now × (k < length (fields_of line.now)) × (k < length ends.now) }
     ensures { result.now ≡ get_or (fields_of line.now) k [] }
 {
-    let end = ends[k];
     if k == 0 {
-        return &line[0..end];
+        &line[..ends[0]]
+    } else {
+        &line[ends[k - 1] + 1..ends[k]]
     }
-    let start = ends[k - 1] + 1;
-    &line[start..end]
 }
 
 // Where the field that starts at `at` ends: at the next separator, or where the line does.
@@ -96,20 +64,14 @@ pub fn field_end(line: &[u8], at: usize) -> usize
     ensures { (result ≡ field_end line.now at) × (at ≤ result) × (result ≤ length line.now) }
 {
     let mut quoted = false;
-    let mut i = at;
-    while i < line.len() {
-        let b = line[i];
-        if 44 < b {
-            i += 1; // neither a comma nor a quote
-            continue;
+    for (i, &b) in line[at..].iter().enumerate() {
+        match b {
+            b',' if !quoted => return at + i,
+            b'"' => quoted = !quoted,
+            _ => {}
         }
-        if is_sep(quoted, b) {
-            return i;
-        }
-        quoted = turn(quoted, b);
-        i += 1;
     }
-    i
+    line.len()
 }
 
 // Where field k of a line starts, counted from 0, or the line's end where it has no such field.
@@ -117,14 +79,12 @@ pub fn field_start(line: &[u8], k: usize) -> usize
     ensures { FieldAt line.now k result }
 {
     let mut at = 0;
-    let mut left = k;
-    while 0 < left {
+    for _ in 0..k {
         let end = field_end(line, at);
         if end == line.len() {
             return end;
         }
         at = end + 1;
-        left -= 1;
     }
     at
 }
@@ -134,6 +94,5 @@ pub fn field(line: &[u8], k: usize) -> &[u8]
     ensures { result.now ≡ get_or (fields_of line.now) k [] }
 {
     let at = field_start(line, k);
-    let end = field_end(line, at);
-    &line[at..end]
+    &line[at..field_end(line, at)]
 }

@@ -7,32 +7,7 @@ ghost use Rattle.text.specs.Places.{ends_here, line_end, plain_end};
 pub fn ends_at(s: &[u8], i: usize) -> bool
     ensures { result ≡ ends_here (drop i s.now) }
 {
-    if s.len() <= i {
-        return false;
-    }
-    if s[i] != 13 {
-        return false;
-    }
-    let next = i + 1;
-    if s.len() <= next {
-        return false;
-    }
-    s[next] == 10
-}
-
-// Past the bytes from `at` on that are no CR: no line ends before that.
-fn to_cr(s: &[u8], at: usize) -> usize
-    requires { at ≤ length s.now }
-    ensures { (line_end s.now result ≡ line_end s.now at) × (at ≤ result) × (result ≤ length s.now) }
-{
-    let mut i = at;
-    while i < s.len() {
-        if s[i] == 13 {
-            return i;
-        }
-        i += 1;
-    }
-    i
+    matches!(s.get(i..), Some([b'\r', b'\n', ..]))
 }
 
 // Where the line that starts at `at` ends: at the next CR LF, or where the bytes do.
@@ -40,27 +15,20 @@ pub fn line_end(s: &[u8], at: usize) -> usize
     requires { at ≤ length s.now }
     ensures { (result ≡ line_end s.now at) × (at ≤ result) × (result ≤ length s.now) }
 {
-    let mut i = to_cr(s, at);
-    while i < s.len() {
-        if ends_at(s, i) {
-            return i;
+    for (i, &b) in s[at..].iter().enumerate() {
+        if b == b'\r' && ends_at(s, at + i) {
+            return at + i;
         }
-        i = to_cr(s, i + 1);
     }
-    i
+    s.len()
 }
 
 // Whether a byte is neither CR nor LF.
+#[tactic(auto, unfolding(meaning::specs::Lines::plain))]
 pub fn is_plain_byte(b: u8) -> bool
     ensures { result ≡ plain b }
 {
-    if 13 < b {
-        return true;
-    }
-    if b == 13 {
-        return false;
-    }
-    b != 10
+    b'\r' < b || !matches!(b, b'\r' | b'\n')
 }
 
 // Where the first CR or LF at or after `at` stands, or where the bytes end.
@@ -68,12 +36,10 @@ pub fn plain_end(s: &[u8], at: usize) -> usize
     requires { at ≤ length s.now }
     ensures { (result ≡ plain_end s.now at) × (at ≤ result) × (result ≤ length s.now) }
 {
-    let mut i = at;
-    while i < s.len() {
-        if !is_plain_byte(s[i]) {
-            return i;
+    for (i, &b) in s[at..].iter().enumerate() {
+        if !is_plain_byte(b) {
+            return at + i;
         }
-        i += 1;
     }
-    i
+    s.len()
 }

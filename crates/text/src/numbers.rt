@@ -6,10 +6,7 @@ ghost use Rattle.theory.specs.Decimal.{value, width};
 pub fn digit(b: u8) -> u64
     ensures { (result ≡ b - 48) × (result ≤ 207) }
 {
-    if b < 48 {
-        return 0;
-    }
-    (b - 48) as u64
+    u64::from(b.saturating_sub(b'0'))
 }
 
 // The value of at most 16 digits, the widest number of any kind.
@@ -17,11 +14,9 @@ pub fn value(f: &[u8]) -> u64
     requires { length f.now ≤ 16 }
     ensures { result ≡ value f.now }
 {
-    let mut v: u64 = 0;
-    let mut i = 0;
-    while i < f.len() {
-        v = v * 10 + digit(f[i]);
-        i += 1;
+    let mut v = 0;
+    for &b in f {
+        v = v * 10 + digit(b);
     }
     v
 }
@@ -30,11 +25,5 @@ pub fn value(f: &[u8]) -> u64
 pub fn width(n: u64) -> usize
     ensures { (result ≡ width n) × (result ≤ 20) }
 {
-    let mut left = n;
-    let mut digits = 1;
-    while 10 <= left {
-        left = left / 10;
-        digits += 1;
-    }
-    digits
+    n.max(1).ilog10() as usize + 1
 }

@@ -7,16 +7,13 @@ ghost use Rattle.text.specs.Front.{in_front};
 use crate::numbers::width;
 
 // Bytes as they are.
+#[tactic(auto, unfolding(crate::specs::Front::in_front))]
 pub fn bytes(out: &mut [u8], s: &[u8]) -> usize
     requires { length s.now ≤ length out.old }
     ensures { (result ≡ length s.now) × (out.new ≡ in_front s.now out.old) }
 {
-    let mut i = 0;
-    while i < s.len() {
-        out[i] = s[i];
-        i += 1;
-    }
-    i
+    out[..s.len()].copy_from_slice(s);
+    s.len()
 }
 
 // A number in decimal, without leading zeros.
@@ -26,11 +23,9 @@ pub fn number(out: &mut [u8], n: u64) -> usize
 {
     let digits = width(n);
     let mut left = n;
-    let mut i = digits;
-    while 0 < i {
-        i -= 1;
-        out[i] = 48 + (left % 10) as u8;
-        left = left / 10;
+    for i in (0..digits).rev() {
+        out[i] = b'0' + (left % 10) as u8;
+        left /= 10;
     }
     digits
 }
@@ -39,9 +34,5 @@ pub fn number(out: &mut [u8], n: u64) -> usize
 pub fn zeros(out: &mut [u8])
     ensures { out.new ≡ zeros (length out.old) }
 {
-    let mut i = 0;
-    while i < out.len() {
-        out[i] = 0;
-        i += 1;
-    }
+    out.fill(0);
 }

@@ -6,41 +6,34 @@ use mathlib.Core.List.{List, []}
 use Prim.Native.Nat.{ℕ, suc, ◌+◌, ◌-◌, ◌≤◌, ◌<◌}
 use native.Mathlib.Nat.{zero-add, add-zero, add_assoc}
 use native.Mathlib.Omega.{arith}
-use lib.Dec.{eqb}
-use lib.ListN.{length, get_or, take, drop, length-take, length-drop}
+use borrow.Author.Rules.{rules}
+use lib.ListN.{length, get_or, take, drop}
 use Rattle.base.specs.Lists.{pick, ask}
-use Rattle.theory.specs.Decimal.{value}
 use Rattle.theory.specs.Step.{Op, ins, upd, del}
 use Rattle.theory.specs.Answer.{fault, file, is_op, count}
 use Rattle.meaning.specs.Lines.{lines_of, identifier, fields_of, has_fields}
 use Rattle.meaning.specs.Kinds.{Kind, Role, header_line, body_line, metadata_line, trailer_line, role}
-use Rattle.meaning.specs.Format.{kind_of, named, field_number, end_date, pro_order, record_count}
+use Rattle.meaning.specs.Format.{kind_of}
 use Rattle.meaning.specs.Table.{fields, scottish}
 use Rattle.meaning.specs.Records.{op_of, change_of}
 use Rattle.meaning.specs.File.{Stage, at_start, next, has_room, count_fault, Judged, bad, good, line_fault, verdict, judge_kind, judge_text, judge_line, Sheet, add_line, adds, body_after, on_line, read_from, read_file}
 use Rattle.meaning.specs.Load.{checked, check_file}
-use Rattle.meaning.specs.Answers.{Read, Fault, of_line, of_field, at_line, refused_with}
+use Rattle.meaning.specs.Answers.{Read, Numbers, Fault, Refusal, of_line, of_field, at_line, refused_with}
 use Rattle.text.specs.Places.{ends_here, line_len, plain_end}
 use Rattle.text.proofs.LineLaws.{lines_at, lines_end, ends_well_at, ends_there}
 use Rattle.layout.specs.declared.kinds.Kind.{Kind as Named}
-use Rattle.answers.specs.declared.refusal.Fault.{Fault as FaultTold}
 use Rattle.layout.specs.Meant.{kind_meant}
-use Rattle.layout.specs.Check.{bad_field, first_of, kind_dates, told}
-use Rattle.layout.specs.Rows.{Row}
+use Rattle.layout.specs.Check.{first_of}
 use Rattle.layout.proofs.CheckLaws.{fault_is}
 use Rattle.volume.specs.declared.stages.Stage.{Stage as StageNamed}
-use Rattle.volume.specs.declared.lines.Opened.{Opened}
-use Rattle.volume.specs.declared.lines.Opened.TheVariants.{Good, Bad}
 use Rattle.volume.specs.declared.walk.Walk.{Walk}
-use Rattle.answers.specs.declared.numbers.Answer.{Answer}
 use Rattle.volume.specs.Meant.{stage_meant}
-use Rattle.volume.specs.Judged.{opens_at, opens_as, opens, closes, judged_as}
-use Rattle.volume.specs.Walk.{unwalked, tally, walked_on, checked_from, left_of, stopped_at}
+use Rattle.volume.specs.Judged.{opens_at, opens_as, opens, closes}
+use Rattle.volume.specs.Walk.{unwalked, tally, walked_on, checked_from, left_of}
 use Rattle.volume.specs.Reading.{Reading}
-use Rattle.answers.specs.Meant.{no_fault_at, fault_of, fault_meant, answer_of}
-use Rattle.meaning.specs.Codes.{ending_wrong, identifier_unknown, out_of_place, field_count_wrong, end_before_start, too_many_body_lines}
+use Rattle.meaning.specs.Codes.{ending_wrong, identifier_unknown, out_of_place, field_count_wrong, too_many_body_lines}
 use Rattle.layout.proofs.PassLaws.{lowest}
-use Rattle.volume.proofs.WalkLaws.{within_on, stopped_fault, stopped_none}
+use Rattle.volume.proofs.WalkLaws.{within_on}
 
 -- ---- a line is judged before its fields, in its fields, and after them
 
@@ -98,71 +91,6 @@ opened_fields p n true t k q e = kinded (kind_of scottish (identifier t)) e
     kinded none e = let z : good k q ≡ bad (of_field identifier_unknown 1) = e in cc
     kinded (some k') e = placed k' (next p (role k')) e
 
--- a fault found before a line's fields has a code
-opens_coded : (p : Stage) (n : ℕ) (b : Bool) (t : List ℕ) (f : Fault) → bad f ≡ opens p n b t → f.code ≡ 0 → ⊥
-unfolding opens opens_as opens_at verdict ask
-opens_coded p n b t f e z = go b e
-  where
-    -- the code of a judgement, and 1 of a good one
-    coded : Judged → ℕ
-    coded (bad g) = g.code
-    coded (good k q) = 1
-
-    none_of : (c : ℕ) → 1 ≤ c → f.code ≡ c → ⊥
-    none_of c l h = omega (arith, z)
-
-    asked : (k : Kind) (q : Stage) (r s : Bool) → bad f ≡ verdict (ask {A = Fault} r (of_line too_many_body_lines) (ask {A = Fault} s (of_line field_count_wrong) none)) k q → ⊥
-    asked k q true true e = none_of 1 (omega arith) (ap coded e)
-    asked k q true false e = none_of field_count_wrong (omega arith) (ap coded e)
-    asked k q false s e = none_of too_many_body_lines (omega arith) (ap coded e)
-
-    placed : (k : Kind) (o : Option Stage) → bad f ≡ opens_at n t k o → ⊥
-    placed k none e = none_of out_of_place (omega arith) (ap coded e)
-    placed k (some q) e = asked k q (has_room (role k) n) (has_fields (length (fields k)) t) e
-
-    kinded : (o : Option Kind) → bad f ≡ opens_as p n t o → ⊥
-    kinded none e = none_of identifier_unknown (omega arith) (ap coded e)
-    kinded (some k) e = placed k (next p (role k)) e
-
-    go : (b : Bool) → bad f ≡ opens p n b t → ⊥
-    go false e = none_of ending_wrong (omega arith) (ap coded e)
-    go true e = kinded (kind_of scottish (identifier t)) e
-
--- a line is no longer than its file
-pub line_short : (s : List ℕ) (at e : ℕ) → length (take (e - at) (drop at s)) ≤ length s
-line_short s at e = simp (length-take, length-drop) (omega arith)
-
--- ---- what is told of a line after its fields
-
--- a fault has a code
-closes_told : (n : ℕ) (k : Kind) (t : List ℕ) → (told (closes n k t)).code ≡ 0 → closes n k t ≡ none
-unfolding closes count_fault ask
-closes_told n k t z = dated (kind_dates k (fields_of t)) (role k) z
-  where
-    asked : (b : Bool) (c f : ℕ) → (told (ask {A = Fault} b (of_field (suc c) f) none)).code ≡ 0 → ask {A = Fault} b (of_field (suc c) f) none ≡ none
-    asked true c f z = refl
-    asked false c f z = absurd (omega (arith, z))
-
-    dated : (b : Bool) (r : Role) → (told (ask {A = Fault} b (of_field end_before_start (field_number 1 end_date (fields k))) (count_fault scottish r n k t))).code ≡ 0 → ask {A = Fault} b (of_field end_before_start (field_number 1 end_date (fields k))) (count_fault scottish r n k t) ≡ none
-    dated false r z = absurd (omega (arith, z))
-    dated true header_line z = refl
-    dated true body_line z = asked (eqb (value (named pro_order (fields k) (fields_of t))) (suc n)) 6 (field_number 1 pro_order (fields k)) z
-    dated true metadata_line z = refl
-    dated true trailer_line z = asked (eqb (value (named record_count (fields k) (fields_of t))) n) 7 (field_number 1 record_count (fields k)) z
-
--- no code, no fault
-told_none : (n : ℕ) (k : Kind) (t : List ℕ) (f : FaultTold) → f ≡ told (closes n k t) → f.code ≡ 0 → closes n k t ≡ none
-told_none n k t f g z = closes_told n k t (ap (λ x. x.code) (sym g) ∙ z)
-
--- and none is told
-pub closed_none : (n : ℕ) (k : Kind) (t : List ℕ) (f : FaultTold) → f ≡ told (closes n k t) → f.code ≡ 0 → f ≡ no_fault_at
-closed_none n k t f g z = g ∙ ap told (told_none n k t f g z)
-
--- a code, and the fault is told
-told_some : (o : Option Fault) (f : FaultTold) → f ≡ told o → (f.code ≡ 0 → ⊥) → o ≡ some (fault_meant f)
-told_some none f g z = absurd (z (ap (λ x. x.code) g))
-told_some (some w) f g z = rw g
-
 -- ---- what is counted of a line
 
 -- a line that is put in front of what the lines after it say is counted before them
@@ -196,26 +124,19 @@ read_start s w e = rw e (record {
   stands = omega arith;
 })
 
+pub ruleset starting = (rules, read_start)
+
 -- a fault is the file's, at the line where the walk stopped
-pub record Faulty (s : List ℕ) (w : Walk) (f : FaultTold) : Type 0 where
-  pub refuses : check_file scottish s ≡ refused_with (at_line w.line (fault_meant f))
-  pub coded : f.code ≡ 0 → ⊥
+abbrev pub Faulty : List ℕ → Walk → Fault → Type 0
+Faulty s w f = check_file scottish s ≡ refused_with (at_line w.line f)
 
--- so it is answered
-pub read_refused : (s : List ℕ) (w : Walk) (f : FaultTold) (r : Answer) → Faulty s w f → r ≡ answer_of (stopped_at w (fault_meant f)) → r ≡ answer_of (check_file scottish s)
-read_refused s w f r h e = e ∙ ap answer_of (stopped_fault w f h.coded ∙ sym h.refuses)
-
--- also where it was kept
-pub read_kept : (s : List ℕ) (w : Walk) (f g : FaultTold) → f ≡ g → Faulty s w g → Faulty s w f
-read_kept s w f g e h = rw e h
+-- so it is answered, also where it was kept
+pub read_refused : (s : List ℕ) (w : Walk) (f g : Fault) (r : Refusal) → r ≡ at_line w.line f → f ≡ g → Faulty s w g → refused_with r ≡ check_file scottish s
+read_refused s w f g r e q h = ap refused_with e ∙ rw q (sym h)
 
 -- it ends where no line is left
-pub read_done : (s : List ℕ) (w : Walk) (at : ℕ) (r : Answer) → Reading s w at → length s ≤ at → r ≡ answer_of (left_of w []) → r ≡ answer_of (check_file scottish s)
-read_done s w at r v h e = e ∙ ap answer_of (rw (lines_end s at h) at v.left)
-
--- also where it stopped without a fault
-pub read_stopped : (s : List ℕ) (w : Walk) (at : ℕ) (f : FaultTold) (r : Answer) → Reading s w at → length s ≤ at → f.code ≡ 0 → r ≡ answer_of (stopped_at w (fault_meant f)) → r ≡ answer_of (check_file scottish s)
-read_stopped s w at f r v h z e = read_done s w at r v h (e ∙ ap answer_of (stopped_none w f z))
+pub read_done : (s : List ℕ) (w : Walk) (at : ℕ) (r : Numbers) → Reading s w at → length s ≤ at → r ≡ left_of w [] → r ≡ check_file scottish s
+read_done s w at r v h e = e ∙ (rw (lines_end s at h) at v.left)
 
 module _ (s : List ℕ) (w : Walk) (at e : ℕ) (h : at < length s) (q : e ≡ plain_end s at) where
   -- the lines after this one
@@ -246,21 +167,18 @@ module _ (s : List ℕ) (w : Walk) (at e : ℕ) (h : at < length s) (q : e ≡ p
           let next : at + (n + 2) ≡ e + 2 = omega (arith, size) in
           rw (next, size)
 
-  module _ (v : Reading s w at) (b : Bool) (i : b ≡ ends_here (drop e s)) (o : Opened)
-      (j : judged_as o ≡ opens (stage_meant w.stage) w.body b (take (e - at) (drop at s))) where
+  module _ (v : Reading s w at) (b : Bool) (i : b ≡ ends_here (drop e s)) (o : Judged)
+      (j : o ≡ opens (stage_meant w.stage) w.body b (take (e - at) (drop at s))) where
     -- the line, as it was opened
-    line_opened : check_file scottish s ≡ checked_from w (on_line w.line (take (e - at) (drop at s)) (fully w.body (take (e - at) (drop at s)) (judged_as o)) rest)
+    line_opened : check_file scottish s ≡ checked_from w (on_line w.line (take (e - at) (drop at s)) (fully w.body (take (e - at) (drop at s)) o) rest)
     line_opened = sym v.left ∙ line_left ∙ rw (j, i)
 
     -- 1, 2, 3, 9 or 4 is the file's fault
-    pub read_opened : (f : FaultTold) → o ≡ Bad f → Faulty s w f
+    pub read_opened : (f : Fault) → o ≡ bad f → Faulty s w f
     unfolding on_line checked_from
-    read_opened f d = record {
-      refuses = line_opened ∙ rw d;
-      coded = opens_coded (stage_meant w.stage) w.body b (take (e - at) (drop at s)) (fault_meant f) (rw d at j);
-    }
+    read_opened f d = line_opened ∙ rw d
 
-    module _ (kind : Named) (stage : StageNamed) (z : o ≡ Good kind stage) where
+    module _ (kind : Named) (stage : StageNamed) (z : o ≡ good (kind_meant kind) (stage_meant stage)) where
       -- a line without a fault so far
       line_good : check_file scottish s
           ≡ checked_from w (on_line w.line (take (e - at) (drop at s)) (fully w.body (take (e - at) (drop at s)) (good (kind_meant kind) (stage_meant stage))) rest)
@@ -272,31 +190,29 @@ module _ (s : List ℕ) (w : Walk) (at e : ℕ) (h : at < length s) (q : e ≡ p
           sym (opened_fields (stage_meant w.stage) w.body b (take (e - at) (drop at s)) (kind_meant kind) (stage_meant stage) (rw z at j))
 
       -- 5 is the file's fault
-      pub read_malformed : (n : ℕ) (d : Row) (g : List ℕ) → some (bad_field n d g) ≡ lowest (kind_meant kind) (take (e - at) (drop at s)) → Faulty s w (fault_of (bad_field n d g))
+      pub read_malformed : (f : Fault) → some f ≡ lowest (kind_meant kind) (take (e - at) (drop at s)) → Faulty s w f
       unfolding on_line checked_from verdict
-      read_malformed n d g m = record { refuses = line_good ∙ rw (← m); coded = λ z. omega (arith, z) }
+      read_malformed f m = line_good ∙ rw (← m)
 
-      module _ (y : none ≡ lowest (kind_meant kind) (take (e - at) (drop at s))) (f : FaultTold) (g : f ≡ told (closes w.body (kind_meant kind) (take (e - at) (drop at s)))) where
+      module _ (y : none ≡ lowest (kind_meant kind) (take (e - at) (drop at s))) where
         -- 6, 7 or 8 is the file's fault
-        pub read_closed : (f.code ≡ 0 → ⊥) → Faulty s w f
+        pub read_closed : (f : Fault) → some f ≡ closes w.body (kind_meant kind) (take (e - at) (drop at s)) → Faulty s w f
         unfolding on_line checked_from verdict
-        read_closed m = record {
-          refuses = line_good ∙ rw (← y, told_some (closes w.body (kind_meant kind) (take (e - at) (drop at s))) f g m);
-          coded = m;
-        }
+        read_closed f m = line_good ∙ rw (← y, ← m)
 
         -- a good line is passed
-        passed : f.code ≡ 0
+        passed : none ≡ closes w.body (kind_meant kind) (take (e - at) (drop at s))
             → check_file scottish s
             ≡ left_of (walked_on w (role (kind_meant kind)) (op_of (get_or (fields_of (take (e - at) (drop at s))) 1 [])) stage) (lines_of (drop (e + 2) s))
         unfolding on_line verdict left_of walked_on
         passed m =
             line_good
-            ∙ rw (← y, told_none w.body (kind_meant kind) (take (e - at) (drop at s)) f g m)
+            ∙ rw (← y, ← m)
             (counted_on w (kind_meant kind) (take (e - at) (drop at s)) stage (role (kind_meant kind)) (rest (kind_meant kind) (stage_meant stage)))
 
         -- and the walk goes on after it
-        pub read_turn : f.code ≡ 0 → (u : Walk) → u ≡ walked_on w (role (kind_meant kind)) (op_of (get_or (fields_of (take (e - at) (drop at s))) 1 [])) stage → at ≤ e → e ≤ length s → Reading s u (e + 2)
+        pub read_turn : none ≡ closes w.body (kind_meant kind) (take (e - at) (drop at s)) → (u : Walk)
+            → u ≡ walked_on w (role (kind_meant kind)) (op_of (get_or (fields_of (take (e - at) (drop at s))) 1 [])) stage → at ≤ e → e ≤ length s → Reading s u (e + 2)
         read_turn m u x a d = rw x (record {
           left = sym (passed m);
           within = within_on w (role (kind_meant kind)) (op_of (get_or (fields_of (take (e - at) (drop at s))) 1 [])) stage at (e + 2) v.within (omega arith);

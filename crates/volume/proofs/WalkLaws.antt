@@ -1,18 +1,20 @@
 -- The laws of what a walk counts.
-use mathlib.Core.Path.{◌≡◌, ◌∙◌}
+use mathlib.Core.Path.{◌≡◌, refl, ap, ◌∙◌}
 use mathlib.Core.List.{[]}
 use Prim.Native.Nat.{ℕ, ◌+◌, ◌≤◌}
 use native.Mathlib.Nat.{add-zero}
 use native.Mathlib.Numerals.{add-one}
 use native.Mathlib.Omega.{arith}
 use borrow.Author.Rules.{rules}
-use borrow.Author.Tests.{eq-eqb, ne_eqb}
+use borrow.Author.Tests.{not-true, not-false}
+use Rattle.std.specs.Prelude.{◌⊎◌}
+use Rattle.std.proofs.Math.Logic.{inl, inr}
 use Rattle.theory.specs.Step.{Op, ins, upd, del}
 use Rattle.theory.specs.Answer.{count}
 use Rattle.meaning.specs.Kinds.{Role, header_line, body_line, metadata_line, trailer_line, role}
 use Rattle.meaning.specs.File.{body_after, at_end, read_from}
 use Rattle.meaning.specs.Codes.{out_of_place}
-use Rattle.meaning.specs.Answers.{of_line, at_line, refused_with, taken_with}
+use Rattle.meaning.specs.Answers.{Refusal, of_line, at_line, refused_with, taken_with}
 use Rattle.layout.specs.declared.kinds.HeldKind.{HeldKind}
 use Rattle.layout.specs.declared.kinds.Kind.{Kind as Named}
 use Rattle.layout.specs.declared.kinds.Kind.TheVariants.{Header, Held, Metadata, Trailer}
@@ -24,11 +26,8 @@ use Rattle.volume.specs.declared.lines.Change.{Change}
 use Rattle.volume.specs.declared.lines.Change.TheVariants.{Insert, Update, Delete}
 use Rattle.volume.specs.declared.walk.Walk.{Walk}
 use Rattle.volume.specs.Meant.{change_meant}
-use Rattle.volume.specs.Walk.{tally, counted_in, walked_on, checked_from, left_of, stopped_at, Within}
-use Rattle.answers.specs.declared.refusal.Fault.{Fault}
-use Rattle.answers.specs.declared.refusal.Refusal.{Refusal}
-use Rattle.answers.specs.declared.numbers.Answer.{Answer}
-use Rattle.answers.specs.Meant.{fault_meant, refusal_of, refusal_meant, counts_of, answer_of}
+use Rattle.volume.specs.Walk.{tally, counted_in, walked_on, checked_from, left_of, Within}
+use Rattle.answers.specs.Meant.{counts_of}
 use Rattle.layout.proofs.CheckLaws.{early_there, early_room}
 
 -- ---- one body line more
@@ -113,72 +112,36 @@ within_on w r c p n m h l = record {
 }
 
 module _ (w : Walk) (p : Stage) (c : Op) (kind : Named) where
-  -- a header is not counted
-  pub after_header : kind ≡ Header → stepped w p ≡ walked_on w (role (kind_meant kind)) c p
+  -- no other line than a body line is counted
+  pub after_else : (kind ≡ Header) ⊎ ((kind ≡ Metadata) ⊎ (kind ≡ Trailer)) → stepped w p ≡ walked_on w (role (kind_meant kind)) c p
   unfolding walked_on tally body_after
-  after_header h = rw (role_of_lem kind Header h, add-one w.line, add-zero w.inserts, add-zero w.updates, add-zero w.deletes)
-
-  -- nor is metadata
-  pub after_metadata_lem : kind ≡ Metadata → stepped w p ≡ walked_on w (role (kind_meant kind)) c p
-  unfolding walked_on tally body_after
-  after_metadata_lem h = rw (role_of_lem kind Metadata h, add-one w.line, add-zero w.inserts, add-zero w.updates, add-zero w.deletes)
-
-  -- nor is the trailer
-  pub after_trailer_lem : kind ≡ Trailer → stepped w p ≡ walked_on w (role (kind_meant kind)) c p
-  unfolding walked_on tally body_after
-  after_trailer_lem h = rw (role_of_lem kind Trailer h, add-one w.line, add-zero w.inserts, add-zero w.updates, add-zero w.deletes)
+  after_else (inl h) = rw (role_of_lem kind Header h, add-one w.line, add-zero w.inserts, add-zero w.updates, add-zero w.deletes)
+  after_else (inr (inl h)) = rw (role_of_lem kind Metadata h, add-one w.line, add-zero w.inserts, add-zero w.updates, add-zero w.deletes)
+  after_else (inr (inr h)) = rw (role_of_lem kind Trailer h, add-one w.line, add-zero w.inserts, add-zero w.updates, add-zero w.deletes)
 
   -- a body line is
   pub after_body : (v : Walk) (held : HeldKind) (o : Op) → kind ≡ Held held → o ≡ c → v ≡ counted_in (stepped w p) o → v ≡ walked_on w (role (kind_meant kind)) c p
   unfolding walked_on tally body_after counted_in
   after_body v held o h i q = q ∙ rw (i, role_of_lem kind (Held held) h, add-one w.line)
 
-pub ruleset after = (rules, early_there, early_room, after_header, after_metadata_lem, after_trailer_lem, after_body, within_stepped)
+pub ruleset after = (rules, early_there, early_room, after_else, after_body, within_stepped)
 
 -- ---- no line is left
 
-module _ (w : Walk) (r : Answer) where
-  -- before the header
-  pub end_start : w.stage ≡ AtStart → r ≡ answer_of (refused_with (at_line w.line (of_line out_of_place))) → r ≡ answer_of (left_of w [])
-  unfolding left_of read_from at_end checked_from
-  end_start e q = q ∙ rw e
-
-  -- in the body
-  pub end_body : w.stage ≡ InBody → r ≡ answer_of (refused_with (at_line w.line (of_line out_of_place))) → r ≡ answer_of (left_of w [])
-  unfolding left_of read_from at_end checked_from
-  end_body e q = q ∙ rw e
-
-  -- before the trailer
-  pub end_metadata : w.stage ≡ AfterMetadata → r ≡ answer_of (refused_with (at_line w.line (of_line out_of_place))) → r ≡ answer_of (left_of w [])
-  unfolding left_of read_from at_end checked_from
-  end_metadata e q = q ∙ rw e
+-- before the trailer
+pub end_out : (w : Walk) → (w.stage ≡ AfterTrailer → ⊥) → (x : Refusal) → x ≡ at_line w.line (of_line out_of_place) → refused_with x ≡ left_of w []
+unfolding left_of read_from at_end checked_from
+end_out w n x e = ap refused_with e ∙ go w.stage refl
+  where
+    go : (p : Stage) → w.stage ≡ p → refused_with (at_line w.line (of_line out_of_place)) ≡ left_of w []
+    go AtStart h = rw h
+    go InBody h = rw h
+    go AfterMetadata h = rw h
+    go AfterTrailer h = absurd (n h)
 
 -- after it
-pub end_trailer : (w : Walk) (r : Answer) → w.stage ≡ AfterTrailer → r ≡ answer_of (taken_with (counts_of w.inserts w.updates w.deletes)) → r ≡ answer_of (left_of w [])
+pub end_trailer : (w : Walk) → w.stage ≡ AfterTrailer → taken_with (counts_of w.inserts w.updates w.deletes) ≡ left_of w []
 unfolding left_of read_from at_end checked_from count
-end_trailer w r e q = q ∙ rw (e, add-zero w.inserts, add-zero w.updates, add-zero w.deletes)
+end_trailer w e = rw (e, add-zero w.inserts, add-zero w.updates, add-zero w.deletes)
 
-pub ruleset ends = (rules, end_start, end_body, end_metadata, end_trailer)
-
--- ---- the walk stopped
-
-module _ (w : Walk) (f : Fault) where
-  -- at a fault
-  pub stopped_fault : (f.code ≡ 0 → ⊥) → stopped_at w (fault_meant f) ≡ refused_with (at_line w.line (fault_meant f))
-  unfolding stopped_at
-  stopped_fault z = rw (ne_eqb f.code 0 z)
-
-  -- at none
-  pub stopped_none : f.code ≡ 0 → stopped_at w (fault_meant f) ≡ left_of w []
-  unfolding stopped_at
-  stopped_none z = rw (eq-eqb f.code 0 z)
-
-  -- a refusal that was made of the fault
-  pub stop_fault : (x : Refusal) (r : Answer) → (f.code ≡ 0 → ⊥) → x ≡ refusal_of (at_line w.line (fault_meant f)) → r ≡ answer_of (refused_with (refusal_meant x)) → r ≡ answer_of (stopped_at w (fault_meant f))
-  stop_fault x r z e q = q ∙ rw (e, stopped_fault z)
-
-  -- what was answered of no line left
-  pub stop_none : (r : Answer) → f.code ≡ 0 → r ≡ answer_of (left_of w []) → r ≡ answer_of (stopped_at w (fault_meant f))
-  stop_none r z q = q ∙ rw (stopped_none z)
-
-pub ruleset stops = (rules, stop_fault, stop_none)
+pub ruleset ends = (rules, not-true, not-false, end_out, end_trailer)

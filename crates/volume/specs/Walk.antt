@@ -1,13 +1,12 @@
 -- The walk of a file's lines: what is counted so far, and what is answered of the lines that are left.
-use Rattle.std.specs.Prelude.{List, [], ℕ, suc, ◌+◌, ◌≤◌, eqb}
-use Rattle.base.specs.Lists.{pick}
+use Rattle.std.specs.Prelude.{List, ℕ, suc, ◌+◌, ◌≤◌}
 use Rattle.theory.specs.Step.{Op, ins, upd, del}
 use Rattle.theory.specs.Answer.{fault, file, is_op, count}
 use Rattle.meaning.specs.Lines as meant
 use Rattle.meaning.specs.Kinds.{Role, header_line, body_line, metadata_line, trailer_line}
 use Rattle.meaning.specs.Table.{scottish}
 use Rattle.meaning.specs.File.{Sheet, body_after, read_from}
-use Rattle.meaning.specs.Answers.{Read, Numbers, Fault, at_line, taken_with, refused_with}
+use Rattle.meaning.specs.Answers.{Read, Numbers, taken_with, refused_with}
 use Rattle.volume.specs.declared.stages.Stage.{Stage}
 use Rattle.volume.specs.declared.stages.Stage.TheVariants.{AtStart}
 use Rattle.volume.specs.declared.walk.Walk.{Walk}
@@ -54,10 +53,6 @@ checked_from w (file s) = taken_with (record { inserts = w.inserts + count ins s
 -- what the walk answers of the lines that are left
 unfoldable pub left_of : Walk → List meant.Line → Numbers
 left_of w ls = checked_from w (read_from scottish w.line (stage_meant w.stage) w.body ls)
-
--- what the walk answers where it stopped: its line's fault if that has a code, else what it answers of no line left
-unfoldable pub stopped_at : Walk → Fault → Numbers
-stopped_at w f = pick (eqb f.code 0) (left_of w []) (refused_with (at_line w.line f))
 
 -- no number of the walk has passed the bytes before n
 pub record Within (w : Walk) (n : ℕ) : Type 0 where

@@ -8,7 +8,7 @@ ghost use Rattle.volume.specs.Meant.{stage_meant, stage_found};
 use layout::kinds::Kind;
 
 // Where a line may stand.
-#[derive(Clone, Copy)]
+#[derive(Clone, Copy, Debug, PartialEq, Eq)]
 pub enum Stage {
     AtStart,
     InBody,
@@ -16,36 +16,15 @@ pub enum Stage {
     AfterTrailer,
 }
 
-// A stage, if there is one.
-#[derive(Clone, Copy)]
-pub enum StageFound {
-    At(Stage),
-    Nowhere,
-}
-
 // The stage after a line of a kind, where it may stand at all: a body line is of a held kind.
-pub fn next_stage(stage: Stage, kind: Kind) -> StageFound
+#[tactic(auto, using(crate::proofs::LineLaws::nexts), unfolding(meaning::specs::File::next))]
+pub fn next_stage(stage: Stage, kind: Kind) -> Option<Stage>
     ensures { stage_found result ≡ next (stage_meant stage) (role (kind_meant kind)) }
 {
-    match stage {
-        Stage::AtStart => match kind {
-            Kind::Header => StageFound::At(Stage::InBody),
-            Kind::Held(_) => StageFound::Nowhere,
-            Kind::Metadata => StageFound::Nowhere,
-            Kind::Trailer => StageFound::Nowhere,
-        },
-        Stage::InBody => match kind {
-            Kind::Header => StageFound::Nowhere, // there is no other
-            Kind::Held(_) => StageFound::At(Stage::InBody),
-            Kind::Metadata => StageFound::At(Stage::AfterMetadata),
-            Kind::Trailer => StageFound::Nowhere,
-        },
-        Stage::AfterMetadata => match kind {
-            Kind::Header => StageFound::Nowhere,
-            Kind::Held(_) => StageFound::Nowhere,
-            Kind::Metadata => StageFound::Nowhere,
-            Kind::Trailer => StageFound::At(Stage::AfterTrailer),
-        },
-        Stage::AfterTrailer => StageFound::Nowhere,
+    match (stage, kind) {
+        (Stage::AtStart, Kind::Header) | (Stage::InBody, Kind::Held(_)) => Some(Stage::InBody),
+        (Stage::InBody, Kind::Metadata) => Some(Stage::AfterMetadata),
+        (Stage::AfterMetadata, Kind::Trailer) => Some(Stage::AfterTrailer),
+        _ => None,
     }
 }

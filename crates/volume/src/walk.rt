@@ -8,12 +8,12 @@ ghost use Rattle.layout.specs.Check.{Parted};
 ghost use Rattle.volume.specs.Meant.{change_meant};
 ghost use Rattle.volume.specs.Walk.{unwalked, walked_on, counted_in, Within};
 
-use crate::lines::{Change, Line, known_noted};
+use crate::lines::{Change, change_noted};
 use crate::stages::Stage;
 use layout::kinds::Kind;
 
 // The stage and number of the next line, and the body lines before it, with I, U and D.
-#[derive(Clone, Copy)]
+#[derive(Clone, Copy, Debug, PartialEq, Eq)]
 pub struct Walk {
     pub stage: Stage,
     pub line: usize,
@@ -37,49 +37,47 @@ impl Walk {
             deletes: 0,
         }
     }
-}
 
-// The walk with one body line more.
-fn counted(walk: Walk, line: Line) -> Walk
-    requires { Within walk (2 ^ 63 + 1) }
-    ensures { result ≡ counted_in walk (change_meant line.change) }
-{
-    let change = line.change;
-    let mut after = walk;
-    after.body = walk.body + 1;
-    match change {
-        Change::Insert => {
-            after.inserts = walk.inserts + 1;
-            return after;
-        }
-        Change::Update => {
-            after.updates = walk.updates + 1;
-            return after;
-        }
-        Change::Delete => {
-            after.deletes = walk.deletes + 1;
-            return after;
+    // The walk with one body line more.
+    #[tactic(auto, using(crate::proofs::WalkLaws::counts))]
+    fn counted(self, change: Change) -> Walk
+        requires { Within self (2 ^ 63 + 1) }
+        ensures { result ≡ counted_in self (change_meant change) }
+    {
+        let body = self.body + 1;
+        match change {
+            Change::Insert => Walk {
+                body,
+                inserts: self.inserts + 1,
+                ..self
+            },
+            Change::Update => Walk {
+                body,
+                updates: self.updates + 1,
+                ..self
+            },
+            Change::Delete => Walk {
+                body,
+                deletes: self.deletes + 1,
+                ..self
+            },
         }
     }
-}
 
-// The walk after a sound line of a kind, before a stage: a body line is counted.
-pub fn after_line(walk: Walk, kind: Kind, text: &[u8], ends: &[usize], stage: Stage) -> Walk
-    requires { Within walk (2 ^ 63) × Parted (kind_meant kind) text.now ends.now }
-    ensures { result ≡ walked_on walk (role (kind_meant kind)) (op_of (get_or (fields_of text.now) 1 [])) stage }
-{
-    let after = Walk {
-        stage,
-        line: walk.line + 1,
-        body: walk.body,
-        inserts: walk.inserts,
-        updates: walk.updates,
-        deletes: walk.deletes,
-    };
-    match kind {
-        Kind::Header => after,
-        Kind::Held(held) => counted(after, known_noted(held, text, ends)),
-        Kind::Metadata => after,
-        Kind::Trailer => after,
+    // The walk after a sound line of a kind, before a stage: a body line is counted.
+    #[tactic(auto, using(crate::proofs::WalkLaws::after))]
+    pub fn after(self, kind: Kind, text: &[u8], ends: &[usize], stage: Stage) -> Walk
+        requires { Within self (2 ^ 63) × Parted (kind_meant kind) text.now ends.now }
+        ensures { result ≡ walked_on self (role (kind_meant kind)) (op_of (get_or (fields_of text.now) 1 [])) stage }
+    {
+        let after = Walk {
+            stage,
+            line: self.line + 1,
+            ..self
+        };
+        match kind {
+            Kind::Held(_) => after.counted(change_noted(text, ends)),
+            Kind::Header | Kind::Metadata | Kind::Trailer => after,
+        }
     }
 }

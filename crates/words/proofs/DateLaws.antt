@@ -302,13 +302,11 @@ by_eight P f bs n =
 module _
     (s : List ℕ) (at w m : ℕ) (h : at + 10 ≤ length s) (e : w ≡ word (take 8 (drop (at + 2) s)))
     (t : T (all is_byte (take 8 (drop (at + 2) s))))
-    (q : m ≡ marks 8 w 0x30302D30302D3030 0x76767F76767F7676) (z : m ≤ 0)
+    (q : m ≡ marks 8 w 0x30302D30302D3030 0x76767F76767F7676) (z : m ≡ 0)
   where
     -- the last eight have no mark
     still : Quiet (take 8 (drop (at + 2) s))
-    still =
-        let u : m ≡ 0 = omega arith in
-        (t, ap (λ x. marks 8 x 0x30302D30302D3030 0x76767F76767F7676) (sym e) ∙ sym q ∙ u)
+    still = (t, ap (λ x. marks 8 x 0x30302D30302D3030 0x76767F76767F7676) (sym e) ∙ sym q ∙ z)
 
     -- they are eight
     eight_still : length (take 8 (drop (at + 2) s)) ≡ 8

@@ -2,17 +2,18 @@
 use mathlib.Core.Path.{◌≡◌, refl, sym, ap, subst, ◌∙◌}
 use mathlib.Core.Bool.{Bool, true, false, ◌&&◌}
 use mathlib.Core.List.{List, [], ◌∷◌}
-use Prim.Native.Nat.{ℕ, zero, suc, ◌+◌, ◌*◌, ◌/◌, ◌%◌, ◌^◌, ◌≤◌, ◌<◌}
+use Prim.Native.Nat.{ℕ, zero, suc, ◌+◌, ◌*◌, ◌/◌, ◌%◌, ◌≤◌, ◌<◌}
 use native.Mathlib.Omega.{arith}
 use native.Mathlib.Decide.{dec_le}
 use lib.Bits.{bit_and, bit_or, bit_xor, and_block, or_block, xor_block, and_le_r, or_lt, xor_lt}
 use mir.Syntax.{w64}
-use mir.Val.{Fits}
-use lib.Count.{count_trailing_zeros, under, trailing_of_zero}
+use lib.Count.{count_trailing_zeros, trailing_of_zero}
 use lib.Dec.{T, eqb, eqb→eq, ltb→lt, lt→ltb}
 use lib.ListN.{length, get_or, take, drop, length-drop}
 use lib.Seq.{length-take-le}
+use Rattle.std.specs.Int.{from_le_bytes}
 use Rattle.base.specs.Lists.{pick, all}
+use Rattle.base.specs.ListLaws.{all_take, all_drop}
 use Rattle.base.specs.Tests.{and_in, and_l, and_r}
 use Rattle.base.proofs.Walk.{at_cons}
 use Rattle.meaning.specs.Forms.{is_digit, is_text_byte}
@@ -232,20 +233,6 @@ ascii_eight bs w m l t e f = marks_eight is_ascii_text ascii_marked ascii_lanes 
 pub mark_none : (m : ℕ) → m ≡ 0 → 8 ≡ count_trailing_zeros 64 m / 8
 mark_none m e = rw (e, trailing_of_zero 64)
 
--- some mark
-some : (k m : ℕ) → 0 < m → m < 2 ^ k → count_trailing_zeros k m < k
-unfolding count_trailing_zeros
-some zero m h l = absurd (omega arith)
-some (suc k) m h l = go (m % 2) refl (λ p q. some k (m / 2) p q)
-  where
-    go : (r : ℕ) → m % 2 ≡ r → (0 < m / 2 → m / 2 < 2 ^ k → count_trailing_zeros k (m / 2) < k) → under r (count_trailing_zeros k (m / 2)) < suc k
-    go zero e f = omega (arith, f (omega arith) (omega arith))
-    go (suc r) e f = omega arith
-
--- is in one of eight bytes
-pub mark_some : (m : ℕ) → 0 < m → Fits w64 m → count_trailing_zeros 64 m / 8 < 8
-mark_some m h l = omega (arith, some 64 m h (omega arith))
-
 -- ---- the functions
 
 -- eight bytes of a slice
@@ -277,27 +264,17 @@ pub eight_at :
 unfolding cells
 eight_at s i h = next s i (i + 1) 7 refl (omega arith) ∙ ap (λ l. get_or s i 0 ∷ l) (cells_at 7 s i 1 (omega arith))
 
--- one more byte
-byte_cons : (b : ℕ) (r : List ℕ) → b ≤ 255 → T (all is_byte r) → T (all is_byte (b ∷ r))
-byte_cons b r h t = and_in (is_byte b) (all is_byte r) (lt→ltb b 256 (omega arith)) t
+-- what a slice holds is bytes
+bytes_all : (s : List ℕ) → ((k : ℕ) → get_or s k 0 < 256) → T (all is_byte s)
+bytes_all [] b = tt
+bytes_all (x ∷ s) b = and_in (is_byte x) (all is_byte s) (lt→ltb x 256 (b 0)) (bytes_all s (λ k. b (suc k)))
 
--- as one number
+-- what is read of eight of them, the first the lowest
 pub word_eight :
-    (s : List ℕ) (i a b c d e f g h r : ℕ) → i + 8 ≤ length s → (a ≡ get_or s i 0) × (a ≤ 255) → (b ≡ get_or s (i + 1) 0) × (b ≤ 255)
-    → (c ≡ get_or s (i + 2) 0) × (c ≤ 255) → (d ≡ get_or s (i + 3) 0) × (d ≤ 255) → (e ≡ get_or s (i + 4) 0) × (e ≤ 255)
-    → (f ≡ get_or s (i + 5) 0) × (f ≤ 255) → (g ≡ get_or s (i + 6) 0) × (g ≤ 255) → (h ≡ get_or s (i + 7) 0) × (h ≤ 255)
-    → r ≡ word (a ∷ b ∷ c ∷ d ∷ e ∷ f ∷ g ∷ h ∷ [])
+    (s : List ℕ) (i r : ℕ) → i + 8 ≤ length s → ((k : ℕ) → get_or s k 0 < 256)
+    → r ≡ from_le_bytes w64
+    (get_or s i 0 ∷ get_or s (i + 1) 0 ∷ get_or s (i + 2) 0 ∷ get_or s (i + 3) 0 ∷ get_or s (i + 4) 0
+    ∷ get_or s (i + 5) 0 ∷ get_or s (i + 6) 0 ∷ get_or s (i + 7) 0 ∷ [])
     → (r ≡ word (take 8 (drop i s))) × T (all is_byte (take 8 (drop i s)))
-word_eight s i a b c d e f g h r l a' b' c' d' e' f' g' h' q =
-    rw (eight_at s i l, ← a'.0, ← b'.0, ← c'.0, ← d'.0, ← e'.0, ← f'.0, ← g'.0, ← h'.0) (q, bytes)
-  where
-    bytes : T (all is_byte (a ∷ b ∷ c ∷ d ∷ e ∷ f ∷ g ∷ h ∷ []))
-    bytes =
-        byte_cons a (b ∷ c ∷ d ∷ e ∷ f ∷ g ∷ h ∷ []) a'.1
-        (byte_cons b (c ∷ d ∷ e ∷ f ∷ g ∷ h ∷ []) b'.1
-        (byte_cons c (d ∷ e ∷ f ∷ g ∷ h ∷ []) c'.1
-        (byte_cons d (e ∷ f ∷ g ∷ h ∷ []) d'.1
-        (byte_cons e (f ∷ g ∷ h ∷ []) e'.1
-        (byte_cons f (g ∷ h ∷ []) f'.1
-        (byte_cons g (h ∷ []) g'.1
-        (byte_cons h [] h'.1 tt)))))))
+unfolding word
+word_eight s i r l b e = (rw (eight_at s i l) (e ∙ omega arith), all_take is_byte 8 (drop i s) (all_drop is_byte i s (bytes_all s b)))

@@ -2,7 +2,7 @@
 use mathlib.Core.Path.{◌≡◌, subst}
 use mathlib.Core.Bool.{Bool, true, false, ◌&&◌}
 use mathlib.Core.List.{List, [], ◌∷◌}
-use Prim.Native.Nat.{ℕ, zero, suc, ◌+◌, ◌-◌, ◌/◌, ◌≤◌}
+use Prim.Native.Nat.{ℕ, zero, suc, ◌+◌, ◌-◌, ◌*◌, ◌/◌, ◌≤◌}
 use native.Mathlib.Omega.{arith}
 use borrow.Author.Rules.{rules}
 use lib.Count.{count_trailing_zeros}
@@ -43,30 +43,21 @@ module _
         (all_append p (upto s at i) (take n (drop i s)) t (run_all p 8 n (drop i s) k))
 
     -- no mark: eight more
-    pub run_eight : m ≤ 0 → T (all p (upto s at (i + 8)))
-    run_eight l = let z : m ≡ 0 = omega arith in more 8 (omega (arith, q, mark_none m z))
+    pub run_eight : m ≡ 0 → T (all p (upto s at (i + 8)))
+    run_eight z = more 8 (omega (arith, q, mark_none m z))
 
     -- a mark: the last few
     pub run_last : (n : ℕ) → n ≡ count_trailing_zeros 64 m / 8 → T (all p (upto s at (i + n)))
     run_last n k = more n (omega arith)
 
--- ---- two words, the first with no mark
+-- ---- word by word
 
-module _
-    (p : ℕ → Bool) (s : List ℕ) (at m k : ℕ) (q : count_trailing_zeros 64 m / 8 ≡ run p (take 8 (drop at s))) (z : m ≤ 0)
-    (r : count_trailing_zeros 64 k / 8 ≡ run p (take 8 (drop (at + 8) s)))
-  where
-    first : T (all p (upto s at (at + 8)))
-    first = run_eight p s at at m (omega arith) (run_none p s at) q z
+-- k words are passed: with no mark in the next, one more
+pub run_turn :
+    (p : ℕ → Bool) (s : List ℕ) (at k m : ℕ) → T (all p (upto s at (at + 8 * k))) → count_trailing_zeros 64 m / 8 ≡ run p (take 8 (drop (at + 8 * k) s))
+    → m ≡ 0 → T (all p (upto s at (at + 8 * (k + 1))))
+run_turn p s at k m t q z =
+    let e : at + 8 * k + 8 ≡ at + 8 * (k + 1) = omega arith in
+    subst (λ x. T (all p (upto s at x))) e (run_eight p s at (at + 8 * k) m (omega arith) t q z)
 
-    -- a mark in the second
-    pub run_second : (n : ℕ) → n ≡ count_trailing_zeros 64 k / 8 → T (all p (upto s at (at + 8 + n)))
-    run_second = run_last p s at (at + 8) k (omega arith) first r
-
-    -- no mark in the second
-    pub run_sixteen : k ≤ 0 → T (all p (upto s at (at + 16)))
-    run_sixteen l =
-        let e : at + 8 + 8 ≡ at + 16 = omega arith in
-        subst (λ x. T (all p (upto s at x))) e (run_eight p s at (at + 8) k (omega arith) first r l)
-
-pub ruleset running = (rules, run_none, run_eight, run_last, run_second, run_sixteen)
+pub ruleset running = (rules, run_none, run_eight, run_last)

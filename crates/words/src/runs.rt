@@ -1,5 +1,5 @@
 // Runs of bytes of one class, eight at a time.
-ghost use Rattle.std.specs.Prelude.{◌≡◌, ◌+◌, ◌/◌, ◌≤◌, ◌<◌, T, length, take, drop};
+ghost use Rattle.std.specs.Prelude.{◌≡◌, ◌+◌, ◌/◌, ◌≤◌, ◌<◌, T, MatchOption, length, take, drop};
 ghost use Rattle.std.specs.Int.Count.{count_trailing_zeros};
 ghost use Rattle.base.specs.Lists.{all};
 ghost use Rattle.meaning.specs.Forms.{is_digit};
@@ -8,13 +8,14 @@ ghost use Rattle.words.specs.Words.{run, ascii_marks, upto};
 
 use crate::word::{marked, word_at};
 
-// Which byte has the lowest mark.
-fn lowest(m: u64) -> usize
-    requires { 0 < m }
-    ensures { (result ≡ count_trailing_zeros 64 m / 8) × (result < 8) }
+// Which byte has the lowest mark, if one has a mark.
+fn lowest(m: u64) -> Option<usize>
+    ensures { MatchOption result (m ≡ 0) (λ n. (n ≡ count_trailing_zeros 64 m / 8) × (n < 8)) }
 {
-    let zeros = u64::trailing_zeros(m);
-    (zeros / 8) as usize
+    if m == 0 {
+        return None;
+    }
+    Some(m.trailing_zeros() as usize / 8)
 }
 
 // A mark in each of the eight bytes from `at` on that is no digit.
@@ -22,8 +23,7 @@ fn digit_marks(s: &[u8], at: usize) -> u64
     requires { at + 8 ≤ length s.now }
     ensures { count_trailing_zeros 64 result / 8 ≡ run is_digit (take 8 (drop at s.now)) }
 {
-    let w = word_at(s, at);
-    marked(w, 0x3030303030303030, 0x7676767676767676)
+    marked(word_at(s, at), 0x3030303030303030, 0x7676767676767676)
 }
 
 // Past the digits from `at` on, up to sixteen of them: no number of the table is wider.
@@ -31,14 +31,11 @@ pub fn past_digits(s: &[u8], at: usize) -> usize
     requires { at + 16 ≤ length s.now }
     ensures { (at ≤ result) × (result ≤ at + 16) × T (all is_digit (upto s.now at result)) }
 {
-    let m = digit_marks(s, at);
-    if 0 < m {
-        return at + lowest(m);
-    }
-    let next = at + 8;
-    let k = digit_marks(s, next);
-    if 0 < k {
-        return next + lowest(k);
+    for k in 0..2 {
+        let next = at + 8 * k;
+        if let Some(n) = lowest(digit_marks(s, next)) {
+            return next + n;
+        }
     }
     at + 16
 }
@@ -59,8 +56,7 @@ fn ascii_marks(s: &[u8], at: usize) -> u64
     requires { at + 8 ≤ length s.now }
     ensures { count_trailing_zeros 64 result / 8 ≡ run is_ascii_text (take 8 (drop at s.now)) }
 {
-    let w = word_at(s, at);
-    unlike_ascii(w)
+    unlike_ascii(word_at(s, at))
 }
 
 // Past the bytes of a text from `at` on that are ASCII, or past some of them where the bytes end.
@@ -70,9 +66,8 @@ pub fn past_ascii(s: &[u8], at: usize) -> usize
 {
     let mut i = at;
     while 8 <= s.len() - i {
-        let m = ascii_marks(s, i);
-        if 0 < m {
-            return i + lowest(m);
+        if let Some(n) = lowest(ascii_marks(s, i)) {
+            return i + n;
         }
         i += 8;
     }

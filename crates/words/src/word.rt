@@ -1,43 +1,23 @@
 // Eight bytes as one number.
-ghost use Rattle.std.specs.Prelude.{◌≡◌, [], ◌∷◌, ◌+◌, ◌≤◌, T, length, take, drop};
+ghost use Rattle.std.specs.Prelude.{◌≡◌, ◌+◌, ◌≤◌, T, length, take, drop};
 ghost use Rattle.base.specs.Lists.{all};
 ghost use Rattle.words.specs.Words.{word, is_byte, marks};
 
-// A byte as a number.
-pub fn wide(b: u8) -> u64
-    ensures { (result ≡ b) × (result ≤ 255) }
-{
-    b as u64
-}
-
-// Eight bytes as a number, the first the lowest.
-fn joined(a: u64, b: u64, c: u64, d: u64, e: u64, f: u64, g: u64, h: u64) -> u64
-    requires { (a ≤ 255) × (b ≤ 255) × (c ≤ 255) × (d ≤ 255) × (e ≤ 255) × (f ≤ 255) × (g ≤ 255) × (h ≤ 255) }
-    ensures { result ≡ word (a ∷ b ∷ c ∷ d ∷ e ∷ f ∷ g ∷ h ∷ []) }
-{
-    a + b * 256
-        + c * 0x10000
-        + d * 0x1000000
-        + e * 0x100000000
-        + f * 0x10000000000
-        + g * 0x1000000000000
-        + h * 0x100000000000000
-}
-
-// The eight bytes from `at` on.
+// The eight bytes from `at` on, the first the lowest: one load.
 pub fn word_at(s: &[u8], at: usize) -> u64
     requires { at + 8 ≤ length s.now }
     ensures { (result ≡ word (take 8 (drop at s.now))) × T (all is_byte (take 8 (drop at s.now))) }
 {
-    let a = wide(s[at]);
-    let b = wide(s[at + 1]);
-    let c = wide(s[at + 2]);
-    let d = wide(s[at + 3]);
-    let e = wide(s[at + 4]);
-    let f = wide(s[at + 5]);
-    let g = wide(s[at + 6]);
-    let h = wide(s[at + 7]);
-    joined(a, b, c, d, e, f, g, h)
+    u64::from_le_bytes([
+        s[at],
+        s[at + 1],
+        s[at + 2],
+        s[at + 3],
+        s[at + 4],
+        s[at + 5],
+        s[at + 6],
+        s[at + 7],
+    ])
 }
 
 // A mark in each byte of w that is not `like` or, where `over` is less than 127, a little more.

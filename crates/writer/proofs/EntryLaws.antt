@@ -1,7 +1,7 @@
 -- The laws of the line of an entry's record.
-use mathlib.Core.Path.{◌≡◌, refl, sym, ap, ◌∙◌}
-use mathlib.Core.Bool.{true, false}
+use mathlib.Core.Path.{◌≡◌, sym, ap, ◌∙◌}
 use mathlib.Core.List.{List, []}
+use Rattle.std.specs.Prelude.{Option}
 use Prim.Native.Nat.{ℕ, ◌+◌, ◌/◌, ◌%◌, ◌≤◌, ◌<◌}
 use native.Mathlib.Omega.{arith}
 use borrow.Author.Rules.{rules}
@@ -15,10 +15,8 @@ use Rattle.text.specs.Front.{in_front}
 use Rattle.entries.specs.Entries.{rec_of, line_at, record_of}
 use Rattle.entries.proofs.EntryLaws.{entry_held, entry_filed, line_past, line_here_lem}
 use Rattle.places.specs.Changes.{op_at}
-use Rattle.writer.specs.declared.room.Fitted.{Fitted}
 use Rattle.writer.specs.Lines.{line_bytes}
-use Rattle.writer.specs.Room.{PutIfFits}
-use Rattle.writer.proofs.FitLaws.{put_not, put_whole}
+use Rattle.writer.specs.Room.{Put, PutIfFits}
 use Rattle.writer.proofs.LineLaws.{length_line}
 
 -- the text of the line at an offset
@@ -35,7 +33,7 @@ pub filed_is : (h f : List ℕ) (v : ℕ) → (v % 2 ≡ 0 → ⊥) → rec_of (
 filed_is h f v e = sym (entry_filed h f v e)
 
 -- so what is written of a record's line where it fits is that of the same record's
-pub same_put : (n room : ℕ) (o : Op) (q r : Rec) (old new : List ℕ) (x : Fitted) → PutIfFits (line_bytes n (record { op = o; rec = q })) room old x new → q ≡ r
+pub same_put : (n room : ℕ) (o : Op) (q r : Rec) (old new : List ℕ) (x : Option ℕ) → PutIfFits (line_bytes n (record { op = o; rec = q })) room old x new → q ≡ r
     → PutIfFits (line_bytes n (record { op = o; rec = r })) room old x new
 same_put n room o q r old new x h e = rw (← e) h
 
@@ -48,17 +46,20 @@ module _ (t c : List ℕ) (n room : ℕ) (o : Op) (e : c ≡ (rec_of t).content)
   line_long = length_line n (rec_of t).kind o (rec_of t).content ∙ rw e
 
   -- it doesn't fit
-  pub record_long : (old new : List ℕ) → room < 10 + width n + length c → PutIfFits (line_bytes n (record { op = o; rec = rec_of t })) room old (record { fits = false; size = 0 }) new
-  record_long old new h = put_not (line_bytes n (record { op = o; rec = rec_of t })) room old new _ refl (omega (arith, line_long))
+  pub record_long : room < 10 + width n + length c → room < length (line_bytes n (record { op = o; rec = rec_of t }))
+  record_long h = omega (arith, line_long)
 
   -- it does, and is written
   pub record_put : (k : Kind) (old new : List ℕ) (m : ℕ) → 10 + width n + length c ≤ room → k ≡ (rec_of t).kind
       → m ≡ length (line_bytes n (record { op = o; rec = record { kind = k; content = c } })) → new ≡ in_front (line_bytes n (record { op = o; rec = record { kind = k; content = c } })) old
-      → PutIfFits (line_bytes n (record { op = o; rec = rec_of t })) room old (record { fits = true; size = m }) new
+      → Put (line_bytes n (record { op = o; rec = rec_of t })) room old m new
   record_put k old new m h q l w =
       let r : ◌≡◌ {A = Rec} (record { kind = k; content = c }) (rec_of t) = rw (q, e) in
-      put_whole (line_bytes n (record { op = o; rec = rec_of t })) room old new m (omega (arith, line_long))
-      (l ∙ ap (λ x. length (line_bytes n (record { op = o; rec = x }))) r) (w ∙ ap (λ x. in_front (line_bytes n (record { op = o; rec = x })) old) r)
+      record {
+        fits = omega (arith, line_long);
+        size = l ∙ ap (λ x. length (line_bytes n (record { op = o; rec = x }))) r;
+        front = w ∙ ap (λ x. in_front (line_bytes n (record { op = o; rec = x })) old) r;
+      }
 
 -- a step is taken back by the inverse of what its line says
 pub back_is : (f t : List ℕ) (v : ℕ) (o b : Op) → t ≡ line_at f (v / 2) → o ≡ op_of (get_or (fields_of t) 1 []) → b ≡ inv o → b ≡ inv (op_at f v)

@@ -1,4 +1,3 @@
-pub mod FitLaws
 pub mod LineLaws
 pub mod EntryLaws
 pub mod RunLaws

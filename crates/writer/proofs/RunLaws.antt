@@ -1,16 +1,13 @@
 -- The laws of lines that are written one after another.
 use mathlib.Core.Path.{◌≡◌, refl, sym, ap, ◌∙◌}
-use mathlib.Core.Bool.{true, false}
 use mathlib.Core.List.{List, [], ◌∷◌, ◌++◌, append_assoc}
 use Prim.Native.Nat.{ℕ, zero, suc, ◌+◌, ◌-◌, ◌^◌, ◌≤◌, ◌<◌}
 use native.Mathlib.Nat.{add-zero}
 use native.Mathlib.Omega.{arith}
 use borrow.Author.Rules.{rules}
-use borrow.Author.Tests.{le-leb}
 use borrow.Rule.Slice.PartMut.{put_mid}
 use mir.Syntax.{w64}
 use mir.Val.{Fits}
-use lib.Dec.{leb}
 use lib.ListN.{length, get_or, take, drop, length-append, length-drop, take-append-drop}
 use lib.Seq.{length-take-le, take-add, take_all}
 use Rattle.theory.specs.Step.{Op, ins, inv, Change}
@@ -24,10 +21,8 @@ use Rattle.places.specs.Places.{says}
 use Rattle.places.specs.Changes.{op_at, steps_back}
 use Rattle.places.proofs.SaysLaws.{length_says, says_at}
 use Rattle.places.proofs.BackLaws.{length_back}
-use Rattle.writer.specs.declared.room.Fitted.{Fitted}
 use Rattle.writer.specs.Lines.{line_bytes}
-use Rattle.writer.specs.Room.{PutIfFits}
-use Rattle.writer.proofs.FitLaws.{put_not, put_whole, fits_in, fits_not}
+use Rattle.writer.specs.Room.{Put}
 
 -- ---- changes, the first i of them written
 
@@ -107,24 +102,23 @@ module _ (cs : List (Change Rec)) (old out : List ℕ) (pos i : ℕ) (c : Change
         }
 
 -- the next line is written where it fits what is left of a room
-module _ (cs : List (Change Rec)) (old out : List ℕ) (pos i : ℕ) (c : Change Rec) (g : Writing cs old out pos i) (e : drop i cs ≡ c ∷ drop (suc i) cs) (room : ℕ) (p : pos ≤ room) (x : Fitted) (last : List ℕ)
-    (w : PutIfFits (line_bytes (i + 1) c) (room - pos) (take (length out - pos) (drop pos out)) x last) where
+module _ (cs : List (Change Rec)) (old out : List ℕ) (pos i : ℕ) (c : Change Rec) (g : Writing cs old out pos i) (e : drop i cs ≡ c ∷ drop (suc i) cs) (room : ℕ) (p : pos ≤ room) where
   -- where it doesn't, all of them don't fit the room
-  pub line_long : x.fits ≡ false → (new : List ℕ) → PutIfFits (texts cs) room old x new
-  line_long f new = put_not (texts cs) room old new x f (omega (arith, p, writing_most cs old out pos i c g e, fits_not _ _ _ last x w f))
+  pub line_long : room - pos < length (line_bytes (i + 1) c) → room < length (texts cs)
+  line_long f = omega (arith, p, writing_most cs old out pos i c g e)
 
-  module _ (t : x.fits ≡ true) where
+  module _ (n : ℕ) (last : List ℕ) (w : Put (line_bytes (i + 1) c) (room - pos) (take (length out - pos) (drop pos out)) n last) where
     -- where it does, it ends within the room
-    pub line_in : pos + x.size ≤ room
-    line_in = omega (arith, p, w.size t, fits_in _ _ _ last x w t)
+    pub line_in : pos + n ≤ room
+    line_in = omega (arith, p, w.size, w.fits)
 
     -- as far as can be counted
-    pub line_fits : room ≤ length old → length old < 2 ^ 64 → Fits w64 (pos + x.size)
+    pub line_fits : room ≤ length old → length old < 2 ^ 64 → Fits w64 (pos + n)
     line_fits r b = record { fits = omega (arith, line_in) }
 
     -- and stands after those before it
-    pub line_turn : room ≤ length old → Writing cs old (put_mid pos (length out - pos) out last) (pos + x.size) (i + 1)
-    line_turn r = writing_turn cs old out pos i c g e (omega (arith, line_in, w.size t)) x.size (w.size t) last (w.front t)
+    pub line_turn : room ≤ length old → Writing cs old (put_mid pos (length out - pos) out last) (pos + n) (i + 1)
+    line_turn r = writing_turn cs old out pos i c g e (omega (arith, line_in, w.size)) n w.size last w.front
 
 module _ (cs : List (Change Rec)) (old out : List ℕ) (pos i : ℕ) (g : Writing cs old out pos i) (h : length cs ≤ i) where
   -- at the end all are counted
@@ -136,8 +130,8 @@ module _ (cs : List (Change Rec)) (old out : List ℕ) (pos i : ℕ) (g : Writin
   writing_done = rw (take_all i cs h) at g.front
 
   -- within the room
-  pub all_put : (room : ℕ) → pos ≤ room → PutIfFits (texts cs) room old (record { fits = true; size = pos }) out
-  all_put room p = put_whole (texts cs) room old out pos (omega (arith, p, writing_count)) writing_count writing_done
+  pub all_put : (room : ℕ) → pos ≤ room → Put (texts cs) room old pos out
+  all_put room p = record { fits = omega (arith, p, writing_count); size = writing_count; front = writing_done }
 
 -- ---- a holding
 
@@ -153,10 +147,8 @@ module _ (h f a : List ℕ) (n i : ℕ) (l : n ≤ length a) where
 
   -- where all have room, the next line has, so it is written
   pub insert_fits : (old out : List ℕ) (pos : ℕ) (g : Writing (as_inserts (says h f a n)) old out pos i) → i < n → length (texts (as_inserts (says h f a n))) ≤ length old
-      → leb (length (line_bytes (i + 1) (record { op = ins; rec = record_of h f (get_or a i 0) }))) (length out - pos) ≡ true
-  insert_fits old out pos g b m =
-      le-leb (length (line_bytes (i + 1) (record { op = ins; rec = record_of h f (get_or a i 0) }))) (length out - pos)
-      (omega (arith, writing_most (as_inserts (says h f a n)) old out pos i _ g (insert_next b), g.same))
+      → length (line_bytes (i + 1) (record { op = ins; rec = record_of h f (get_or a i 0) })) ≤ length out - pos
+  insert_fits old out pos g b m = omega (arith, m, writing_most (as_inserts (says h f a n)) old out pos i _ g (insert_next b), g.same)
 
   -- there are as many as entries
   pub inserts_end : n ≤ i → length (as_inserts (says h f a n)) ≤ i

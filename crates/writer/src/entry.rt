@@ -9,7 +9,6 @@ ghost use Rattle.writer.specs.Room.{PutIfFits};
 
 use crate::changes::inverse;
 use crate::lines::put_line;
-use crate::room::Fitted;
 use entries::record::{record_content, record_kind};
 use text::lines::line_end;
 use text::numbers::width;
@@ -26,7 +25,7 @@ fn line_text(bytes: &[u8], at: usize) -> &[u8]
     &bytes[at..end]
 }
 
-// The line of the record whose line starts at `at`, where it fits `room` bytes.
+// The line of the record whose line starts at `at`, where it fits `room` bytes, and then how many bytes it is.
 fn put_record(
     out: &mut [u8],
     bytes: &[u8],
@@ -34,24 +33,20 @@ fn put_record(
     change: Change,
     number: u64,
     room: usize,
-) -> Fitted
+) -> Option<usize>
     requires { room ≤ length out.old }
     ensures { PutIfFits (line_bytes number (record { op = change_meant change; rec = rec_of (line_at bytes.now at) })) room out.old result out.new }
 {
     let content = record_content(bytes, at);
     let digits = width(number);
     if room < 10 + digits + content.len() {
-        return Fitted {
-            fits: false,
-            size: 0,
-        };
+        return None;
     }
     let kind = record_kind(bytes, at);
-    let size = put_line(&mut *out, kind, change, number, content);
-    Fitted { fits: true, size }
+    Some(put_line(&mut *out, kind, change, number, content))
 }
 
-// The line of an entry's record, where it fits `room` bytes.
+// The line of an entry's record, where it fits `room` bytes, and then how many bytes it is.
 pub fn put_entry(
     out: &mut [u8],
     holding: &[u8],
@@ -60,7 +55,7 @@ pub fn put_entry(
     change: Change,
     number: u64,
     room: usize,
-) -> Fitted
+) -> Option<usize>
     requires { room ≤ length out.old }
     ensures { PutIfFits (line_bytes number (record { op = change_meant change; rec = record_of holding.now file.now entry })) room out.old result out.new }
 {

@@ -6,6 +6,5 @@
 // of bytes written, so writers follow one another by one law, `front_then` of text. Nothing here goes by a kind: its number is written.
 pub mod changes; // what a body line does to its record
 pub mod lines; // one line
-pub mod room; // a text that is written only where it fits
 pub mod entry; // the line of an entry's record
 pub mod runs; // the holding, and the undo's body

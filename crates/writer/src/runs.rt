@@ -7,7 +7,6 @@ ghost use Rattle.writer.specs.Room.{PutIfFits};
 ghost use Rattle.writer.specs.Runs.{back_texts};
 
 use crate::entry::{put_entry, step_back};
-use crate::room::Fitted;
 use volume::lines::Change;
 
 // The records of the first `count` entries, as inserts.
@@ -23,20 +22,21 @@ pub fn write_holding(
         × (out.new ≡ in_front (written (says holding.now file.now places.now count)) out.old) }
 {
     let mut pos = 0;
-    let mut i = 0;
-    while i < count {
+    for i in 0..count {
         let room = out.len() - pos;
-        let line = put_entry(
+        let number = (i + 1) as u64;
+        let Some(size) = put_entry(
             &mut out[pos..],
             holding,
             file,
             places[i],
             Change::Insert,
-            (i + 1) as u64,
+            number,
             room,
-        );
-        pos += line.size;
-        i += 1;
+        ) else {
+            unreachable!();
+        };
+        pos += size;
     }
     pos
 }
@@ -51,17 +51,16 @@ pub fn write_back(
     before: &[u64],
     count: usize,
     room: usize,
-) -> Fitted
+) -> Option<usize>
     requires { (count ≤ length steps.now) × (count ≤ length before.now) × (room ≤ length out.old) }
     ensures { PutIfFits (back_texts holding.now file.now steps.now before.now count) room out.old result out.new }
 {
     let mut pos = 0;
-    let mut done = 0;
-    while done < count {
+    for done in 0..count {
         let last = count - done - 1;
         let change = step_back(file, steps[last]);
         let number = (done + 1) as u64;
-        let line = put_entry(
+        pos += put_entry(
             &mut out[pos..],
             holding,
             file,
@@ -69,15 +68,7 @@ pub fn write_back(
             change,
             number,
             room - pos,
-        );
-        if !line.fits {
-            return line;
-        }
-        pos += line.size;
-        done += 1;
+        )?;
     }
-    Fitted {
-        fits: true,
-        size: pos,
-    }
+    Some(pos)
 }

@@ -1,21 +1,10 @@
 -- `field::field_at` meets its contract.
-use Rattle.field.proofs.FieldPartLaws.{fieldat}
+use Rattle.field.proofs.FieldPartLaws.{fieldat, field_there}
+use borrow.Author.Rules.{rules}
 use Rattle.field.proofs.field_at.Goals as goal
 
-pub returns-then-n-lt1 : goal.returns-then-n-lt1
-returns-then-n-lt1 c = search fieldat
-
-pub field_count-count-requires : goal.field_count-count-requires
-field_count-count-requires c = search fieldat
-
-pub returns-then-count-k : goal.returns-then-count-k
-returns-then-count-k c = search fieldat
-
-pub field_start-start-requires : goal.field_start-start-requires
-field_start-start-requires c = search fieldat
-
-pub field_end-end-requires : goal.field_end-end-requires
-field_end-end-requires c = search fieldat
+pub returns-then-field_count-k : goal.returns-then-field_count-k
+returns-then-field_count-k c = search fieldat
 
 pub returns : goal.returns
-returns c = search fieldat
+returns c = let k = c.in_ok-k.ensures in field_there _ _ _ _ k.0 k.1 c.field_count.ensures _ _ (search rules) c.field_start-start.ensures c.field_end-end.ensures.0 c.field_end-end.ensures.1 c.field_end-end.ensures.2

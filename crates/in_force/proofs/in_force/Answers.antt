@@ -1,18 +1,15 @@
 -- `in_force::in_force` meets its contract.
-use Rattle.in_force.proofs.HandLaws.{handing}
+use Rattle.in_force.proofs.HandLaws.{force_fits, force_handed}
 use Rattle.in_force.proofs.in_force.Goals as goal
 
-pub line_in_force-found-requires : goal.line_in_force-found-requires
-line_in_force-found-requires c = search handing
-
 pub hand-requires : goal.hand-requires
-hand-requires c = search handing
+hand-requires c = force_fits _ _ c.side_of.ensures _ c.in-Holding.is _ _ _ _ c.line_in_force-found.ensures
 
-pub returns-then-found : goal.returns-then-found
-returns-then-found c = search handing
+pub hand-requires-in-File : goal.hand-requires-in-File
+hand-requires-in-File c = force_fits _ _ c.side_of.ensures _ c.in-File.is _ _ _ _ c.line_in_force-found.ensures
 
-pub hand-requires-2 : goal.hand-requires-2
-hand-requires-2 c = search handing
+pub returns-in-Holding : goal.returns-in-Holding
+returns-in-Holding c = force_handed _ _ c.side_of.ensures _ c.in-Holding.is _ _ _ _ _ c.line_in_force-found.ensures c.hand.ensures
 
-pub returns : goal.returns
-returns c = search handing
+pub returns-in-File : goal.returns-in-File
+returns-in-File c = force_handed _ _ c.side_of.ensures _ c.in-File.is _ _ _ _ _ c.line_in_force-found.ensures c.hand-in-File.ensures

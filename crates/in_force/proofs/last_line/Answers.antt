@@ -1,39 +1,16 @@
 -- `in_force::last_line` meets its contract.
-use Rattle.in_force.proofs.ForceLaws.{last}
+use mathlib.Core.Path.{◌∙◌}
+use Rattle.in_force.proofs.ForceLaws.{last, last_asked, last_held, last_deleted, last_there}
 use Rattle.in_force.proofs.last_line.Goals as goal
-
-pub asked_key-requires : goal.asked_key-requires
-asked_key-requires c = search last
-
-pub last_naming-requires : goal.last_naming-requires
-last_naming-requires c = search last
-
-pub enum_told-1 : goal.enum_told-1
-enum_told-1 c = search last
-
-pub held_line-requires : goal.held_line-requires
-held_line-requires c = search last
-
-pub enum_told-in-Deleted : goal.enum_told-in-Deleted
-enum_told-in-Deleted c = search last
-
-pub alone-requires : goal.alone-requires
-alone-requires c = search last
-
-pub refusal-requires : goal.refusal-requires
-refusal-requires c = search last
-
-pub enum_known-line : goal.enum_known-line
-enum_known-line c = search last
 
 pub line_found-requires : goal.line_found-requires
 line_found-requires c = search last
 
 pub returns-in-Unnamed : goal.returns-in-Unnamed
-returns-in-Unnamed c = search last
+returns-in-Unnamed c = c.held_line.ensures ∙ last_held _ _ _ _ (last_asked _ _ _ _ _ c.requires.0) c.requires.1 _ c.asked_key.ensures _ c.last_naming.ensures c.in-Unnamed.is
 
 pub returns-in-Deleted : goal.returns-in-Deleted
-returns-in-Deleted c = search last
+returns-in-Deleted c = last_deleted _ _ _ _ (last_asked _ _ _ _ _ c.requires.0) c.requires.1 _ c.asked_key.ensures _ c.last_naming.ensures c.in-Deleted.is _ c.alone.ensures
 
 pub returns-in-Named : goal.returns-in-Named
-returns-in-Named c = search last
+returns-in-Named c = c.line_found.ensures ∙ last_there _ _ _ _ (last_asked _ _ _ _ _ c.requires.0) c.requires.1 _ c.asked_key.ensures _ c.last_naming.ensures _ c.in-Named.is

@@ -1,63 +1,35 @@
 -- `judge::judge_insert` meets its contract.
-use Rattle.judge.proofs.JudgeLaws.{inserting}
+use mathlib.Core.Path.{refl}
+use Rattle.judge.proofs.FindLaws.{stands_ok, stands_err}
+use Rattle.judge.proofs.JudgeLaws.{ins_held, ins_many, ins_unmet, ins_long, ins_taken}
 use Rattle.judge.proofs.judge_insert.Goals as goal
 
-pub find-found-requires : goal.find-found-requires
-find-found-requires c = search inserting
-
-pub verdict-requires : goal.verdict-requires
-verdict-requires c = search inserting
-
-pub returns-then-there : goal.returns-then-there
-returns-then-there c = search inserting
-
-pub most_lines-requires : goal.most_lines-requires
-most_lines-requires c = search inserting
-
-pub verdict-requires-then-most_lines-count : goal.verdict-requires-then-most_lines-count
-verdict-requires-then-most_lines-count c = search inserting
+pub returns-in_default : goal.returns-in_default
+returns-in_default c =
+    let p = c.requires in
+    let w = stands_ok _ _ _ _ _ _ _ c.find.ensures c.in_default.is in
+    ins_held _ _ _ _ _ _ p.0 _ p.1 _ p.2 _ _ w refl
 
 pub returns-then-most_lines-count : goal.returns-then-most_lines-count
-returns-then-most_lines-count c = search inserting
-
-pub meets-met-requires : goal.meets-met-requires
-meets-met-requires c = search inserting
-
-pub verdict-requires-then-not-met : goal.verdict-requires-then-not-met
-verdict-requires-then-not-met c = search inserting
+returns-then-most_lines-count c =
+    let p = c.requires in
+    let w = stands_err _ _ _ _ _ _ _ c.find.ensures c.in-Err.is in
+    ins_many _ _ _ _ _ _ p.0 _ p.1 _ p.2 _ _ w refl _ c.most_lines.ensures c.if-most_lines-count.true
 
 pub returns-then-not-met : goal.returns-then-not-met
-returns-then-not-met c = search inserting
-
-pub entry_length-requires : goal.entry_length-requires
-entry_length-requires c = search inserting
-
-pub overflow_add-added : goal.overflow_add-added
-overflow_add-added c = search inserting
-
-pub overflow_add-count : goal.overflow_add-count
-overflow_add-count c = search inserting
-
-pub width-requires : goal.width-requires
-width-requires c = search inserting
-
-pub overflow_add-added-2 : goal.overflow_add-added-2
-overflow_add-added-2 c = search inserting
-
-pub overflow_sub-room : goal.overflow_sub-room
-overflow_sub-room c = search inserting
-
-pub verdict-requires-then-room-size : goal.verdict-requires-then-room-size
-verdict-requires-then-room-size c = search inserting
+returns-then-not-met c =
+    let p = c.requires in
+    let w = stands_err _ _ _ _ _ _ _ c.find.ensures c.in-Err.is in
+    ins_unmet _ _ _ _ _ _ p.0 _ p.1 _ p.2 _ _ w refl _ c.most_lines.ensures c.if-most_lines-count.false _ c.meets-met.ensures c.if-not-met.true
 
 pub returns-then-room-size : goal.returns-then-room-size
-returns-then-room-size c = search inserting
-
-pub overflow_add-size : goal.overflow_add-size
-overflow_add-size c = search inserting
-
-pub verdict-requires-2 : goal.verdict-requires-2
-verdict-requires-2 c = search inserting
+returns-then-room-size c =
+    let p = c.requires in
+    let w = stands_err _ _ _ _ _ _ _ c.find.ensures c.in-Err.is in
+    ins_long _ _ _ _ _ _ p.0 _ p.1 _ p.2 _ _ w refl _ c.most_lines.ensures c.if-most_lines-count.false _ c.meets-met.ensures c.if-not-met.false _ _ c.entry_length.ensures.0 c.width.ensures.0 c.if-room-size.true
 
 pub returns : goal.returns
-returns c = search inserting
+returns c =
+    let p = c.requires in
+    let w = stands_err _ _ _ _ _ _ _ c.find.ensures c.in-Err.is in
+    ins_taken _ _ _ _ _ _ p.0 _ p.1 _ p.2 _ _ w refl _ c.most_lines.ensures c.if-most_lines-count.false _ c.meets-met.ensures c.if-not-met.false _ _ c.entry_length.ensures.0 c.width.ensures.0 c.if-room-size.false

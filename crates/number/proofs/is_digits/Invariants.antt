@@ -1,13 +1,10 @@
--- What lasts from turn to turn of the loop of `number::is_digits`, and what each turn makes smaller.
-use Prim.Native.Nat.{◌-◌, ◌≤◌}
+-- What lasts from turn to turn of the loop of `number::is_digits`.
 use mathlib.Core.Path.{◌≡◌}
-use lib.ListN.{length, drop}
+use mathlib.Core.Bool.{true}
+use lib.ListN.{take}
 use Rattle.base.specs.Lists.{all}
 use Rattle.meaning.specs.Forms.{is_digit}
 use Rattle.number.proofs.is_digits.Given as goal
 
-abbrev pub invariant-loop-i : goal.invariant-loop-i
-invariant-loop-i l = (all is_digit (drop l.i l.f) ≡ all is_digit l.f) × (l.i ≤ length l.f)
-
-abbrev pub decreases-loop-i : goal.decreases-loop-i
-decreases-loop-i l = length l.f - l.i
+abbrev pub invariant-loop-b : goal.invariant-loop-b
+invariant-loop-b l = all is_digit (take l.b-index l.f) ≡ true

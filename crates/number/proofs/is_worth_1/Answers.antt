@@ -1,24 +1,11 @@
 -- `number::is_worth_1` meets its contract.
-use Rattle.number.proofs.NumberLaws.{worth}
+use Rattle.std.proofs.Common.{rules}
+use borrow.Author.Tests.{tests}
+use lib.Dec.{ltb}
+use mathlib.Core.Path.{◌∙◌}
+use Rattle.base.proofs.StdLists.{any_of_slice}
+use Rattle.number.proofs.NumberLaws.{worth_any}
 use Rattle.number.proofs.is_worth_1.Goals as goal
 
-pub loop-i-init : goal.loop-i-init
-loop-i-init c = search worth
-
-pub bounds-f-i : goal.bounds-f-i
-bounds-f-i c = search worth
-
-pub returns-then-f-i-gt48 : goal.returns-then-f-i-gt48
-returns-then-f-i-gt48 c = search worth
-
-pub overflow_add-i : goal.overflow_add-i
-overflow_add-i c = search worth
-
-pub loop-i-smaller : goal.loop-i-smaller
-loop-i-smaller c = search worth
-
-pub loop-i-preserved : goal.loop-i-preserved
-loop-i-preserved c = search worth
-
 pub returns : goal.returns
-returns c = search worth
+returns c = any_of_slice (ltb 48) c.args.f.now _ _ c.any.ensures.ran (cc) (λ x b q k. search (rules, tests)) ∙ worth_any c.args.f.now

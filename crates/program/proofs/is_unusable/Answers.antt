@@ -2,10 +2,10 @@
 use Rattle.meaning.specs.Program.{unusable}
 use Rattle.program.proofs.is_unusable.Goals as goal
 
-pub returns-then-readable : goal.returns-then-readable
+pub returns-in-Some : goal.returns-in-Some
 unfolding unusable
-returns-then-readable c = rw c.if-readable.true
+returns-in-Some c = rw c.in-Some.is
 
-pub returns : goal.returns
+pub returns-in-None : goal.returns-in-None
 unfolding unusable
-returns c = rw c.if-readable.false
+returns-in-None c = rw c.in-None.is

@@ -1,30 +1,42 @@
 -- `trial::try_file` meets its contract.
 use borrow.Author.Rules.{rules}
-use mathlib.Core.Path.{◌∙◌}
+use mathlib.Core.Path.{sym, ap, ◌∙◌}
 use native.Mathlib.Omega.{arith}
-use Rattle.trial.proofs.TrialLaws.{trial_unsound, trial_faulty, is_file_lem, trial_short, trial_ready, trial_stopped, trial_done, trial_refused}
+use Rattle.theory.specs.Answer.{refused}
+use Rattle.trial.proofs.TrialLaws.{trial_unheld, trial_held, tries_err, trial_faulty, is_file_lem, trial_short, trial_ready, trial_stopped, trial_done}
 use Rattle.trial.proofs.try_file.Goals as goal
 
-pub returns-then-held-ne0 : goal.returns-then-held-ne0
-returns-then-held-ne0 c = let g = c.args in trial_refused _ _ _ _ _ _ _ _ (trial_unsound g.holding.now g.file.now g.room _ _ _ _ c.read_holding-held.ensures c.if-held-ne0.true) (λ e. omega arith) c.stopped.ensures
+pub returns-in_err-count : goal.returns-in_err-count
+returns-in_err-count c = tries_err _ _ _ _ _ _ _ (trial_unheld _ _ _ _ _ _ _ c.read_holding.ensures _ c.map_err.ensures.cases _ c.in_err-count.was) _ c.from_residual.ensures.1
 
-pub returns-then-answer-ne0 : goal.returns-then-answer-ne0
-returns-then-answer-ne0 c = let g = c.args in trial_faulty g.holding.now g.file.now g.room _ _ _ _ c.read_holding-held.ensures c.if-held-ne0.false _ c.check_file-answer.ensures c.if-answer-ne0.true _ _ _ _ c.nothing.ensures
+pub returns-in_err-counts : goal.returns-in_err-counts
+returns-in_err-counts c =
+    let w = trial_held _ _ _ _ _ c.read_holding.ensures _ c.map_err.ensures.cases _ c.in_ok-count.was in
+    tries_err _ _ _ _ _ _ _ (trial_faulty _ c.args.file.now _ _ _ _ _ w _ (rw c.in_err-counts.was at c.check_file.ensures)) _ c.from_residual-in_err-counts.ensures.1
 
 pub returns-then-room-size : goal.returns-then-room-size
-returns-then-room-size c = let g = c.args in trial_refused _ _ _ _ _ _ _ _ (trial_short g.holding.now g.file.now g.room _ _ _ _ c.read_holding-held.ensures c.if-held-ne0.false _ c.check_file-answer.ensures c.if-answer-ne0.false c.if-room-size.true) (λ e. omega arith) c.stopped-then-room-size.ensures
+returns-then-room-size c =
+    let w = trial_held _ _ _ _ _ c.read_holding.ensures _ c.map_err.ensures.cases _ c.in_ok-count.was in
+    trial_short _ _ c.args.room _ _ _ _ w _ (rw c.in_ok-counts.was at c.check_file.ensures) c.if-room-size.true ∙ ap refused (sym c.alone.ensures)
 
-pub run-ran-requires : goal.run-ran-requires
-run-ran-requires c = let g = c.args in (trial_ready g.holding.now g.file.now g.room _ _ _ _ c.read_holding-held.ensures c.if-held-ne0.false _ c.check_file-answer.ensures c.if-answer-ne0.false c.if-room-size.false (omega (arith, c.places-1.given, c.requires.0)) (search rules) (search rules) c.requires.3 (omega (arith, c.well_formed.0.1)) (omega (arith, c.well_formed.1.0.1)), is_file_lem g.holding.now g.file.now g.room _ _ _ _ c.read_holding-held.ensures c.if-held-ne0.false _ c.check_file-answer.ensures c.if-answer-ne0.false, c.requires.1, c.requires.2)
+pub run-requires : goal.run-requires
+run-requires c =
+    let w = trial_held _ _ _ _ _ c.read_holding.ensures _ c.map_err.ensures.cases _ c.in_ok-count.was in
+    let f = rw c.in_ok-counts.was at c.check_file.ensures in (
+      trial_ready _ _ _ _ _ _ _ w _ f c.if-room-size.false (search rules) (search rules) (search rules) c.requires.3 (omega (arith, c.well_formed.0.1)) (omega (arith, c.well_formed.1.0.1)),
+      is_file_lem _ _ c.args.room _ _ _ _ w _ f,
+      c.requires.1,
+      c.requires.2,
+    )
 
-pub shape_of-places-then-ran-ne0 : goal.shape_of-places-then-ran-ne0
-shape_of-places-then-ran-ne0 c = c.places-2-1.given ∙ c.places-1.given
-
-pub returns-then-ran-ne0 : goal.returns-then-ran-ne0
-returns-then-ran-ne0 c = let g = c.args in trial_refused _ _ _ _ _ _ _ _ (trial_stopped g.holding.now g.file.now g.room _ _ _ _ c.read_holding-held.ensures c.if-held-ne0.false _ c.check_file-answer.ensures c.if-answer-ne0.false c.if-room-size.false _ _ _ _ _ _ c.run-ran.ensures c.if-ran-ne0.true) c.if-ran-ne0.true c.stopped-then-ran-ne0.ensures
-
-pub shape_of-places : goal.shape_of-places
-shape_of-places c = c.places-2-1.given ∙ c.places-1.given
+pub returns-in_err-ran : goal.returns-in_err-ran
+returns-in_err-ran c =
+    let w = trial_held _ _ _ _ _ c.read_holding.ensures _ c.map_err.ensures.cases _ c.in_ok-count.was in
+    let f = rw c.in_ok-counts.was at c.check_file.ensures in
+    tries_err _ _ _ _ _ _ _ (trial_stopped _ _ _ _ _ _ _ w _ f c.if-room-size.false _ _ _ _ _ _ (rw c.in_err-ran.was at c.run.ensures)) _ c.from_residual-in_err-ran.ensures.1
 
 pub returns : goal.returns
-returns c = let g = c.args in trial_done g.holding.now g.file.now g.room _ _ _ _ c.read_holding-held.ensures c.if-held-ne0.false _ c.check_file-answer.ensures c.if-answer-ne0.false c.if-room-size.false _ _ _ _ _ _ c.run-ran.ensures c.if-ran-ne0.false _ c.taken.ensures
+returns c =
+    let w = trial_held _ _ _ _ _ c.read_holding.ensures _ c.map_err.ensures.cases _ c.in_ok-count.was in
+    let f = rw c.in_ok-counts.was at c.check_file.ensures in
+    trial_done _ _ _ _ _ _ _ w _ f c.if-room-size.false _ _ _ _ _ _ (rw c.in_ok-ran.was at c.run.ensures)

@@ -2,8 +2,5 @@
 use Rattle.claims.proofs.Claiming.{claiming}
 use Rattle.claims.proofs.checks.checked_file.Goals as goal
 
-pub check_file-requires : goal.check_file-requires
-check_file-requires c = search claiming
-
 pub returns : goal.returns
 returns c = search claiming

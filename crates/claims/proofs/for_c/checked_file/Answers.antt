@@ -2,8 +2,5 @@
 use Rattle.claims.proofs.Claiming.{claiming}
 use Rattle.claims.proofs.for_c.checked_file.Goals as goal
 
-pub muiwash_check_file-requires : goal.muiwash_check_file-requires
-muiwash_check_file-requires c = search claiming
-
 pub returns : goal.returns
 returns c = search claiming

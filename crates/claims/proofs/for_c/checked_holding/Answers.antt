@@ -2,8 +2,5 @@
 use Rattle.claims.proofs.Claiming.{claiming}
 use Rattle.claims.proofs.for_c.checked_holding.Goals as goal
 
-pub muiwash_check_holding-requires : goal.muiwash_check_holding-requires
-muiwash_check_holding-requires c = search claiming
-
 pub returns : goal.returns
 returns c = search claiming

@@ -2,8 +2,5 @@
 use Rattle.claims.proofs.Claiming.{claiming}
 use Rattle.claims.proofs.for_c.given_field.Goals as goal
 
-pub muiwash_field-requires : goal.muiwash_field-requires
-muiwash_field-requires c = search claiming
-
 pub returns : goal.returns
 returns c = search claiming

@@ -2,8 +2,5 @@
 use Rattle.claims.proofs.Claiming.{claiming}
 use Rattle.claims.proofs.for_c.line_in_force.Goals as goal
 
-pub muiwash_in_force-requires : goal.muiwash_in_force-requires
-muiwash_in_force-requires c = search claiming
-
 pub returns : goal.returns
 returns c = search claiming

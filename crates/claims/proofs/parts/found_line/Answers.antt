@@ -2,8 +2,5 @@
 use Rattle.claims.proofs.Claiming.{claiming}
 use Rattle.claims.proofs.parts.found_line.Goals as goal
 
-pub find-requires : goal.find-requires
-find-requires c = search claiming
-
 pub returns : goal.returns
 returns c = search claiming

@@ -2,8 +2,5 @@
 use Rattle.claims.proofs.Claiming.{claiming}
 use Rattle.claims.proofs.parts.line_in_force.Goals as goal
 
-pub in_force-requires : goal.in_force-requires
-in_force-requires c = search claiming
-
 pub returns : goal.returns
 returns c = search claiming

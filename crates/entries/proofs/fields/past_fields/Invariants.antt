@@ -1,13 +1,10 @@
--- What lasts from turn to turn of the loop of `entries::fields::past_fields`, and what each turn makes smaller.
+-- What lasts from turn to turn of the loop of `entries::fields::past_fields`.
+use mathlib.Core.Path.{◌≡◌}
+use Prim.Native.Nat.{◌-◌, ◌≤◌}
+use lib.ListN.{length}
 use Rattle.entries.specs.Entries.{line_at}
 use Rattle.entries.specs.Fields.{after_fields}
-use mathlib.Core.Path.{◌≡◌}
-use Prim.Native.Nat.{◌≤◌}
-use lib.ListN.{length}
 use Rattle.entries.proofs.fields.past_fields.Given as goal
 
-abbrev pub invariant-loop-left : goal.invariant-loop-left
-invariant-loop-left l = (after_fields l.left (line_at l.bytes l.i) ≡ after_fields l.count (line_at l.bytes l.at)) × (l.i ≤ length l.bytes)
-
-abbrev pub decreases-loop-left : goal.decreases-loop-left
-decreases-loop-left l = l.left
+abbrev pub invariant-loop : goal.invariant-loop
+invariant-loop l = (after_fields (l.count - l.counter) (line_at l.bytes l.i) ≡ after_fields l.count (line_at l.bytes l.at)) × (l.i ≤ length l.bytes)

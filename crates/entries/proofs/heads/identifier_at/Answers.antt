@@ -2,26 +2,14 @@
 use Rattle.entries.proofs.HeadLaws.{pairing}
 use Rattle.entries.proofs.heads.identifier_at.Goals as goal
 
-pub is_paired-requires : goal.is_paired-requires
-is_paired-requires c = search pairing
+pub slice_bounds-result-end : goal.slice_bounds-result-end
+slice_bounds-result-end c = search pairing
 
 pub overflow_add-result : goal.overflow_add-result
 overflow_add-result c = search pairing
 
-pub slice_bounds-result-count : goal.slice_bounds-result-count
-slice_bounds-result-count c = search pairing
-
-pub slice_bounds-result-start : goal.slice_bounds-result-start
-slice_bounds-result-start c = search pairing
-
-pub slice_bounds-result-end : goal.slice_bounds-result-end
-slice_bounds-result-end c = search pairing
-
 pub returns-then-is_paired : goal.returns-then-is_paired
 returns-then-is_paired c = search pairing
-
-pub first_field-requires : goal.first_field-requires
-first_field-requires c = search pairing
 
 pub returns : goal.returns
 returns c = search pairing

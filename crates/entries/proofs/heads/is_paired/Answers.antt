@@ -1,44 +1,29 @@
 -- `entries::heads::is_paired` meets its contract.
-use Rattle.base.proofs.Answers.{tests}
+use mathlib.Core.Path.{◌≡◌}
+use mathlib.Core.Bool.{◌&&◌}
+use Prim.Native.Nat.{◌+◌, ◌-◌}
+use borrow.Author.Tests.{le-leb, lt-leb}
+use lib.Dec.{leb, ltb, eqb}
+use lib.ListN.{length, get_or}
 use Rattle.entries.specs.Fields.{paired}
+use Rattle.entries.proofs.HeadLaws.{and_then, and_same, three}
 use Rattle.entries.proofs.heads.is_paired.Goals as goal
+use Rattle.entries.proofs.heads.is_paired.Goals.{then-bytes-at-ge3, else-bytes-at-ge3, then-bytes-at-gt44, else-bytes-at-gt44}
 
-pub overflow_sub-bytes : goal.overflow_sub-bytes
+pub returns-then-bytes-at-gt44-2 : goal.returns-then-bytes-at-gt44-2
 unfolding paired
-overflow_sub-bytes c = search tests
+returns-then-bytes-at-gt44-2 c =
+    let s = c.args.bytes.now in
+    let at = c.args.at in
+    let a : c.if-bytes-at-ge3.value ≡ (leb 3 (length s - at) && ltb 44 (get_or s at 0)) = elim c.if-bytes-at-ge3.branch [ then-bytes-at-ge3 w ↦ and_then _ _ _ (le-leb 3 _ w.if-bytes-at-ge3.true) w.value-is | else-bytes-at-ge3 w ↦ and_same _ _ _ (lt-leb 3 _ w.if-bytes-at-ge3.false) w.value-is ] in
+    let b : c.if-bytes-at-gt44.value ≡ (c.if-bytes-at-ge3.value && ltb 44 (get_or s (at + 1) 0)) = elim c.if-bytes-at-gt44.branch [ then-bytes-at-gt44 w ↦ and_then _ _ _ w.if-bytes-at-gt44.true w.value-is | else-bytes-at-gt44 w ↦ and_same _ _ _ w.if-bytes-at-gt44.false w.value-is ] in
+    (three _ _ _ (eqb (get_or s (at + 2) 0) 44) _ _ a b).0 c.if-bytes-at-gt44-2.true
 
-pub returns-then-bytes-at-lt3 : goal.returns-then-bytes-at-lt3
+pub returns-else-bytes-at-gt44-2 : goal.returns-else-bytes-at-gt44-2
 unfolding paired
-returns-then-bytes-at-lt3 c = search tests
-
-pub bounds-bytes-at : goal.bounds-bytes-at
-unfolding paired
-bounds-bytes-at c = search tests
-
-pub returns-then-bytes-at-le44 : goal.returns-then-bytes-at-le44
-unfolding paired
-returns-then-bytes-at-le44 c = search tests
-
-pub overflow_add-at : goal.overflow_add-at
-unfolding paired
-overflow_add-at c = search tests
-
-pub bounds-bytes-at-2 : goal.bounds-bytes-at-2
-unfolding paired
-bounds-bytes-at-2 c = search tests
-
-pub returns-then-bytes-at-le44-2 : goal.returns-then-bytes-at-le44-2
-unfolding paired
-returns-then-bytes-at-le44-2 c = search tests
-
-pub overflow_add-result : goal.overflow_add-result
-unfolding paired
-overflow_add-result c = search tests
-
-pub bounds-bytes-at-3 : goal.bounds-bytes-at-3
-unfolding paired
-bounds-bytes-at-3 c = search tests
-
-pub returns : goal.returns
-unfolding paired
-returns c = search tests
+returns-else-bytes-at-gt44-2 c =
+    let s = c.args.bytes.now in
+    let at = c.args.at in
+    let a : c.if-bytes-at-ge3.value ≡ (leb 3 (length s - at) && ltb 44 (get_or s at 0)) = elim c.if-bytes-at-ge3.branch [ then-bytes-at-ge3 w ↦ and_then _ _ _ (le-leb 3 _ w.if-bytes-at-ge3.true) w.value-is | else-bytes-at-ge3 w ↦ and_same _ _ _ (lt-leb 3 _ w.if-bytes-at-ge3.false) w.value-is ] in
+    let b : c.if-bytes-at-gt44.value ≡ (c.if-bytes-at-ge3.value && ltb 44 (get_or s (at + 1) 0)) = elim c.if-bytes-at-gt44.branch [ then-bytes-at-gt44 w ↦ and_then _ _ _ w.if-bytes-at-gt44.true w.value-is | else-bytes-at-gt44 w ↦ and_same _ _ _ w.if-bytes-at-gt44.false w.value-is ] in
+    (three _ _ _ (eqb (get_or s (at + 2) 0) 44) _ _ a b).1 c.if-bytes-at-gt44-2.false

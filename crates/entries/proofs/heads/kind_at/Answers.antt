@@ -1,21 +1,7 @@
 -- `entries::heads::kind_at` meets its contract.
-use Rattle.entries.proofs.HeadLaws.{kinding}
+use mathlib.Core.Path.{refl}
+use Rattle.entries.proofs.HeadLaws.{kind_by_first, kind_known}
 use Rattle.entries.proofs.heads.kind_at.Goals as goal
 
-pub identifier_at-requires : goal.identifier_at-requires
-identifier_at-requires c = search kinding
-
-pub kind_of-requires : goal.kind_of-requires
-kind_of-requires c = search kinding
-
-pub enum_known-kind : goal.enum_known-kind
-enum_known-kind c = search kinding
-
-pub enum_told-1 : goal.enum_told-1
-enum_told-1 c = search kinding
-
-pub returns-in-Known : goal.returns-in-Known
-returns-in-Known c = search kinding
-
-pub returns-in-Unknown : goal.returns-in-Unknown
-returns-in-Unknown c = search kinding
+pub returns : goal.returns
+returns c = kind_known _ _ (kind_by_first _ _ _ c.identifier_at.ensures c.kind_of.ensures) _ _ refl c.unwrap_or.ensures

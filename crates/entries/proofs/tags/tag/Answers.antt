@@ -8,9 +8,6 @@ returns-then-key-ge-KINDS c = search tagging
 pub overflow_mul-result : goal.overflow_mul-result
 overflow_mul-result c = search tagging
 
-pub overflow_sub-result : goal.overflow_sub-result
-overflow_sub-result c = search tagging
-
 pub overflow_add-result : goal.overflow_add-result
 overflow_add-result c = search tagging
 
@@ -22,9 +19,6 @@ overflow_mul-result-2 c = search tagging
 
 pub overflow_mul-result-3 : goal.overflow_mul-result-3
 overflow_mul-result-3 c = search tagging
-
-pub looseness-requires : goal.looseness-requires
-looseness-requires c = search tagging
 
 pub overflow_add-result-2 : goal.overflow_add-result-2
 overflow_add-result-2 c = search tagging

@@ -1,11 +1,11 @@
 -- What lasts from turn to turn of the loop of `form::characters::are_characters`, and what each turn makes smaller.
-use Prim.Native.Nat.{◌-◌}
+use mathlib.Core.Path.{◌≡◌}
 use lib.ListN.{length}
-use Rattle.form.proofs.CharacterLaws.{Left}
+use Rattle.meaning.specs.Forms.{by_characters}
 use Rattle.form.proofs.characters.are_characters.Given as goal
 
-abbrev pub invariant-loop-i : goal.invariant-loop-i
-invariant-loop-i l = Left l.t l.w l.i l.left
+abbrev pub invariant-loop-n : goal.invariant-loop-n
+invariant-loop-n l = by_characters l.left l.rest ≡ by_characters l.w l.t
 
-abbrev pub decreases-loop-i : goal.decreases-loop-i
-decreases-loop-i l = length l.t - l.i
+abbrev pub decreases-loop-n : goal.decreases-loop-n
+decreases-loop-n l = length l.rest

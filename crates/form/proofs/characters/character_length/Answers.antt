@@ -1,54 +1,19 @@
 -- `form::characters::character_length` meets its contract.
-use Rattle.form.proofs.CharacterLaws.{character}
+use mathlib.Core.Path.{◌∙◌}
+use Rattle.form.proofs.CharacterLaws.{character, length_empty, length_ascii}
 use Rattle.form.proofs.characters.character_length.Goals as goal
+use Rattle.form.proofs.characters.character_length.Goals.{else-n-gt0-via-then-n-gt0+then-n-t+then-may_follow+else-are_tails, else-n-gt0-via-then-n-gt0+then-n-t+else-may_follow, else-n-gt0-via-then-n-gt0+else-n-t, else-n-gt0-via-else-n-gt0}
 
-pub bounds-t-0 : goal.bounds-t-0
-bounds-t-0 c = search character
-
-pub is_text_byte-requires : goal.is_text_byte-requires
-is_text_byte-requires c = search character
-
-pub returns-then-is_text_byte : goal.returns-then-is_text_byte
-returns-then-is_text_byte c = search character
+pub returns-in_err-first : goal.returns-in_err-first
+returns-in_err-first c = c.from_residual.ensures ∙ length_empty c.args.t.now c.in_err-first.ensures.item.3
 
 pub returns-then-first-lt128 : goal.returns-then-first-lt128
-returns-then-first-lt128 c = search character
-
-pub tails-n-requires : goal.tails-n-requires
-tails-n-requires c = search character
-
-pub returns-then-n-eq0 : goal.returns-then-n-eq0
-returns-then-n-eq0 c = search character
-
-pub returns-then-t-n : goal.returns-then-t-n
-returns-then-t-n c = search character
-
-pub bounds-t-1 : goal.bounds-t-1
-bounds-t-1 c = search character
-
-pub may_follow-requires : goal.may_follow-requires
-may_follow-requires c = search character
-
-pub returns-then-not-may_follow : goal.returns-then-not-may_follow
-returns-then-not-may_follow c = search character
-
-pub overflow_add-end : goal.overflow_add-end
-overflow_add-end c = search character
-
-pub slice_bounds-are_tails-count : goal.slice_bounds-are_tails-count
-slice_bounds-are_tails-count c = search character
-
-pub slice_bounds-are_tails-start : goal.slice_bounds-are_tails-start
-slice_bounds-are_tails-start c = search character
-
-pub slice_bounds-are_tails-end : goal.slice_bounds-are_tails-end
-slice_bounds-are_tails-end c = search character
-
-pub are_tails-requires : goal.are_tails-requires
-are_tails-requires c = search character
+returns-then-first-lt128 c =
+    let i = c.in_ok-first.ensures.item.3 in
+    (rw c.is_text_byte.ensures at c.then_some.ensures) ∙ length_ascii c.args.t.now i.0 _ (i.1 0) c.if-first-lt128.true
 
 pub returns-then-are_tails : goal.returns-then-are_tails
 returns-then-are_tails c = search character
 
-pub returns : goal.returns
-returns c = search character
+pub returns-else-n-gt0 : goal.returns-else-n-gt0
+returns-else-n-gt0 c = elim c.else-n-gt0.branch [ else-n-gt0-via-then-n-gt0+then-n-t+then-may_follow+else-are_tails w ↦ search character | else-n-gt0-via-then-n-gt0+then-n-t+else-may_follow w ↦ search character | else-n-gt0-via-then-n-gt0+else-n-t w ↦ search character | else-n-gt0-via-else-n-gt0 w ↦ search character ]

@@ -4,23 +4,11 @@ use Rattle.text.proofs.NumberLaws.{width_most}
 use borrow.Author.Rules.{rules}
 use Rattle.holding.proofs.held.is_number.Goals as goal
 
-pub slice_bounds-number-end : goal.slice_bounds-number-end
-slice_bounds-number-end c = search numbers
-
 pub number-width-requires : goal.number-width-requires
 number-width-requires c = search numbers
 
-pub slice_bounds-is_same-count : goal.slice_bounds-is_same-count
-slice_bounds-is_same-count c = search numbers
-
-pub slice_bounds-is_same-start : goal.slice_bounds-is_same-start
-slice_bounds-is_same-start c = search numbers
-
 pub slice_bounds-is_same-end : goal.slice_bounds-is_same-end
 slice_bounds-is_same-end c = let w = width_most _ c.ranges.number in search rules
-
-pub is_same-requires : goal.is_same-requires
-is_same-requires c = search numbers
 
 pub returns : goal.returns
 returns c = search numbers

@@ -1,33 +1,10 @@
 -- `holding::held::passes` meets its contract.
 use Rattle.holding.proofs.HeldLaws.{passing}
 use Rattle.holding.proofs.held.passes.Goals as goal
+use Rattle.holding.proofs.held.passes.Goals.{then-is_held, else-is_held, then-is_ok, else-is_ok}
 
-pub is_held-requires : goal.is_held-requires
-is_held-requires c = search passing
+pub returns-then-is_same : goal.returns-then-is_same
+returns-then-is_same c = elim c.if-is_ok.branch [ then-is_ok w ↦ elim c.if-is_held.branch [ then-is_held v ↦ search passing | else-is_held v ↦ search passing ] | else-is_ok w ↦ search passing ]
 
-pub returns-then-not-is_held : goal.returns-then-not-is_held
-returns-then-not-is_held c = search passing
-
-pub check_line-fault-requires : goal.check_line-fault-requires
-check_line-fault-requires c = search passing
-
-pub returns-then-fault-ne0 : goal.returns-then-fault-ne0
-returns-then-fault-ne0 c = search passing
-
-pub field-requires : goal.field-requires
-field-requires c = search passing
-
-pub is_number-numbered-requires : goal.is_number-numbered-requires
-is_number-numbered-requires c = search passing
-
-pub field-requires-2 : goal.field-requires-2
-field-requires-2 c = search passing
-
-pub is_same-requires : goal.is_same-requires
-is_same-requires c = search passing
-
-pub returns-then-not-is_same : goal.returns-then-not-is_same
-returns-then-not-is_same c = search passing
-
-pub returns : goal.returns
-returns c = search passing
+pub returns-else-is_same : goal.returns-else-is_same
+returns-else-is_same c = elim c.if-is_ok.branch [ then-is_ok w ↦ elim c.if-is_held.branch [ then-is_held v ↦ search passing | else-is_held v ↦ search passing ] | else-is_ok w ↦ elim c.if-is_held.branch [ then-is_held v ↦ search passing | else-is_held v ↦ search passing ] ]

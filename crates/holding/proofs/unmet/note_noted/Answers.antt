@@ -3,8 +3,5 @@ use Rattle.holding.proofs.ReadLaws.{tells}
 use borrow.Author.Rules.{rules}
 use Rattle.holding.proofs.unmet.note_noted.Goals as goal
 
-pub tags_noted-named-requires : goal.tags_noted-named-requires
-tags_noted-named-requires c = search tells
-
 pub note_tags-requires : goal.note_tags-requires
 note_tags-requires c = (search rules, search rules, search rules, search tells, search rules, search rules)

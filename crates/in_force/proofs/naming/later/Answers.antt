@@ -1,21 +1,10 @@
 -- `in_force::naming::later` meets its contract.
-use Rattle.in_force.proofs.NamingLaws.{latest}
+use mathlib.Core.Logic.{inl, inr}
+use Rattle.in_force.proofs.NamingLaws.{latest, later_deleted, later_named}
 use Rattle.in_force.proofs.naming.later.Goals as goal
-
-pub enum_told-1 : goal.enum_told-1
-enum_told-1 c = search latest
-
-pub enum_told-in-Deleted : goal.enum_told-in-Deleted
-enum_told-in-Deleted c = search latest
-
-pub enum_known-here : goal.enum_known-here
-enum_known-here c = search latest
 
 pub returns-in-Unnamed : goal.returns-in-Unnamed
 returns-in-Unnamed c = search latest
 
 pub returns-in-Deleted : goal.returns-in-Deleted
-returns-in-Deleted c = search latest
-
-pub returns-in-Named : goal.returns-in-Named
-returns-in-Named c = search latest
+returns-in-Deleted c = elim c.in-Deleted.is [ inl e ↦ later_deleted _ _ e | inr e ↦ later_named _ _ e.0 e.1 ]

@@ -1,24 +1,7 @@
 -- `layout::rules::form_of` meets its contract.
-use borrow.Author.Rules.{rules}
 use borrow.Author.Tests.{ne_eqb}
 use Rattle.layout.specs.Rows.{form_decoded}
 use Rattle.layout.proofs.rules.form_of.Goals as goal
-
-pub overflow_cast-width : goal.overflow_cast-width
-unfolding form_decoded
-overflow_cast-width c = search rules
-
-pub overflow_cast-decimals : goal.overflow_cast-decimals
-unfolding form_decoded
-overflow_cast-decimals c = search rules
-
-pub overflow_cast-result : goal.overflow_cast-result
-unfolding form_decoded
-overflow_cast-result c = search rules
-
-pub overflow_cast-result-in_default : goal.overflow_cast-result-in_default
-unfolding form_decoded
-overflow_cast-result-in_default c = search rules
 
 pub returns-in-0 : goal.returns-in-0
 unfolding form_decoded

@@ -1,5 +1,4 @@
 -- `layout::rules::held_layout` meets its contract.
-use borrow.Author.Rules.{rules}
 use Rattle.meaning.specs.Kinds.{ident}
 use Rattle.meaning.specs.Format.{field_number}
 use Rattle.meaning.specs.Table.{fields, key_names, refers_to}
@@ -7,26 +6,6 @@ use Rattle.base.specs.Lists.{bytes, zeros}
 use Rattle.theory.specs.Decimal.{value, value_f}
 use Rattle.layout.specs.Rows.{laid_out, places_of, padded, targets, sources}
 use Rattle.layout.proofs.rules.held_layout.Goals as goal
-
-pub enum_told-1 : goal.enum_told-1
-unfolding laid_out places_of padded targets sources ident fields key_names refers_to field_number bytes zeros value value_f
-enum_told-1 c = search rules
-
-pub enum_told-in-StreetXref : goal.enum_told-in-StreetXref
-unfolding laid_out places_of padded targets sources ident fields key_names refers_to field_number bytes zeros value value_f
-enum_told-in-StreetXref c = search rules
-
-pub enum_told-in-Blpu : goal.enum_told-in-Blpu
-unfolding laid_out places_of padded targets sources ident fields key_names refers_to field_number bytes zeros value value_f
-enum_told-in-Blpu c = search rules
-
-pub enum_told-in-AppXref : goal.enum_told-in-AppXref
-unfolding laid_out places_of padded targets sources ident fields key_names refers_to field_number bytes zeros value value_f
-enum_told-in-AppXref c = search rules
-
-pub enum_told-in-Lpi : goal.enum_told-in-Lpi
-unfolding laid_out places_of padded targets sources ident fields key_names refers_to field_number bytes zeros value value_f
-enum_told-in-Lpi c = search rules
 
 pub returns-in-Street : goal.returns-in-Street
 unfolding laid_out places_of padded targets sources ident fields key_names refers_to field_number bytes zeros value value_f

@@ -5,10 +5,6 @@ use Rattle.layout.proofs.TableLaws.{row_fits_lem, row_in, row_is, codes, encoded
 use Rattle.meaning.specs.Table.{fields}
 use Rattle.layout.proofs.rules.held_row.Goals as goal
 
-pub enum_told-1 : goal.enum_told-1
-unfolding codes encoded form_encoded fields
-enum_told-1 c = search rules
-
 pub offset_bounds-k : goal.offset_bounds-k
 unfolding codes encoded form_encoded fields
 offset_bounds-k c = search (rules, row_fits_lem held_meant)
@@ -16,10 +12,6 @@ offset_bounds-k c = search (rules, row_fits_lem held_meant)
 pub bounds-k : goal.bounds-k
 unfolding codes encoded form_encoded fields
 bounds-k c = search (rules, row_in held_meant)
-
-pub enum_told-in-StreetXref : goal.enum_told-in-StreetXref
-unfolding codes encoded form_encoded fields
-enum_told-in-StreetXref c = search rules
 
 pub offset_bounds-k-in-StreetXref : goal.offset_bounds-k-in-StreetXref
 unfolding codes encoded form_encoded fields
@@ -29,10 +21,6 @@ pub bounds-k-in-StreetXref : goal.bounds-k-in-StreetXref
 unfolding codes encoded form_encoded fields
 bounds-k-in-StreetXref c = search (rules, row_in held_meant)
 
-pub enum_told-in-Blpu : goal.enum_told-in-Blpu
-unfolding codes encoded form_encoded fields
-enum_told-in-Blpu c = search rules
-
 pub offset_bounds-k-in-Blpu : goal.offset_bounds-k-in-Blpu
 unfolding codes encoded form_encoded fields
 offset_bounds-k-in-Blpu c = search (rules, row_fits_lem held_meant)
@@ -41,10 +29,6 @@ pub bounds-k-in-Blpu : goal.bounds-k-in-Blpu
 unfolding codes encoded form_encoded fields
 bounds-k-in-Blpu c = search (rules, row_in held_meant)
 
-pub enum_told-in-AppXref : goal.enum_told-in-AppXref
-unfolding codes encoded form_encoded fields
-enum_told-in-AppXref c = search rules
-
 pub offset_bounds-k-in-AppXref : goal.offset_bounds-k-in-AppXref
 unfolding codes encoded form_encoded fields
 offset_bounds-k-in-AppXref c = search (rules, row_fits_lem held_meant)
@@ -52,10 +36,6 @@ offset_bounds-k-in-AppXref c = search (rules, row_fits_lem held_meant)
 pub bounds-k-in-AppXref : goal.bounds-k-in-AppXref
 unfolding codes encoded form_encoded fields
 bounds-k-in-AppXref c = search (rules, row_in held_meant)
-
-pub enum_told-in-Lpi : goal.enum_told-in-Lpi
-unfolding codes encoded form_encoded fields
-enum_told-in-Lpi c = search rules
 
 pub offset_bounds-k-in-Lpi : goal.offset_bounds-k-in-Lpi
 unfolding codes encoded form_encoded fields

@@ -1,5 +1,4 @@
 -- `layout::rules::layout` meets its contract.
-use borrow.Author.Rules.{rules}
 use Rattle.meaning.specs.Kinds.{ident}
 use Rattle.meaning.specs.Format.{field_number}
 use Rattle.meaning.specs.Table.{fields, key_names, refers_to}
@@ -8,33 +7,9 @@ use Rattle.theory.specs.Decimal.{value, value_f}
 use Rattle.layout.specs.Rows.{laid_out, places_of, padded, targets, sources}
 use Rattle.layout.proofs.rules.layout.Goals as goal
 
-pub enum_told-1 : goal.enum_told-1
-unfolding laid_out places_of padded targets sources ident fields key_names refers_to field_number bytes zeros value value_f
-enum_told-1 c = search rules
-
-pub enum_known-kind : goal.enum_known-kind
-unfolding laid_out places_of padded targets sources ident fields key_names refers_to field_number bytes zeros value value_f
-enum_known-kind c = search rules
-
-pub held_layout-requires : goal.held_layout-requires
-unfolding laid_out places_of padded targets sources ident fields key_names refers_to field_number bytes zeros value value_f
-held_layout-requires c = search rules
-
-pub enum_told-in-Metadata : goal.enum_told-in-Metadata
-unfolding laid_out places_of padded targets sources ident fields key_names refers_to field_number bytes zeros value value_f
-enum_told-in-Metadata c = search rules
-
-pub enum_told-in-Trailer : goal.enum_told-in-Trailer
-unfolding laid_out places_of padded targets sources ident fields key_names refers_to field_number bytes zeros value value_f
-enum_told-in-Trailer c = search rules
-
 pub returns-in-Header : goal.returns-in-Header
 unfolding laid_out places_of padded targets sources ident fields key_names refers_to field_number bytes zeros value value_f
 returns-in-Header c = rw c.in-Header.is
-
-pub returns-in-Held : goal.returns-in-Held
-unfolding laid_out places_of padded targets sources ident fields key_names refers_to field_number bytes zeros value value_f
-returns-in-Held c = rw c.in-Held.is c.held_layout.ensures
 
 pub returns-in-Metadata : goal.returns-in-Metadata
 unfolding laid_out places_of padded targets sources ident fields key_names refers_to field_number bytes zeros value value_f

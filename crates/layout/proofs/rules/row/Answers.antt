@@ -5,10 +5,6 @@ use Rattle.layout.proofs.TableLaws.{row_fits_lem, row_in, row_is, codes, encoded
 use Rattle.meaning.specs.Table.{fields}
 use Rattle.layout.proofs.rules.row.Goals as goal
 
-pub enum_told-1 : goal.enum_told-1
-unfolding codes encoded form_encoded fields
-enum_told-1 c = search rules
-
 pub offset_bounds-k : goal.offset_bounds-k
 unfolding codes encoded form_encoded fields
 offset_bounds-k c = search (rules, row_fits_lem kind_meant)
@@ -17,18 +13,6 @@ pub bounds-k : goal.bounds-k
 unfolding codes encoded form_encoded fields
 bounds-k c = search (rules, row_in kind_meant)
 
-pub enum_known-kind : goal.enum_known-kind
-unfolding codes encoded form_encoded fields
-enum_known-kind c = search rules
-
-pub held_row-requires : goal.held_row-requires
-unfolding codes encoded form_encoded fields
-held_row-requires c = rw c.in-Held.is at c.requires
-
-pub enum_told-in-Metadata : goal.enum_told-in-Metadata
-unfolding codes encoded form_encoded fields
-enum_told-in-Metadata c = search rules
-
 pub offset_bounds-k-in-Metadata : goal.offset_bounds-k-in-Metadata
 unfolding codes encoded form_encoded fields
 offset_bounds-k-in-Metadata c = search (rules, row_fits_lem kind_meant)
@@ -36,10 +20,6 @@ offset_bounds-k-in-Metadata c = search (rules, row_fits_lem kind_meant)
 pub bounds-k-in-Metadata : goal.bounds-k-in-Metadata
 unfolding codes encoded form_encoded fields
 bounds-k-in-Metadata c = search (rules, row_in kind_meant)
-
-pub enum_told-in-Trailer : goal.enum_told-in-Trailer
-unfolding codes encoded form_encoded fields
-enum_told-in-Trailer c = search rules
 
 pub offset_bounds-k-in-Trailer : goal.offset_bounds-k-in-Trailer
 unfolding codes encoded form_encoded fields
@@ -52,10 +32,6 @@ bounds-k-in-Trailer c = search (rules, row_in kind_meant)
 pub returns-in-Header : goal.returns-in-Header
 unfolding codes encoded form_encoded fields
 returns-in-Header c = search (rules, row_is kind_meant)
-
-pub returns-in-Held : goal.returns-in-Held
-unfolding codes encoded form_encoded fields
-returns-in-Held c = rw c.in-Held.is c.held_row.ensures
 
 pub returns-in-Metadata : goal.returns-in-Metadata
 unfolding codes encoded form_encoded fields

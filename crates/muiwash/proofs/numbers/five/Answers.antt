@@ -1,6 +1,7 @@
 -- `muiwash::numbers::five` meets its contract.
-use Rattle.muiwash.proofs.NumbersLaws.{told}
+use Rattle.meaning.specs.Enquiries.{refusal}
 use Rattle.muiwash.proofs.numbers.five.Goals as goal
 
-pub returns : goal.returns
-returns c = search told
+pub returns-in-Err : goal.returns-in-Err
+unfolding refusal
+returns-in-Err c = rw (c.in-Err.is, c.from.ensures)

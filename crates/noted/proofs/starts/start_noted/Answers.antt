@@ -7,26 +7,8 @@ use Rattle.noted.proofs.starts.start_noted.Goals as goal
 pub returns-then-place-lt4 : goal.returns-then-place-lt4
 returns-then-place-lt4 c = search starting
 
-pub overflow_sub-start : goal.overflow_sub-start
-overflow_sub-start c = search starting
-
-pub offset_bounds-ends-place : goal.offset_bounds-ends-place
-offset_bounds-ends-place c = search starting
-
-pub bounds-ends-place : goal.bounds-ends-place
-bounds-ends-place c = search starting
-
 pub overflow_add-start : goal.overflow_add-start
 overflow_add-start c = omega (arith, c.requires.1 c.if-place-lt4.false, c.shared_slice_known-1.given (c.args.place - 1))
-
-pub overflow_sub-place : goal.overflow_sub-place
-overflow_sub-place c = search starting
-
-pub offset_bounds-ends-place-2 : goal.offset_bounds-ends-place-2
-offset_bounds-ends-place-2 c = search starting
-
-pub bounds-ends-place-2 : goal.bounds-ends-place-2
-bounds-ends-place-2 c = search starting
 
 pub returns-then-start-ends : goal.returns-then-start-ends
 returns-then-start-ends c = search starting

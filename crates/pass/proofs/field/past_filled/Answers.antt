@@ -2,136 +2,51 @@
 use Rattle.form.specs.Meant.{meant}
 use Rattle.laws.specs.AsciiLaws.{is_free_text}
 use Rattle.pass.proofs.LeafLaws.{filled_as, text_as, decimals_few}
-use borrow.Author.Rules.{rules}
 use mathlib.Core.Path.{ap}
 use native.Mathlib.Omega.{arith}
 use Rattle.pass.proofs.field.past_filled.Goals as goal
 
-pub form_of-form-requires : goal.form_of-form-requires
-unfolding is_free_text
-form_of-form-requires c = search rules
-
-pub enum_known-form : goal.enum_known-form
-unfolding is_free_text
-enum_known-form c = search rules
-
-pub past_number-requires : goal.past_number-requires
-unfolding is_free_text
-past_number-requires c = search rules
-
-pub enum_known-form-in-AtLeast1-1 : goal.enum_known-form-in-AtLeast1-1
-unfolding is_free_text
-enum_known-form-in-AtLeast1-1 c = search rules
-
-pub past_at_least_1-requires : goal.past_at_least_1-requires
-unfolding is_free_text
-past_at_least_1-requires c = search rules
-
-pub enum_known-form-in-Decimal-1 : goal.enum_known-form-in-Decimal-1
-unfolding is_free_text
-enum_known-form-in-Decimal-1 c = search rules
-
 pub past_decimal-requires : goal.past_decimal-requires
 unfolding is_free_text
-past_decimal-requires c = (omega arith, decimals_few _ _ _ _ c.form_of-form.ensures c.in-Decimal.is)
-
-pub enum_told-1 : goal.enum_told-1
-unfolding is_free_text
-enum_told-1 c = search rules
-
-pub past_date-requires : goal.past_date-requires
-unfolding is_free_text
-past_date-requires c = search rules
-
-pub enum_told-in-Time : goal.enum_told-in-Time
-unfolding is_free_text
-enum_told-in-Time c = search rules
-
-pub past_time-requires : goal.past_time-requires
-unfolding is_free_text
-past_time-requires c = search rules
-
-pub enum_known-form-in-Text-1 : goal.enum_known-form-in-Text-1
-unfolding is_free_text
-enum_known-form-in-Text-1 c = search rules
-
-pub is_mandatory-requires : goal.is_mandatory-requires
-unfolding is_free_text
-is_mandatory-requires c = search rules
-
-pub past_text-requires : goal.past_text-requires
-unfolding is_free_text
-past_text-requires c = search rules
-
-pub enum_told-in-ChangeType : goal.enum_told-in-ChangeType
-unfolding is_free_text
-enum_told-in-ChangeType c = search rules
-
-pub past_change_type-requires : goal.past_change_type-requires
-unfolding is_free_text
-past_change_type-requires c = search rules
-
-pub enum_told-in-XrefType : goal.enum_told-in-XrefType
-unfolding is_free_text
-enum_told-in-XrefType c = search rules
-
-pub past_xref_type-requires : goal.past_xref_type-requires
-unfolding is_free_text
-past_xref_type-requires c = search rules
-
-pub enum_told-in-FileType : goal.enum_told-in-FileType
-unfolding is_free_text
-enum_told-in-FileType c = search rules
-
-pub past_file_type-requires : goal.past_file_type-requires
-unfolding is_free_text
-past_file_type-requires c = search rules
-
-pub enum_known-form-in-KeyText-1 : goal.enum_known-form-in-KeyText-1
-unfolding is_free_text
-enum_known-form-in-KeyText-1 c = search rules
-
-pub past_key-requires : goal.past_key-requires
-unfolding is_free_text
-past_key-requires c = search rules
+past_decimal-requires c = (omega arith, decimals_few _ _ _ _ c.form_of.ensures c.in-Decimal.is)
 
 pub returns-in-Number : goal.returns-in-Number
 unfolding is_free_text
-returns-in-Number c = filled_as _ _ _ _ _ _ c.form_of-form.ensures (ap meant c.in-Number.is) tt c.past_number.ensures.0
+returns-in-Number c = filled_as _ _ _ _ _ _ c.form_of.ensures (ap meant c.in-Number.is) tt c.past_number.ensures.0
 
 pub returns-in-AtLeast1 : goal.returns-in-AtLeast1
 unfolding is_free_text
-returns-in-AtLeast1 c = filled_as _ _ _ _ _ _ c.form_of-form.ensures (ap meant c.in-AtLeast1.is) tt c.past_at_least_1.ensures
+returns-in-AtLeast1 c = filled_as _ _ _ _ _ _ c.form_of.ensures (ap meant c.in-AtLeast1.is) tt c.past_at_least_1.ensures
 
 pub returns-in-Decimal : goal.returns-in-Decimal
 unfolding is_free_text
-returns-in-Decimal c = filled_as _ _ _ _ _ _ c.form_of-form.ensures (ap meant c.in-Decimal.is) tt c.past_decimal.ensures
+returns-in-Decimal c = filled_as _ _ _ _ _ _ c.form_of.ensures (ap meant c.in-Decimal.is) tt c.past_decimal.ensures
 
 pub returns-in-Date : goal.returns-in-Date
 unfolding is_free_text
-returns-in-Date c = filled_as _ _ _ _ _ _ c.form_of-form.ensures (ap meant c.in-Date.is) tt c.past_date.ensures
+returns-in-Date c = filled_as _ _ _ _ _ _ c.form_of.ensures (ap meant c.in-Date.is) tt c.past_date.ensures
 
 pub returns-in-Time : goal.returns-in-Time
 unfolding is_free_text
-returns-in-Time c = filled_as _ _ _ _ _ _ c.form_of-form.ensures (ap meant c.in-Time.is) tt c.past_time.ensures
+returns-in-Time c = filled_as _ _ _ _ _ _ c.form_of.ensures (ap meant c.in-Time.is) tt c.past_time.ensures
 
 pub returns-in-Text : goal.returns-in-Text
 unfolding is_free_text
-returns-in-Text c = text_as _ _ _ _ _ _ _ c.form_of-form.ensures (ap meant c.in-Text.is) c.is_mandatory.ensures
+returns-in-Text c = text_as _ _ _ _ _ _ _ c.form_of.ensures (ap meant c.in-Text.is) c.is_mandatory.ensures
     c.past_text.ensures
 
 pub returns-in-ChangeType : goal.returns-in-ChangeType
 unfolding is_free_text
-returns-in-ChangeType c = filled_as _ _ _ _ _ _ c.form_of-form.ensures (ap meant c.in-ChangeType.is) tt c.past_change_type.ensures
+returns-in-ChangeType c = filled_as _ _ _ _ _ _ c.form_of.ensures (ap meant c.in-ChangeType.is) tt c.past_change_type.ensures
 
 pub returns-in-XrefType : goal.returns-in-XrefType
 unfolding is_free_text
-returns-in-XrefType c = filled_as _ _ _ _ _ _ c.form_of-form.ensures (ap meant c.in-XrefType.is) tt c.past_xref_type.ensures
+returns-in-XrefType c = filled_as _ _ _ _ _ _ c.form_of.ensures (ap meant c.in-XrefType.is) tt c.past_xref_type.ensures
 
 pub returns-in-FileType : goal.returns-in-FileType
 unfolding is_free_text
-returns-in-FileType c = filled_as _ _ _ _ _ _ c.form_of-form.ensures (ap meant c.in-FileType.is) tt c.past_file_type.ensures
+returns-in-FileType c = filled_as _ _ _ _ _ _ c.form_of.ensures (ap meant c.in-FileType.is) tt c.past_file_type.ensures
 
 pub returns-in-KeyText : goal.returns-in-KeyText
 unfolding is_free_text
-returns-in-KeyText c = filled_as _ _ _ _ _ _ c.form_of-form.ensures (ap meant c.in-KeyText.is) tt c.past_key.ensures
+returns-in-KeyText c = filled_as _ _ _ _ _ _ c.form_of.ensures (ap meant c.in-KeyText.is) tt c.past_key.ensures

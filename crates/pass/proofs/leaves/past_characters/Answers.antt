@@ -1,49 +1,18 @@
 -- `pass::leaves::past_characters` meets its contract.
-use Prim.Native.Nat.{◌+◌}
-use Rattle.meaning.specs.Forms.{text, has_form, by_characters}
-use Rattle.pass.proofs.LeafLaws.{past_not, past_yes}
-use borrow.Author.Rules.{rules}
+use mathlib.Core.Path.{sym, ◌∙◌}
+use Prim.Native.Nat.{◌+◌, ◌<◌}
+use lib.ListN.{length}
 use native.Mathlib.Omega.{arith}
+use borrow.Author.Tests.{ltb-true}
+use Rattle.meaning.specs.Forms.{text, has_form, by_characters}
+use Rattle.pass.proofs.LeafLaws.{past_if, seen_tested}
 use Rattle.pass.proofs.leaves.past_characters.Goals as goal
-
-pub to_quote-last-requires : goal.to_quote-last-requires
-unfolding has_form
-to_quote-last-requires c = search rules
-
-pub overflow_sub-s : goal.overflow_sub-s
-unfolding has_form
-overflow_sub-s c = search rules
-
-pub returns-then-s-last-le1 : goal.returns-then-s-last-le1
-unfolding has_form
-returns-then-s-last-le1 c = past_not
-
-pub overflow_add-end : goal.overflow_add-end
-unfolding has_form
-overflow_add-end c = search rules
-
-pub slice_bounds-is_text-count : goal.slice_bounds-is_text-count
-unfolding has_form
-slice_bounds-is_text-count c = search rules
-
-pub slice_bounds-is_text-start : goal.slice_bounds-is_text-start
-unfolding has_form
-slice_bounds-is_text-start c = search rules
-
-pub slice_bounds-is_text-end : goal.slice_bounds-is_text-end
-unfolding has_form
-slice_bounds-is_text-end c = search rules
-
-pub is_text-requires : goal.is_text-requires
-unfolding has_form
-is_text-requires c = search rules
-
-pub returns-then-is_text : goal.returns-then-is_text
-unfolding has_form
-returns-then-is_text c = let g = c.args in
-    let last = c.to_quote-last.result in
-    past_yes (has_form by_characters (text g.w)) g.s.now g.at (last + 1) _ (omega arith) (omega arith) c.is_text.ensures c.if-is_text.true
+use Rattle.pass.proofs.leaves.past_characters.Goals.{then-end-s, else-end-s}
 
 pub returns : goal.returns
 unfolding has_form
-returns c = past_not
+returns c = past_if (has_form by_characters (text c.args.w)) c.args.s.now c.args.at _ _ _ c.then_some.ensures
+    (λ t. elim c.if-end-s.branch [
+      | then-end-s w ↦ seen_tested (has_form by_characters (text c.args.w)) c.args.s.now c.args.at _ _ (omega arith) (omega arith) w.is_text.ensures (sym w.then_some-is ∙ t)
+      | else-end-s w ↦ absurd (let z : c.args.from + c.in_ok-last.field-0 + 1 < length c.args.s.now = ltb-true _ _ (sym w.then_some-is ∙ t) in omega (arith, w.if-end-s.false))
+    ])

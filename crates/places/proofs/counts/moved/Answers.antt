@@ -11,5 +11,5 @@ returns-then-up c = search moving
 pub overflow_sub-result : goal.overflow_sub-result
 overflow_sub-result c = search moving
 
-pub returns : goal.returns
-returns c = search moving
+pub returns-else-up : goal.returns-else-up
+returns-else-up c = search moving

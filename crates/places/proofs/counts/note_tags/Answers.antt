@@ -1,21 +1,39 @@
 -- `places::counts::note_tags` meets its contract.
-use Rattle.places.proofs.NoteLaws.{notetags, second_tag_open}
+use mathlib.Core.Path.{◌≡◌}
+use Prim.Native.Nat.{◌≤◌, ◌<◌}
+use native.Mathlib.Omega.{arith}
+use borrow.Author.Rules.{rules}
+use lib.ListN.{length}
+use Rattle.places.proofs.NoteLaws.{each_tells, tags_start, tags_open, tags_unmet, tags_next, tags_done}
 use Rattle.places.proofs.counts.note_tags.Goals as goal
 
-pub note_tagged-requires : goal.note_tagged-requires
-note_tagged-requires c = (search notetags, search notetags, search notetags, search notetags, search notetags)
+pub loop-key-init : goal.loop-key-init
+loop-key-init c =
+    let n : length c.args.to ≡ 2 = search rules in
+    let p = c.requires in
+    tags_start _ _ _ p.3 p.4 p.5 n _ _ p.2
 
-pub shape_of-counts-then-not-note_tagged : goal.shape_of-counts-then-not-note_tagged
-shape_of-counts-then-not-note_tagged c = search notetags
+pub note_tagged-requires : goal.note_tagged-requires
+note_tagged-requires c =
+    let n : length c.args.to ≡ 2 = search rules in
+    let h : c.loop-key.key-index < length c.args.to = omega (arith, n, c.loop-key-test.true) in
+    let p = c.requires in
+    (p.0, search rules, tags_open _ _ _ _ _ _ _ c.loop-key.invariant h, p.3.own, each_tells _ _ _ p.3 p.4 p.5 _ c.loop-key-test.true)
 
 pub returns-then-not-note_tagged : goal.returns-then-not-note_tagged
-returns-then-not-note_tagged c = search notetags
+returns-then-not-note_tagged c =
+    let n : length c.args.to ≡ 2 = search rules in
+    let h : c.loop-key.key-index < length c.args.to = omega (arith, n, c.loop-key-test.true) in
+    tags_unmet _ _ _ _ _ _ _ c.loop-key.invariant h _ _ c.note_tagged.ensures c.if-not-note_tagged.true
 
-pub note_tagged-requires-2 : goal.note_tagged-requires-2
-note_tagged-requires-2 c = let p = c.requires in (p.0, search notetags, second_tag_open _ _ _ _ p.3 p.4 p.5 _ _ _ _ c.note_tagged.ensures c.if-not-note_tagged.false p.2, p.3.own, search notetags)
-
-pub shape_of-counts : goal.shape_of-counts
-shape_of-counts c = search notetags
+pub loop-key-preserved : goal.loop-key-preserved
+loop-key-preserved c =
+    let n : length c.args.to ≡ 2 = search rules in
+    let h : c.loop-key.key-index < length c.args.to = omega (arith, n, c.loop-key-test.true) in
+    tags_next _ _ _ _ _ _ _ c.loop-key.invariant h _ _ c.note_tagged.ensures c.if-not-note_tagged.false
 
 pub returns : goal.returns
-returns c = search notetags
+returns c =
+    let n : length c.args.to ≡ 2 = search rules in
+    let h : length c.args.to ≤ c.loop-key.key-index = omega (arith, n, c.loop-key-test.false) in
+    tags_done _ _ _ _ _ _ _ c.loop-key.invariant h

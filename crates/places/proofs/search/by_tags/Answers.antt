@@ -11,8 +11,5 @@ returns-then-its-ours c = search tagorder
 pub returns-then-ours-eq0 : goal.returns-then-ours-eq0
 returns-then-ours-eq0 c = search tagorder
 
-pub against-requires : goal.against-requires
-against-requires c = search tagorder
-
 pub returns : goal.returns
 returns c = search tagorder

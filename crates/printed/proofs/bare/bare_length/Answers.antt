@@ -1,27 +1,10 @@
 -- `printed::bare::bare_length` meets its contract.
-use Rattle.printed.proofs.BareLaws.{baring}
+use Rattle.std.proofs.Common.{rules, sym}
+use Rattle.printed.proofs.BareLaws.{bare_last, bare_nothing}
 use Rattle.printed.proofs.bare.bare_length.Goals as goal
 
-pub loop-n-init : goal.loop-n-init
-loop-n-init c = search baring
+pub returns-in-Some : goal.returns-in-Some
+returns-in-Some c = (search rules, bare_last c.args.s.now c.in-Some.last (search rules) (search rules) (search rules))
 
-pub overflow_sub-n : goal.overflow_sub-n
-overflow_sub-n c = search baring
-
-pub bounds-s-n : goal.bounds-s-n
-bounds-s-n c = search baring
-
-pub returns-then-s-n-ne0 : goal.returns-then-s-n-ne0
-returns-then-s-n-ne0 c = search baring
-
-pub overflow_sub-n-in-loop-n : goal.overflow_sub-n-in-loop-n
-overflow_sub-n-in-loop-n c = search baring
-
-pub loop-n-smaller : goal.loop-n-smaller
-loop-n-smaller c = search baring
-
-pub loop-n-preserved : goal.loop-n-preserved
-loop-n-preserved c = search baring
-
-pub returns : goal.returns
-returns c = search baring
+pub returns-in-None : goal.returns-in-None
+returns-in-None c = (search rules, sym (bare_nothing c.args.s.now (search rules)))

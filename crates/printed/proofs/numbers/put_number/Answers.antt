@@ -11,17 +11,11 @@ slice_bounds-bytes-count c = search numbered
 pub slice_bounds-bytes-start : goal.slice_bounds-bytes-start
 slice_bounds-bytes-start c = search numbered
 
-pub slice_bounds-bytes-end : goal.slice_bounds-bytes-end
-slice_bounds-bytes-end c = search numbered
-
 pub bytes-requires : goal.bytes-requires
 bytes-requires c = search numbered
 
 pub overflow_add-result : goal.overflow_add-result
 overflow_add-result c = search numbered
-
-pub shape_of-out : goal.shape_of-out
-shape_of-out c = search numbered
 
 pub returns : goal.returns
 returns c = search numbered

@@ -5,8 +5,8 @@ use Prim.Native.Nat.{◌-◌}
 use mathlib.Core.Path.{◌≡◌}
 use Rattle.steps.proofs.run.run.Given as goal
 
-abbrev pub invariant-loop-at : goal.invariant-loop-at
-invariant-loop-at l = Going l.holding l.file l.initial.places l.room l.initial.state l.places l.tags l.counts l.steps l.before l.state l.at l.made × (length l.places ≡ length l.initial.places) × (length l.tags ≡ length l.initial.tags) × (length l.counts ≡ length l.initial.counts) × (length l.steps ≡ length l.initial.steps) × (length l.before ≡ length l.initial.before)
+abbrev pub invariant-loop-kind : goal.invariant-loop-kind
+invariant-loop-kind l = Going l.holding l.file l.initial.places l.room l.initial.state l.places l.tags l.counts l.steps l.before l.state l.at l.made × (length l.places ≡ length l.initial.places) × (length l.tags ≡ length l.initial.tags) × (length l.counts ≡ length l.initial.counts) × (length l.steps ≡ length l.initial.steps) × (length l.before ≡ length l.initial.before)
 
-abbrev pub decreases-loop-at : goal.decreases-loop-at
-decreases-loop-at l = length l.file - l.at
+abbrev pub decreases-loop-kind : goal.decreases-loop-kind
+decreases-loop-kind l = length l.file - l.at

@@ -20,113 +20,45 @@ pub overflow_add-entry : goal.overflow_add-entry
 unfolding laid_out places_of padded targets sources ident fields key_names refers_to field_number bytes zeros value value_f
 overflow_add-entry c = search stepping
 
-pub enum_told-1 : goal.enum_told-1
-unfolding laid_out places_of padded targets sources ident fields key_names refers_to field_number bytes zeros value value_f
-enum_told-1 c = search stepping
-
 pub line_key-key-requires : goal.line_key-key-requires
 unfolding laid_out places_of padded targets sources ident fields key_names refers_to field_number bytes zeros value value_f
 line_key-key-requires c = (search stepping, rw c.in-Street.is, search stepping)
-
-pub enum_told-in-StreetXref : goal.enum_told-in-StreetXref
-unfolding laid_out places_of padded targets sources ident fields key_names refers_to field_number bytes zeros value value_f
-enum_told-in-StreetXref c = search stepping
 
 pub line_key-key-requires-in-StreetXref : goal.line_key-key-requires-in-StreetXref
 unfolding laid_out places_of padded targets sources ident fields key_names refers_to field_number bytes zeros value value_f
 line_key-key-requires-in-StreetXref c = (search stepping, rw c.in-StreetXref.is, search stepping)
 
-pub enum_told-in-Blpu : goal.enum_told-in-Blpu
-unfolding laid_out places_of padded targets sources ident fields key_names refers_to field_number bytes zeros value value_f
-enum_told-in-Blpu c = search stepping
-
 pub line_key-key-requires-in-Blpu : goal.line_key-key-requires-in-Blpu
 unfolding laid_out places_of padded targets sources ident fields key_names refers_to field_number bytes zeros value value_f
 line_key-key-requires-in-Blpu c = (search stepping, rw c.in-Blpu.is, search stepping)
-
-pub enum_told-in-AppXref : goal.enum_told-in-AppXref
-unfolding laid_out places_of padded targets sources ident fields key_names refers_to field_number bytes zeros value value_f
-enum_told-in-AppXref c = search stepping
 
 pub line_key-key-requires-in-AppXref : goal.line_key-key-requires-in-AppXref
 unfolding laid_out places_of padded targets sources ident fields key_names refers_to field_number bytes zeros value value_f
 line_key-key-requires-in-AppXref c = (search stepping, rw c.in-AppXref.is, search stepping)
 
-pub enum_told-in-Lpi : goal.enum_told-in-Lpi
-unfolding laid_out places_of padded targets sources ident fields key_names refers_to field_number bytes zeros value value_f
-enum_told-in-Lpi c = search stepping
-
 pub line_key-key-requires-in-Lpi : goal.line_key-key-requires-in-Lpi
 unfolding laid_out places_of padded targets sources ident fields key_names refers_to field_number bytes zeros value value_f
 line_key-key-requires-in-Lpi c = (search stepping, rw c.in-Lpi.is, search stepping)
-
-pub enum_told-in-Insert : goal.enum_told-in-Insert
-unfolding laid_out places_of padded targets sources ident fields key_names refers_to field_number bytes zeros value value_f
-enum_told-in-Insert c = search stepping
 
 pub insert-requires : goal.insert-requires
 unfolding laid_out places_of padded targets sources ident fields key_names refers_to field_number bytes zeros value value_f
 insert-requires c = let q = c.requires in let k = elim c.match-kind.branch as (λ _. key_list c.match-kind.key ≡ key_numbers (rec_of (line_at c.args.file.now c.args.at))) [ in-Street w ↦ ap key_list w.key-is ∙ w.line_key-key.ensures | in-StreetXref w ↦ ap key_list w.key-is ∙ w.line_key-key-in-StreetXref.ensures | in-Blpu w ↦ ap key_list w.key-is ∙ w.line_key-key-in-Blpu.ensures | in-AppXref w ↦ ap key_list w.key-is ∙ w.line_key-key-in-AppXref.ensures | in-Lpi w ↦ ap key_list w.key-is ∙ w.line_key-key-in-Lpi.ensures ] in (q.0, line_fine _ _ _ _ q.1, line_key _ _ _ _ q.1 _ k)
 
-pub enum_told-in-Update : goal.enum_told-in-Update
-unfolding laid_out places_of padded targets sources ident fields key_names refers_to field_number bytes zeros value value_f
-enum_told-in-Update c = search stepping
-
 pub update-requires : goal.update-requires
 unfolding laid_out places_of padded targets sources ident fields key_names refers_to field_number bytes zeros value value_f
 update-requires c = let q = c.requires in let k = elim c.match-kind.branch as (λ _. key_list c.match-kind.key ≡ key_numbers (rec_of (line_at c.args.file.now c.args.at))) [ in-Street w ↦ ap key_list w.key-is ∙ w.line_key-key.ensures | in-StreetXref w ↦ ap key_list w.key-is ∙ w.line_key-key-in-StreetXref.ensures | in-Blpu w ↦ ap key_list w.key-is ∙ w.line_key-key-in-Blpu.ensures | in-AppXref w ↦ ap key_list w.key-is ∙ w.line_key-key-in-AppXref.ensures | in-Lpi w ↦ ap key_list w.key-is ∙ w.line_key-key-in-Lpi.ensures ] in (q.0, line_fine _ _ _ _ q.1, line_key _ _ _ _ q.1 _ k)
-
-pub enum_told-in-Delete : goal.enum_told-in-Delete
-unfolding laid_out places_of padded targets sources ident fields key_names refers_to field_number bytes zeros value value_f
-enum_told-in-Delete c = search stepping
 
 pub delete-requires : goal.delete-requires
 unfolding laid_out places_of padded targets sources ident fields key_names refers_to field_number bytes zeros value value_f
 delete-requires c = let q = c.requires in let k = elim c.match-kind.branch as (λ _. key_list c.match-kind.key ≡ key_numbers (rec_of (line_at c.args.file.now c.args.at))) [ in-Street w ↦ ap key_list w.key-is ∙ w.line_key-key.ensures | in-StreetXref w ↦ ap key_list w.key-is ∙ w.line_key-key-in-StreetXref.ensures | in-Blpu w ↦ ap key_list w.key-is ∙ w.line_key-key-in-Blpu.ensures | in-AppXref w ↦ ap key_list w.key-is ∙ w.line_key-key-in-AppXref.ensures | in-Lpi w ↦ ap key_list w.key-is ∙ w.line_key-key-in-Lpi.ensures ] in (q.0, line_fine _ _ _ _ q.1, line_key _ _ _ _ q.1 _ k)
 
-pub shape_of-places-in-Insert : goal.shape_of-places-in-Insert
-unfolding laid_out places_of padded targets sources ident fields key_names refers_to field_number bytes zeros value value_f
-shape_of-places-in-Insert c = search stepping
-
-pub shape_of-tags-in-Insert : goal.shape_of-tags-in-Insert
-unfolding laid_out places_of padded targets sources ident fields key_names refers_to field_number bytes zeros value value_f
-shape_of-tags-in-Insert c = search stepping
-
-pub shape_of-counts-in-Insert : goal.shape_of-counts-in-Insert
-unfolding laid_out places_of padded targets sources ident fields key_names refers_to field_number bytes zeros value value_f
-shape_of-counts-in-Insert c = search stepping
-
 pub returns-in-Insert : goal.returns-in-Insert
 unfolding laid_out places_of padded targets sources ident fields key_names refers_to field_number bytes zeros value value_f
 returns-in-Insert c = search stepping
 
-pub shape_of-places-in-Update : goal.shape_of-places-in-Update
-unfolding laid_out places_of padded targets sources ident fields key_names refers_to field_number bytes zeros value value_f
-shape_of-places-in-Update c = search stepping
-
-pub shape_of-tags-in-Update : goal.shape_of-tags-in-Update
-unfolding laid_out places_of padded targets sources ident fields key_names refers_to field_number bytes zeros value value_f
-shape_of-tags-in-Update c = search stepping
-
-pub shape_of-counts-in-Update : goal.shape_of-counts-in-Update
-unfolding laid_out places_of padded targets sources ident fields key_names refers_to field_number bytes zeros value value_f
-shape_of-counts-in-Update c = search stepping
-
 pub returns-in-Update : goal.returns-in-Update
 unfolding laid_out places_of padded targets sources ident fields key_names refers_to field_number bytes zeros value value_f
 returns-in-Update c = search stepping
-
-pub shape_of-places-in-Delete : goal.shape_of-places-in-Delete
-unfolding laid_out places_of padded targets sources ident fields key_names refers_to field_number bytes zeros value value_f
-shape_of-places-in-Delete c = search stepping
-
-pub shape_of-tags-in-Delete : goal.shape_of-tags-in-Delete
-unfolding laid_out places_of padded targets sources ident fields key_names refers_to field_number bytes zeros value value_f
-shape_of-tags-in-Delete c = search stepping
-
-pub shape_of-counts-in-Delete : goal.shape_of-counts-in-Delete
-unfolding laid_out places_of padded targets sources ident fields key_names refers_to field_number bytes zeros value value_f
-shape_of-counts-in-Delete c = search stepping
 
 pub returns-in-Delete : goal.returns-in-Delete
 unfolding laid_out places_of padded targets sources ident fields key_names refers_to field_number bytes zeros value value_f

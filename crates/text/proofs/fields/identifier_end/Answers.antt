@@ -1,32 +1,12 @@
 -- `text::fields::identifier_end` meets its contract.
-use Rattle.text.proofs.FieldLaws.{up}
-use Rattle.meaning.specs.Lines.{identifier}
+use Rattle.std.proofs.Common.{nat_eq, rules, tests}
+use Rattle.std.proofs.lemmas.Iterator.{YieldsList-from_slice}
+use Rattle.std.proofs.lemmas.Iterator.Search.{position_from_yields_List}
+use Rattle.text.proofs.FieldLaws.{identifier_position}
 use Rattle.text.proofs.fields.identifier_end.Goals as goal
 
-pub loop-i-init : goal.loop-i-init
-unfolding identifier
-loop-i-init c = search up
-
-pub bounds-line-i : goal.bounds-line-i
-unfolding identifier
-bounds-line-i c = search up
-
-pub returns-then-line-i-eq44 : goal.returns-then-line-i-eq44
-unfolding identifier
-returns-then-line-i-eq44 c = search up
-
-pub overflow_add-i : goal.overflow_add-i
-unfolding identifier
-overflow_add-i c = search up
-
-pub loop-i-smaller : goal.loop-i-smaller
-unfolding identifier
-loop-i-smaller c = search up
-
-pub loop-i-preserved : goal.loop-i-preserved
-unfolding identifier
-loop-i-preserved c = search up
-
 pub returns : goal.returns
-unfolding identifier
-returns c = search up
+returns c =
+    identifier_position c.args.line.now c.position.result c.unwrap_or.result
+    (position_from_yields_List (λ y. nat_eq y 44) _ _ c.position.result c.position.ensures.ran (YieldsList-from_slice c.args.line.now cc) (λ x b q k. search (rules, tests)))
+    c.unwrap_or.ensures

@@ -1,12 +1,7 @@
--- What lasts from turn to turn of the loop of `text::lines::line_end`, and what each turn makes smaller.
-use mathlib.Core.Path.{◌≡◌}
-use Prim.Native.Nat.{◌-◌, ◌≤◌}
-use lib.ListN.{length}
+-- What lasts from turn to turn of the loop of `text::lines::line_end`.
+use Rattle.std.proofs.Common.{◌≡◌, ◌+◌}
 use Rattle.text.specs.Places.{line_end}
 use Rattle.text.proofs.lines.line_end.Given as goal
 
 abbrev pub invariant-loop-i : goal.invariant-loop-i
-invariant-loop-i l = (line_end l.s l.i ≡ line_end l.s l.at) × (l.at ≤ l.i) × (l.i ≤ length l.s)
-
-abbrev pub decreases-loop-i : goal.decreases-loop-i
-decreases-loop-i l = length l.s - l.i
+invariant-loop-i l = line_end l.s (l.at + l.i) ≡ line_end l.s l.at

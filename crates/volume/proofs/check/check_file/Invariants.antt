@@ -1,12 +1,12 @@
 -- What lasts from turn to turn of the loop of `volume::check::check_file`, and what each turn makes smaller.
 use mathlib.Core.Path.{◌≡◌}
-use Prim.Native.Nat.{◌-◌, ◌^◌, ◌<◌}
+use Prim.Native.Nat.{◌-◌, ◌≤◌}
 use lib.ListN.{length}
 use Rattle.volume.specs.Reading.{Reading}
 use Rattle.volume.proofs.check.check_file.Given as goal
 
-abbrev pub invariant-loop-at : goal.invariant-loop-at
-invariant-loop-at l = (Reading l.file l.walk l.at) × (length l.ends ≡ 32) × (length l.file < 2 ^ 63)
+abbrev pub invariant-loop-after : goal.invariant-loop-after
+invariant-loop-after l = (Reading l.file l.walk l.at) × (l.at ≤ length l.file) × (length l.ends ≡ 32)
 
-abbrev pub decreases-loop-at : goal.decreases-loop-at
-decreases-loop-at l = length l.file - l.at
+abbrev pub decreases-loop-after : goal.decreases-loop-after
+decreases-loop-after l = length l.file - l.at

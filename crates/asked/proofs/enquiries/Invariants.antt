@@ -1,9 +1,0 @@
--- What lasts from turn to turn of the loop of `asked::enquiries`, and what each turn makes smaller.
-use Rattle.std.proofs.Common.{◌+◌, ◌-◌, ◌≤◌, length}
-use Rattle.asked.proofs.enquiries.Given as goal
-
-abbrev pub invariant-loop-at : goal.invariant-loop-at
-invariant-loop-at g l = l.at ≤ length l.s + 1
-
-abbrev pub decreases-loop-at : goal.decreases-loop-at
-decreases-loop-at g l = length l.s + 1 - l.at
