@@ -1,1 +1,2 @@
 mod Claiming
+pub mod MonthLaws
