@@ -44,6 +44,7 @@ use Rattle.places.proofs.SearchLaws.{stands_in}
 use Rattle.places.proofs.CountLaws.{clear_tally, count_at_lem}
 use Rattle.judge.specs.declared.State.{State}
 use Rattle.judge.specs.declared.Judged.{Judged}
+use Rattle.judge.specs.declared.Refused.{Refused}
 use Rattle.judge.specs.Ready.{Holds, Ready, Measures, Judges}
 use Rattle.judge.proofs.FindLaws.{Stands, get_both, found_at}
 
@@ -69,7 +70,7 @@ clear_all x [] g h = refl
 clear_all x (r ∷ rs) g h = rw (clear_agree r x (and_l (fine scottish r) (all (fine scottish) rs) h) g, clear_all x rs g (and_r (fine scottish r) (all (fine scottish) rs) h))
 
 -- what was judged, or another
-was_ok : Judged → Result Judged Code → Judged
+was_ok : Judged → Result Judged Refused → Judged
 was_ok d (Ok j) = j
 was_ok d (Err w) = d
 
@@ -113,13 +114,13 @@ module _ (h f a tags : List ℕ) (room : ℕ) (s : State) (y : Holds h f a tags 
     pub place_in : on ≡ true → i < length a
     place_in t = omega (arith, y.ordered.within, stands_in h f a s.count i (key_numbers (record_of h f v)) y.ordered.within placed (some? (get numbered (key_numbers (record_of h f v)) (says h f a s.count))) refl (T_true _ (stood t)))
 
-    refused : (o : Op) (w : Code) → some (code_number w) ≡ step_code scottish room (says h f a s.count) (change o (record_of h f v)) → Judges h f a room (change o (record_of h f v)) s (Err w)
-    refused o w e = record { coded = e; measured = λ j z. cc }
+    refused : (o : Op) (w : Code) → some (code_number w) ≡ step_code scottish room (says h f a s.count) (change o (record_of h f v)) → Judges h f a room (change o (record_of h f v)) s (Err (record { code = w; place = i }))
+    refused o w e = record { coded = e; placed = placed; within = q.within; measured = λ j z. cc }
 
     taken : (o : Op) (z : ℕ) → step_code scottish room (says h f a s.count) (change o (record_of h f v)) ≡ none → z ≡ length (written (after (keyed scottish) (says h f a s.count) (change o (record_of h f v))))
         → Judges h f a room (change o (record_of h f v)) s (Ok (record { place = i; size = z }))
     unfolding was_ok
-    taken o z e n = record { coded = sym e; measured = λ j u. subst (Measures h f a (change o (record_of h f v)) s) (ap (was_ok (record { place = i; size = z })) u) (record { placed = placed; within = q.within; sized = n }) }
+    taken o z e n = record { coded = sym e; placed = placed; within = q.within; measured = λ j u. subst (Measures h f a (change o (record_of h f v)) s) (ap (was_ok (record { place = i; size = z })) u) (record { placed = placed; within = q.within; sized = n }) }
 
     -- ---- what goes
 
@@ -146,13 +147,13 @@ module _ (h f a tags : List ℕ) (room : ℕ) (s : State) (y : Holds h f a tags 
     told_ins = fast_step scottish room (says h f a s.count) (change ins (record_of h f v)) y.ordered.asc y.pass
 
     -- a key that stands is not inserted
-    pub ins_held : on ≡ true → Judges h f a room (change ins (record_of h f v)) s (Err KeyHeld)
+    pub ins_held : on ≡ true → Judges h f a room (change ins (record_of h f v)) s (Err (record { code = KeyHeld; place = i }))
     unfolding ask
     ins_held t = refused ins KeyHeld (rw (told_ins, ← there, t))
 
     module _ (t : on ≡ false) (limit : ℕ) (limited : limit ≡ most_records) where
       -- 8,192 records are enough
-      pub ins_many : limit ≤ s.count → Judges h f a room (change ins (record_of h f v)) s (Err TooManyRecords)
+      pub ins_many : limit ≤ s.count → Judges h f a room (change ins (record_of h f v)) s (Err (record { code = TooManyRecords; place = i }))
       unfolding ask
       ins_many m = refused ins TooManyRecords (rw (told_ins, ← there, t, lt-leb (suc (length (says h f a s.count))) most_records (omega (arith, holds_counted))))
 
@@ -161,7 +162,7 @@ module _ (h f a tags : List ℕ) (room : ℕ) (s : State) (y : Holds h f a tags 
         few_ok = le-leb (suc (length (says h f a s.count))) most_records (omega (arith, holds_counted))
 
         -- its references must be met
-        pub ins_unmet : b ≡ false → Judges h f a room (change ins (record_of h f v)) s (Err ReferenceUnmet)
+        pub ins_unmet : b ≡ false → Judges h f a room (change ins (record_of h f v)) s (Err (record { code = ReferenceUnmet; place = i }))
         unfolding ask
         ins_unmet u = refused ins ReferenceUnmet (rw (told_ins, ← there, t, few_ok, ← r, u))
 
@@ -175,7 +176,7 @@ module _ (h f a tags : List ℕ) (room : ℕ) (s : State) (y : Holds h f a tags 
           grown = omega (arith, rendered, bare_is (record_of h f v), wider)
 
           -- it must fit
-          pub ins_long : room - s.size < l + 10 + w → Judges h f a room (change ins (record_of h f v)) s (Err HoldingTooLong)
+          pub ins_long : room - s.size < l + 10 + w → Judges h f a room (change ins (record_of h f v)) s (Err (record { code = HoldingTooLong; place = i }))
           unfolding ask
           ins_long x = refused ins HoldingTooLong (rw (told_ins, ← there, t, few_ok, ← r, u, grown, lt-leb (s.size + (l + 10 + w)) room (omega (arith, y.fits))))
 
@@ -191,7 +192,7 @@ module _ (h f a tags : List ℕ) (room : ℕ) (s : State) (y : Holds h f a tags 
     -- ---- update
 
     -- a key that stands nowhere is not updated
-    pub upd_absent : on ≡ false → Judges h f a room (change upd (record_of h f v)) s (Err KeyAbsent)
+    pub upd_absent : on ≡ false → Judges h f a room (change upd (record_of h f v)) s (Err (record { code = KeyAbsent; place = i }))
     unfolding ask fast
     upd_absent t = refused upd KeyAbsent (rw (fast_step scottish room (says h f a s.count) (change upd (record_of h f v)) y.ordered.asc y.pass, at_none t))
 
@@ -204,7 +205,7 @@ module _ (h f a tags : List ℕ) (room : ℕ) (s : State) (y : Holds h f a tags 
 
       module _ (b : Bool) (r : b ≡ meets (keyed scottish) (refs_of scottish) (says h f a s.count) (record_of h f v)) where
         -- its references must be met
-        pub upd_unmet : b ≡ false → Judges h f a room (change upd (record_of h f v)) s (Err ReferenceUnmet)
+        pub upd_unmet : b ≡ false → Judges h f a room (change upd (record_of h f v)) s (Err (record { code = ReferenceUnmet; place = i }))
         unfolding ask
         upd_unmet u = refused upd ReferenceUnmet (rw (told_upd, ← r, u))
 
@@ -221,7 +222,7 @@ module _ (h f a tags : List ℕ) (room : ℕ) (s : State) (y : Holds h f a tags 
 
           module _ (u : b ≡ true) where
             -- if it is not too long
-            pub upd_long : room - (s.size - l) < n → Judges h f a room (change upd (record_of h f v)) s (Err HoldingTooLong)
+            pub upd_long : room - (s.size - l) < n → Judges h f a room (change upd (record_of h f v)) s (Err (record { code = HoldingTooLong; place = i }))
             unfolding ask
             upd_long z = refused upd HoldingTooLong (rw (told_upd, ← r, u, upd_changed, lt-leb (s.size + n - l) room (omega (arith, y.fits, upd_room))))
 
@@ -233,7 +234,7 @@ module _ (h f a tags : List ℕ) (room : ℕ) (s : State) (y : Holds h f a tags 
     -- ---- delete
 
     -- a key that stands nowhere is not deleted
-    pub del_absent : on ≡ false → Judges h f a room (change del (record_of h f v)) s (Err KeyAbsent)
+    pub del_absent : on ≡ false → Judges h f a room (change del (record_of h f v)) s (Err (record { code = KeyAbsent; place = i }))
     unfolding ask fast
     del_absent t = refused del KeyAbsent (rw (fast_step scottish room (says h f a s.count) (change del (record_of h f v)) y.ordered.asc y.pass, at_none t))
 
@@ -259,7 +260,7 @@ module _ (h f a tags : List ℕ) (room : ℕ) (s : State) (y : Holds h f a tags 
         seen = sym (clear_all (record_of h f v) (says h f a s.count) g y.ordered.fines) ∙ clear_tally (key_numbers (record_of h f v)) (says h f a s.count) ∙ ap (λ n. eqb n 0) (sym counts)
 
         -- no record may refer to the one that goes
-        pub del_met : (get_or c i 0 ≡ 0 → ⊥) → Judges h f a room (change del (record_of h f v)) s (Err ReferenceUnmet)
+        pub del_met : (get_or c i 0 ≡ 0 → ⊥) → Judges h f a room (change del (record_of h f v)) s (Err (record { code = ReferenceUnmet; place = i }))
         unfolding ask
         del_met u = refused del ReferenceUnmet (rw (told_del, seen, ne_eqb (get_or c i 0) 0 u))
 

@@ -17,11 +17,22 @@ use Rattle.places.specs.Counts.{tally, by_key}
 use Rattle.places.specs.Ordered.{Ordered}
 use Rattle.judge.specs.declared.State.{State}
 use Rattle.judge.specs.declared.Judged.{Judged}
+use Rattle.judge.specs.declared.Refused.{Refused}
 
 -- the code with which a step is refused, if it is
 abbrev pub code_found : {T : Type 0} → Result T Code → Option ℕ
 code_found (Ok t) = none
 code_found (Err w) = some (code_number w)
+
+-- the code with which a step was judged, if it is refused
+abbrev pub code_judged : Result Judged Refused → Option ℕ
+code_judged (Ok j) = none
+code_judged (Err w) = some (code_number w.code)
+
+-- the place of its key, whether it is refused or not
+abbrev pub place_judged : Result Judged Refused → ℕ
+place_judged (Ok j) = j.place
+place_judged (Err w) = w.place
 
 -- the place of a key, whether it stands there or would
 abbrev pub place_of : Result ℕ ℕ → ℕ
@@ -67,7 +78,9 @@ pub record Measures (h f a : List ℕ) (c : Change Rec) (s : State) (j : Judged)
   pub within : j.place ≤ s.count
   pub sized : j.size ≡ length (written (after (keyed scottish) (says h f a s.count) c))
 
--- the code of a change over the state, or where it is not refused its place and bytes
-pub record Judges (h f a : List ℕ) (room : ℕ) (c : Change Rec) (s : State) (r : Result Judged Code) : Type 0 where
-  pub coded : code_found r ≡ step_code scottish room (says h f a s.count) c
+-- the code of a change over the state, the place of its key whether it is refused or not, and where it is not refused the bytes after it
+pub record Judges (h f a : List ℕ) (room : ℕ) (c : Change Rec) (s : State) (r : Result Judged Refused) : Type 0 where
+  pub coded : code_judged r ≡ step_code scottish room (says h f a s.count) c
+  pub placed : place_judged r ≡ rank numbered (key_numbers c.rec) (says h f a s.count)
+  pub within : place_judged r ≤ s.count
   pub measured : (j : Judged) → r ≡ Ok j → Measures h f a c s j

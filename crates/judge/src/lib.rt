@@ -36,6 +36,28 @@ pub struct Judged {
     pub size: usize,
 }
 
+// Why a step is refused, and where its key stands or would stand.
+#[derive(Clone, Copy, Debug, PartialEq, Eq)]
+pub struct Refused {
+    pub code: Code,
+    pub place: usize,
+}
+
+impl From<Refused> for Code {
+    ghost from_gives = { λ refused code. code ≡ refused.code };
+
+    fn from(refused: Refused) -> Code {
+        refused.code
+    }
+}
+
+// A code with the place of the key.
+fn refuse(code: Code, place: usize) -> Refused
+    ensures { result ≡ record { code = code; place = place } }
+{
+    Refused { code, place }
+}
+
 // Where a key stands among the first `count` entries, or where it would.
 pub fn find(
     holding: &[u8],
@@ -66,24 +88,25 @@ pub fn judge_insert(
     key: Key,
     state: State,
     room: usize,
-) -> Result<Judged, Code>
+) -> Result<Judged, Refused>
     requires { Holds holding.now file.now places.now tags.now room state × T (fine scottish (record_of holding.now file.now entry)) × (key_list key ≡ key_numbers (record_of holding.now file.now entry)) }
     ensures { Judges holding.now file.now places.now room (change ins (record_of holding.now file.now entry)) state result }
 {
     let State { count, size } = state;
-    let Err(place) = find(holding, file, places, tags, count, key) else {
-        return Err(Code::KeyHeld);
+    let place = match find(holding, file, places, tags, count, key) {
+        Err(place) => place,
+        Ok(place) => return Err(refuse(Code::KeyHeld, place)),
     };
     if Holding::most_lines() <= count {
-        return Err(Code::TooManyRecords);
+        return Err(refuse(Code::TooManyRecords, place));
     }
     let met = meets(holding, file, places, tags, count, entry);
     if !met {
-        return Err(Code::ReferenceUnmet);
+        return Err(refuse(Code::ReferenceUnmet, place));
     }
     let added = entry_length(holding, file, entry) + AROUND + width((count + 1) as u64);
     if room - size < added {
-        return Err(Code::HoldingTooLong);
+        return Err(refuse(Code::HoldingTooLong, place));
     }
     Ok(Judged {
         place,
@@ -101,21 +124,22 @@ pub fn judge_update(
     key: Key,
     state: State,
     room: usize,
-) -> Result<Judged, Code>
+) -> Result<Judged, Refused>
     requires { Holds holding.now file.now places.now tags.now room state × T (fine scottish (record_of holding.now file.now entry)) × (key_list key ≡ key_numbers (record_of holding.now file.now entry)) }
     ensures { Judges holding.now file.now places.now room (change upd (record_of holding.now file.now entry)) state result }
 {
     let State { count, size } = state;
-    let Ok(place) = find(holding, file, places, tags, count, key) else {
-        return Err(Code::KeyAbsent);
+    let place = match find(holding, file, places, tags, count, key) {
+        Ok(place) => place,
+        Err(place) => return Err(refuse(Code::KeyAbsent, place)),
     };
     if !meets(holding, file, places, tags, count, entry) {
-        return Err(Code::ReferenceUnmet);
+        return Err(refuse(Code::ReferenceUnmet, place));
     }
     let rest = size - entry_length(holding, file, places[place]);
     let new = entry_length(holding, file, entry);
     if room - rest < new {
-        return Err(Code::HoldingTooLong);
+        return Err(refuse(Code::HoldingTooLong, place));
     }
     Ok(Judged {
         place,
@@ -134,16 +158,17 @@ pub fn judge_delete(
     key: Key,
     state: State,
     room: usize,
-) -> Result<Judged, Code>
+) -> Result<Judged, Refused>
     requires { Ready holding.now file.now places.now tags.now counts.now room state × T (fine scottish (record_of holding.now file.now entry)) × (key_list key ≡ key_numbers (record_of holding.now file.now entry)) }
     ensures { Judges holding.now file.now places.now room (change del (record_of holding.now file.now entry)) state result }
 {
     let State { count, size } = state;
-    let Ok(place) = find(holding, file, places, tags, count, key) else {
-        return Err(Code::KeyAbsent);
+    let place = match find(holding, file, places, tags, count, key) {
+        Ok(place) => place,
+        Err(place) => return Err(refuse(Code::KeyAbsent, place)),
     };
     if counts[place] != 0 {
-        return Err(Code::ReferenceUnmet);
+        return Err(refuse(Code::ReferenceUnmet, place));
     }
     let gone = entry_length(holding, file, places[place]) + AROUND + width(count as u64);
     Ok(Judged {

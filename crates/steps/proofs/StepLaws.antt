@@ -46,6 +46,7 @@ use Rattle.places.proofs.CountLaws.{length_noted, count_open, count_close, count
 use Rattle.places.proofs.CountedLaws.{insert_open, insert_told, old_open, old_met, update_open, update_told, delete_told}
 use Rattle.judge.specs.declared.State.{State}
 use Rattle.judge.specs.declared.Judged.{Judged}
+use Rattle.judge.specs.declared.Refused.{Refused}
 use Rattle.judge.specs.Ready.{Ready, Judges}
 use Rattle.answers.specs.declared.codes.Code.{Code}
 use Rattle.std.specs.Prelude.{Result, Ok, Err}
@@ -64,7 +65,7 @@ pub record Passed (h f a : List ℕ) (room : ℕ) (c : Change Rec) (s : State) (
   pub within : j.place ≤ s.count
   pub sized : j.size ≡ length (written (after (keyed scottish) (says h f a s.count) c))
 
-module _ (h f a : List ℕ) (room : ℕ) (c : Change Rec) (s : State) (r : Result Judged Code) (q : Judges h f a room c s r) where
+module _ (h f a : List ℕ) (room : ℕ) (c : Change Rec) (s : State) (r : Result Judged Refused) (q : Judges h f a room c s r) where
   -- as its Ok says
   pub passed_ok : (j : Judged) → r ≡ Ok j → Passed h f a room c s j
   passed_ok j e = let m = q.measured j e in record { free = sym (rw e at q.coded); placed = m.placed; within = m.within; sized = m.sized }

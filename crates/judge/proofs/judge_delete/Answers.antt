@@ -4,11 +4,11 @@ use Rattle.judge.proofs.FindLaws.{stands_ok, stands_err}
 use Rattle.judge.proofs.JudgeLaws.{place_in, count_in, del_absent, del_met, del_room, del_taken}
 use Rattle.judge.proofs.judge_delete.Goals as goal
 
-pub returns-in_default : goal.returns-in_default
-returns-in_default c =
+pub returns-in-Err : goal.returns-in-Err
+returns-in-Err c =
     let p = c.requires in
-    let w = stands_err _ _ _ _ _ _ _ c.find.ensures c.in_default.is in
-    del_absent _ _ _ _ _ _ p.0.holds _ p.1 _ p.2 _ _ w refl
+    let w = stands_err _ _ _ _ _ _ _ c.find.ensures c.in-Err.is in
+    rw c.refuse.ensures (del_absent _ _ _ _ _ _ p.0.holds _ p.1 _ p.2 _ _ w refl)
 
 pub bounds-counts-place : goal.bounds-counts-place
 bounds-counts-place c =
@@ -20,7 +20,7 @@ pub returns-then-counts-place-ne0 : goal.returns-then-counts-place-ne0
 returns-then-counts-place-ne0 c =
     let p = c.requires in
     let w = stands_ok _ _ _ _ _ _ _ c.find.ensures c.in-Ok.is in
-    del_met _ _ _ _ _ _ p.0.holds _ p.1 _ p.2 _ _ w refl _ p.0 c.if-counts-place-ne0.true
+    rw c.refuse-then-counts-place-ne0.ensures (del_met _ _ _ _ _ _ p.0.holds _ p.1 _ p.2 _ _ w refl _ p.0 c.if-counts-place-ne0.true)
 
 pub bounds-places-place : goal.bounds-places-place
 bounds-places-place c =
