@@ -20,8 +20,8 @@
  * Threads. There is no state: any number of threads may call at once, so long as no one writes what another call was lent.
  * Machines. `bin/archive MACHINE ..` proves these functions and compiles what is proved for each machine: libmuiwash.a is code for Linux,
  *   position independent, and muiwash.wasm a module for a browser or for node. What each needs of C, and the stack as measured:
- *   x86_64   libmuiwash.a needs memcpy and memmove and memset, and a call takes 244 KiB of stack;
- *   aarch64  libmuiwash.a needs memcpy and memmove and memset, and a call takes 244 KiB of stack;
+ *   x86_64   libmuiwash.a needs memcpy and memset, and a call takes 244 KiB of stack;
+ *   aarch64  libmuiwash.a needs memcpy and memset, and a call takes 244 KiB of stack;
  *   wasm32   muiwash.wasm needs nothing, and a call takes 242 KiB of stack, of 512 KiB that are the module's own: one call at a time.
  * Lengths. A length is 64 bits on every machine, on wasm32 too, where a pointer is 32 bits: from JavaScript a pointer is a number and a
  *   length a BigInt. muiwash.mjs passes them so.

@@ -1,11 +1,11 @@
 -- The laws of what stands in front of a slice, and of writers one after another.
 use mathlib.Core.Path.{◌≡◌, refl, ap, ◌∙◌}
-use mathlib.Core.List.{List, [], ◌++◌, append_assoc, append-nil}
-use Prim.Native.Nat.{ℕ, ◌+◌, ◌-◌, ◌≤◌}
+use mathlib.Core.List.{List, [], ◌∷◌, ◌++◌, append_assoc, append-nil}
+use Prim.Native.Nat.{ℕ, suc, ◌+◌, ◌-◌, ◌≤◌, ◌<◌}
 use native.Mathlib.Omega.{arith}
 use borrow.Rule.Slice.PartMut.{put_mid}
-use lib.ListN.{length, take, drop, length-append, length-drop}
-use lib.Seq.{take_all, length-take-le, drop-drop, drop_at, take_at}
+use lib.ListN.{length, get_or, take, drop, set, length-append, length-drop}
+use lib.Seq.{drop-cons, set_at, append_snoc, take_all, length-take-le, drop-drop, drop_at, take_at}
 use Rattle.base.proofs.Walk.{at_end_lem}
 use Rattle.text.specs.Front.{in_front}
 
@@ -15,6 +15,14 @@ use Rattle.text.specs.Front.{in_front}
 pub front_none : (old : List ℕ) → old ≡ in_front [] old
 unfolding in_front
 front_none old = refl
+
+-- one element more behind what is written
+pub front_more : (w old new : List ℕ) (i v : ℕ) → length w ≡ i → i < length old → new ≡ in_front w old → set new i v ≡ in_front (w ++ v ∷ []) old
+unfolding in_front
+front_more w old new i v q h e =
+    let d : drop (length w) old ≡ get_or old i 0 ∷ drop (suc i) old = rw q (drop-cons old i 0 h) in
+    let n : length (w ++ v ∷ []) ≡ suc i = omega (arith, length-append w (v ∷ [])) in
+    rw (e, d, set_at w (get_or old i 0) (drop (suc i) old) v i q, n, append_snoc)
 
 -- a writer keeps the length
 pub front_same : (w old new : List ℕ) → length w ≤ length old → new ≡ in_front w old → length new ≡ length old

@@ -2,18 +2,34 @@
 use mathlib.Core.Path.{◌≡◌, refl, ap, ◌∙◌}
 use mathlib.Core.List.{List, ◌∷◌, ◌++◌}
 use Prim.Native.Nat.{ℕ, zero, suc, ◌+◌, ◌-◌, ◌/◌, ◌%◌, ◌≤◌, ◌<◌}
+use native.Mathlib.Numerals.{add-one}
 use native.Mathlib.Omega.{arith}
 use borrow.Author.Rules.{rules}
-use lib.ListN.{length, drop, set, length-set, replicate}
-use lib.Seq.{drop-set-lt, get_or-set_same, drop-cons, append_snoc}
+use lib.ListN.{length, get_or, take, drop, set, length-set, replicate}
+use lib.Seq.{drop-set-lt, get_or-set_same, drop-cons, take-suc, append_snoc, take_all, length-take-le}
 use Rattle.base.specs.Lists.{zeros}
 use Rattle.theory.specs.Decimal.{digits, dec, width}
 use Rattle.theory.specs.DecimalLaws.{length_dec}
 use Rattle.text.specs.Front.{in_front}
+use Rattle.text.proofs.FrontLaws.{front_none, front_more}
 
 -- a store keeps the length
 pub set_same : (new : List ℕ) (i v n : ℕ) → length new ≡ n → length (set new i v) ≡ n
 set_same new i v n e = rw length-set e
+
+-- ---- the walk of a copy, i bytes on
+
+-- one byte more
+pub copy_turn :
+    (s old new : List ℕ) (i : ℕ) → new ≡ in_front (take i s) old → i < length s → length s ≤ length old → set new i (get_or s i 0) ≡ in_front (take (i + 1) s) old
+copy_turn s old new i e h k =
+    rw (add-one i, take-suc s i 0 h) (front_more (take i s) old new i (get_or s i 0) (length-take-le i s (omega arith)) (omega arith) e)
+
+-- all are there
+pub copy_done : (s old new : List ℕ) (i : ℕ) → new ≡ in_front (take i s) old → length s ≤ i → new ≡ in_front s old
+copy_done s old new i e h = rw (take_all i s h) at e
+
+pub ruleset copying = (rules, front_none, set_same, copy_turn, copy_done)
 
 -- ---- the walk of digits from the last, with i digits left to write
 

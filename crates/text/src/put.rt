@@ -7,12 +7,14 @@ ghost use Rattle.text.specs.Front.{in_front};
 use crate::numbers::width;
 
 // Bytes as they are.
-#[tactic(auto, unfolding(crate::specs::Front::in_front))]
+#[tactic(auto, using(crate::proofs::PutLaws::copying))]
 pub fn bytes(out: &mut [u8], s: &[u8]) -> usize
     requires { length s.now ≤ length out.old }
     ensures { (result ≡ length s.now) × (out.new ≡ in_front s.now out.old) }
 {
-    out[..s.len()].copy_from_slice(s);
+    for i in 0..s.len() {
+        out[i] = s[i];
+    }
     s.len()
 }
 
