@@ -98,6 +98,10 @@ pub fn held_line(
 pub fn find_line(holding: &[u8], kind: u64, number: u64) -> Result<Part, Refusal>
     ensures { found_said result ≡ find scottish holding.now kind number }
 {
+    // Asked before the arrays are made, though `open_holding` asks too: they are cleared, which costs far more than this refusal.
+    if !is_enquired(kind) {
+        return Err(Refusal::alone(Code::KindNotAsked));
+    }
     let mut starts = [0u64; Holding::MOST_LINES];
     let mut tags = [0u64; Holding::MOST_LINES];
     let count = open_holding(holding, &mut starts, &mut tags, kind)?;

@@ -107,32 +107,32 @@ pub ruleset notes = (rules, not-true, not-false, early_there, early_room, order_
 
 -- ---- a line
 
-module _ (n : ℕ) (t : List ℕ) (b : Bool) (o : std.Option code.Kind) (p : kind_found o ≡ kind_of scottish (identifier t)) (x : std.Option code.Kind) where
-  -- one of no known kind
-  pub held_unknown : o ≡ None → x ≡ None → kind_found x ≡ held_as n b t
-  unfolding held_as held_kind_as
-  held_unknown q y = rw (y, ← p, q) (go b)
-    where
-      go : (b : Bool) → ◌≡◌ {A = Option Kind} none (pick b none none)
-      go true = refl
-      go false = refl
+module _ (n : ℕ) (t : List ℕ) (b : Bool) (x : std.Option code.Kind) where
+  -- one that does not end well
+  pub held_open : b ≡ false → x ≡ None → kind_found x ≡ held_as n b t
+  unfolding held_as
+  held_open e z = rw (e, z)
 
-  module _ (k : code.Kind) (q : o ≡ Some k) (y : Bool) (z : x ≡ then_some y k) where
-    -- one that does not end well
-    pub held_open : b ≡ false → y ≡ false → kind_found x ≡ held_as n b t
-    unfolding held_as
-    held_open e i = rw (e, z, i)
-
-    -- one that does is held where it passes
-    pub held_ended : b ≡ true → (d : Bool) → y ≡ d → d ≡ held_test scottish n (kind_meant k) t → kind_found x ≡ held_as n b t
+  module _ (o : std.Option code.Kind) (p : kind_found o ≡ kind_of scottish (identifier t)) where
+    -- one of no known kind
+    pub held_unknown : o ≡ None → x ≡ None → kind_found x ≡ held_as n b t
     unfolding held_as held_kind_as
-    held_ended e d j i = rw (e, ← p, q, z, ← i, ← j) (go y)
+    held_unknown q z = rw (z, ← p, q) (go b)
+      where
+        go : (b : Bool) → ◌≡◌ {A = Option Kind} none (pick b none none)
+        go true = refl
+        go false = refl
+
+    -- one that ends well is held where it passes
+    pub held_ended : b ≡ true → (k : code.Kind) → o ≡ Some k → (d : Bool) → d ≡ held_test scottish n (kind_meant k) t → x ≡ then_some d k → kind_found x ≡ held_as n b t
+    unfolding held_as held_kind_as
+    held_ended e k q d i z = rw (e, ← p, q, z, ← i) (go d)
       where
         go : (c : Bool) → kind_found (then_some c k) ≡ keep_if c (kind_meant k)
         go true = unfold keep_if in refl
         go false = unfold keep_if in refl
 
-pub ruleset holds = (rules, held_unknown, held_open, held_ended)
+pub ruleset holds = (rules, held_open, held_unknown, held_ended)
 
 -- the record that the meaning has of a line is that of the kind that was found
 pub held_is : (n : ℕ) (l : Line) (b : Bool) → b ≡ ends_well l → held_line scottish n l ≡ record_as l.text (held_as n b l.text)

@@ -183,7 +183,7 @@ module _ (h : List ℕ) (at : ℕ) (a : List ℕ) (f : std.Option Passed) (w : F
   passed_taken n c r s m l o j p v g q x y =
       rw y
       (some_there h at e n passed_as.line.plain q (record { kind = kind_meant k; content = content_of (take (e - at) (drop at h)) }) (record { key = j; end = e; noted = v })
-      (rw (← passed_as.line.ended, ← held_ended n (take (e - at) (drop at h)) true (Some k) (sym passed_as.kind) (Some k) k refl true refl refl true refl (sym (r s)))) (omega arith) (p ∙ ap key_numbers record_here)
+      (rw (← passed_as.line.ended, ← held_ended n (take (e - at) (drop at h)) true (Some k) (Some k) (sym passed_as.kind) refl k refl true (sym (r s)) refl)) (omega arith) (p ∙ ap key_numbers record_here)
       (record { ends = refl; refs = g }))
 
 pub ruleset nexts = (rules, next_many, passed_as, passed_forward, passed_within, passed_parted, passed_low, passed_taken)

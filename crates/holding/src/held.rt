@@ -60,6 +60,9 @@ pub fn passes_noted(kind: Kind, text: &[u8], ends: &[usize], line: usize) -> boo
 pub fn held_line(text: &[u8], ended: bool, line: usize) -> Option<Kind>
     ensures { kind_found result ≡ held_as line ended text.now }
 {
+    if !ended {
+        return None;
+    }
     let kind = kind_at(text)?;
-    (ended && passes(kind, text, line)).then_some(kind)
+    passes(kind, text, line).then_some(kind)
 }

@@ -17,7 +17,7 @@ use answers::codes::Code;
 use answers::refusal::Refusal;
 use enquiries::finding::{Part, Side, line_found, side_of};
 use enquiries::hand::hand;
-use find::{asked_key, held_line, open_holding};
+use find::{asked_key, held_line, is_enquired, open_holding};
 use layout::limits::Holding;
 use volume::check::check_file;
 
@@ -47,6 +47,10 @@ fn last_line(
 pub fn line_in_force(holding: &[u8], file: &[u8], kind: u64, number: u64) -> Result<Part, Refusal>
     ensures { found_said result ≡ in_force scottish holding.now file.now kind number }
 {
+    // Asked before the arrays are made, though `open_holding` asks too: they are cleared, which costs far more than this refusal.
+    if !is_enquired(kind) {
+        return Err(Refusal::alone(Code::KindNotAsked));
+    }
     let mut starts = [0u64; Holding::MOST_LINES];
     let mut tags = [0u64; Holding::MOST_LINES];
     let count = open_holding(holding, &mut starts, &mut tags, kind)?;

@@ -1,9 +1,13 @@
 -- `in_force::line_in_force` meets its contract.
 use mathlib.Core.Path.{◌∙◌}
+use mathlib.Core.List.{[]}
 use Rattle.enquiries.proofs.HandLaws.{refused_on}
-use Rattle.find.proofs.FindLaws.{open_refused, open_found}
+use Rattle.find.proofs.FindLaws.{opened_other, open_refused, open_found}
 use Rattle.in_force.proofs.ForceLaws.{force_unopened, force_refused, force_file, files}
 use Rattle.in_force.proofs.line_in_force.Goals as goal
+
+pub returns-then-not-is_enquired : goal.returns-then-not-is_enquired
+returns-then-not-is_enquired c = force_unopened _ _ _ _ _ (opened_other _ [] [] _ _ c.is_enquired.ensures c.if-not-is_enquired.true _ c.alone.ensures)
 
 pub returns-in_err-count : goal.returns-in_err-count
 returns-in_err-count c = refused_on _ _ c.from_residual.ensures.1 ∙ force_unopened _ _ _ _ _ (open_refused _ _ _ _ _ _ c.open_holding.ensures c.in_err-count.was)
