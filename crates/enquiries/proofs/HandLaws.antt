@@ -8,7 +8,8 @@ use borrow.Author.Rules.{rules}
 use borrow.Author.Tests.{le-leb}
 use denote.Ref.{Bor}
 use lib.ListN.{length, get_or, length-take, length-drop}
-use Rattle.std.specs.Prelude.{Option, Some, None, Result, Ok, Err, IsSome, IsErrAnd}
+use Rattle.std.specs.Prelude.{Option, Some, None, Result, Ok, Err, IsSome, IsErrAnd, IfErr}
+use Rattle.std.specs.Option.{ok_or}
 use Rattle.meaning.specs.Lines.{lines_of}
 use Rattle.meaning.specs.Enquiries.{refusal, part_of}
 use Rattle.answers.specs.declared.refusal.Refusal.{Refusal}
@@ -53,6 +54,19 @@ pub ruleset finding = (rules, line_there, line_span, found_line)
 pub refused_on : (x : Result Part Refusal) (d : Refusal) → IsErrAnd x (λ e. e ≡ d) → found_said x ≡ refusal (refusal_meant d)
 refused_on (Ok p) d h = absurd h
 refused_on (Err e) d h = ap (λ r. refusal (refusal_meant r)) h
+
+-- it names no byte where that one doesn't
+pub unplaced_on : {T : Type 0} (x : Result T Refusal) (d : Refusal) → IsErrAnd x (λ e. e ≡ d) → d.place ≡ 0 → IfErr x (λ e. e.place ≡ 0)
+unplaced_on (Ok t) d h z = absurd h
+unplaced_on (Err e) d h z = ap (λ r. r.place) h ∙ z
+
+-- nor where it is that of a part that isn't there
+pub unplaced_none : {S T : Type 0} (o : Option S) (e : Refusal) → e.place ≡ 0 → (d : Refusal) → ok_or o e ≡ Err d → (x : Result T Refusal) → IsErrAnd x (λ b. b ≡ d) → IfErr x (λ b. b.place ≡ 0)
+unplaced_none {S} o e u d z x h = unplaced_on x d h (go o z)
+  where
+    go : (o : Option S) → ok_or o e ≡ Err d → d.place ≡ 0
+    go (Some s) z = absurd (let v : ◌≡◌ {A = Result S Refusal} (Ok s) (Err d) = z in cc)
+    go None z = let v : e ≡ d = cc in ap (λ r. r.place) (sym v) ∙ u
 
 -- its part is one of the holding
 pub side_refused : (o : Result Part Refusal) (r : Refusal) → o ≡ Err r → slice_meant Holding ≡ (found_said o).slice

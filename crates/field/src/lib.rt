@@ -1,7 +1,7 @@
 #![tactic(auto)]
 
 // Giving one field of a line splits any bytes, judges no field or line ending, and hands back the field with its quotes.
-ghost use Rattle.std.specs.Prelude.{◌≡◌};
+ghost use Rattle.std.specs.Prelude.{◌≡◌, IfErr};
 ghost use Rattle.meaning.specs.Enquiries.{field_of};
 ghost use Rattle.enquiries.specs.Finding.{found_said};
 ghost use Rattle.enquiries.specs.Handed.{Handed};
@@ -27,9 +27,10 @@ pub fn field_at(line: &[u8], n: u64) -> Option<Span>
     Some(Span { start, end })
 }
 
-// Where field `number` of line `line` of some bytes stands, both counted from 1: 19 for no such line or field, or odd quotes.
+// Where field `number` of line `line` of some bytes stands, both counted from 1: 19, of no byte, for no such line or field, or odd
+// quotes.
 pub fn find_field(bytes: &[u8], line: u64, number: u64) -> Result<Part, Refusal>
-    ensures { found_said result ≡ field_of bytes.now line number }
+    ensures { (found_said result ≡ field_of bytes.now line number) × IfErr result (λ refusal. refusal.place ≡ 0) }
 {
     let none = Refusal::alone(Code::NoSuchPart);
     let l = line_at(bytes, line).ok_or(none)?;

@@ -292,6 +292,13 @@ find_unopened h kind n r e = asked (numbered_among enquiries kind) e
     asked none e = ap refusal (sym (some-injective (alone kind_not_asked) r e))
     asked (some k) e = holds k (value (ident k) ∷ n ∷ []) (read_holding scottish h) e
 
+-- and names no byte
+pub unopened_unplaced : (o : Option Kind) (u : meaning.Held) (r : meant.Refusal) → unopened o u ≡ some r → r.place ≡ 0
+unfolding unopened
+unopened_unplaced none u r e = ap (λ x. x.place) (sym (some-injective (alone kind_not_asked) r e))
+unopened_unplaced (some k) (sound st) r e = absurd (some≢none (sym e))
+unopened_unplaced (some k) (unsound m) r e = ap (λ x. x.place) (sym (some-injective (at_line m (of_line holding_unsound)) r e))
+
 -- the answer of either
 pub open_refused : (h a o : List ℕ) (kind : ℕ) (q : Result ℕ Refusal) (d : Refusal) → OpenedAs h a o kind q → q ≡ Err d → unopened (numbered_among enquiries kind) (read_holding scottish h) ≡ some (refusal_meant d)
 open_refused h a o kind q d w e = subst (OpenedAs h a o kind) e w

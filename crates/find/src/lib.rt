@@ -1,7 +1,7 @@
 #![tactic(auto)]
 
 // Find hands back the held line of a street or BLPU, without CR LF, as a part of the holding.
-ghost use Rattle.std.specs.Prelude.{◌≡◌, [], ◌∷◌, ◌≤◌, length};
+ghost use Rattle.std.specs.Prelude.{◌≡◌, [], ◌∷◌, ◌≤◌, IfErr, length};
 ghost use Rattle.base.specs.Lists.{some?};
 ghost use Rattle.meaning.specs.Kinds.{numbered_among};
 ghost use Rattle.meaning.specs.Table.{enquiries, scottish};
@@ -76,7 +76,7 @@ pub fn line_of(
     stands(holding, holding, starts, tags, count, i, key).then_some(i + 1)
 }
 
-// The held line of the record of that kind and number, in a sound holding that was read; 11 where none is held.
+// The held line of the record of that kind and number, in a sound holding that was read; 11, of no byte, where none is held.
 pub fn held_line(
     holding: &[u8],
     starts: &[u64],
@@ -86,7 +86,7 @@ pub fn held_line(
     number: u64,
 ) -> Result<Part, Refusal>
     requires { Enquired holding.now starts.now tags.now count kind }
-    ensures { found_said result ≡ held_part holding.now (held_at scottish (kind ∷ number ∷ []) 0 (records_of (read_holding scottish holding.now))) }
+    ensures { (found_said result ≡ held_part holding.now (held_at scottish (kind ∷ number ∷ []) 0 (records_of (read_holding scottish holding.now)))) × IfErr result (λ refusal. refusal.place ≡ 0) }
 {
     let line = line_of(holding, starts, tags, count, asked_key(kind, number)).ok_or(Refusal::alone(
         Code::KeyAbsent,
@@ -94,9 +94,9 @@ pub fn held_line(
     Ok(line_found(holding, line as u64, Side::Holding))
 }
 
-// Where the line of the record of that kind and number stands: 15, then 14, then 11.
+// Where the line of the record of that kind and number stands: 15, then 14, then 11. A refusal names no byte.
 pub fn find_line(holding: &[u8], kind: u64, number: u64) -> Result<Part, Refusal>
-    ensures { found_said result ≡ find scottish holding.now kind number }
+    ensures { (found_said result ≡ find scottish holding.now kind number) × IfErr result (λ refusal. refusal.place ≡ 0) }
 {
     // Asked before the arrays are made, though `open_holding` asks too: they are cleared, which costs far more than this refusal.
     if !is_enquired(kind) {

@@ -7,7 +7,7 @@ use Prim.Native.Nat.{ℕ, suc, ◌+◌, ◌/◌, ◌%◌, ◌≤◌, ◌<◌}
 use native.Mathlib.Numerals.{add-one}
 use native.Mathlib.Omega.{arith}
 use borrow.Author.Rules.{rules}
-use Rattle.std.specs.Prelude.{Result, Ok, Err, MatchResult, IsErrAnd}
+use Rattle.std.specs.Prelude.{Result, Ok, Err, MatchResult, IsErrAnd, IfErr}
 use lib.Dec.{T, eqb}
 use lib.ListN.{length, get_or, take, drop, drop_of_length-le, take-append-drop}
 use lib.Seq.{length-take-le, take-add, take_all}
@@ -241,11 +241,11 @@ module _ (h a g t : List ℕ) (q : Result ℕ Refusal) where
   check_sound (Ok x) s m n e = sym (ap held_numbers s.sound)
   check_sound (Err l) s m n e = absurd (subst (λ x. IsErrAnd x (λ d. refusal_meant d ≡ at_line l (of_line holding_unsound))) e m)
 
-  -- an unsound one
-  pub check_unsound : (r : Result ℕ ℕ) → HeldIs h r a g t → Refused r q → (d : Refusal) → q ≡ Err d → {T : Type 0} → (p : Result T Refusal) → IsErrAnd p (λ y. y ≡ d) → three_said p ≡ check_holding scottish h
+  -- an unsound one, whose refusal names no byte
+  pub check_unsound : (r : Result ℕ ℕ) → HeldIs h r a g t → Refused r q → (d : Refusal) → q ≡ Err d → {T : Type 0} → (p : Result T Refusal) → IsErrAnd p (λ y. y ≡ d) → (three_said p ≡ check_holding scottish h) × IfErr p (λ y. y.place ≡ 0)
   unfolding check_holding held_numbers
   check_unsound (Ok x) s m d e p w = absurd (let z : ◌≡◌ {A = Result ℕ Refusal} (Err d) (Ok x) = sym e ∙ m in cc)
   check_unsound (Err l) s m d e (Ok u) w = absurd w
   check_unsound (Err l) s m d e (Err y) w =
       let v : refusal_meant d ≡ at_line l (of_line holding_unsound) = subst (λ x. IsErrAnd x (λ d. refusal_meant d ≡ at_line l (of_line holding_unsound))) e m in
-      ap (λ x. three_of (refusal_meant x)) w ∙ ap three_of v ∙ sym (ap held_numbers s)
+      (ap (λ x. three_of (refusal_meant x)) w ∙ ap three_of v ∙ sym (ap held_numbers s), ap (λ x. x.place) w ∙ ap (λ x. x.place) v)

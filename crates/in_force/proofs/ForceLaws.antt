@@ -6,7 +6,7 @@ use mathlib.Core.List.{List, [], ◌∷◌, ◌++◌}
 use Prim.Native.Nat.{ℕ, suc, ◌+◌, ◌-◌, ◌≤◌, ◌<◌}
 use native.Mathlib.Omega.{arith}
 use borrow.Author.Rules.{rules}
-use Rattle.std.specs.Prelude.{Result, Ok, Err}
+use Rattle.std.specs.Prelude.{Result, Ok, Err, MatchResult, IsErrAnd}
 use lib.Dec.{T}
 use lib.ListN.{length, get_or}
 use Rattle.base.specs.Lists.{pick, all, same}
@@ -266,6 +266,14 @@ code_counted UndoTooLong z = omega (arith, z)
 code_counted InputUnusable z = omega (arith, z)
 code_counted NoSuchPart z = omega (arith, z)
 
+-- the refusal of a file as an enquiry answers it
+abbrev unplaced : Refusal → Refusal
+unplaced r = record { code = r.code; line = r.line; field = r.field; place = 0 }
+
+-- what a file's check answers, with such a refusal
+abbrev pub Unplaced : Result Counts Refusal → Result Counts Refusal → Type 0
+Unplaced c q = MatchResult c (λ x. q ≡ Ok x) (λ e. IsErrAnd q (λ d. d ≡ unplaced e))
+
 module _ (s t a o : List ℕ) (r kind n : ℕ) (w : Enquired s a o r kind) where
   -- then the file is judged
   pub force_file : in_force_file scottish s t (kind ∷ n ∷ []) (records_of (read_holding scottish s)) (read_file scottish t) ≡ in_force scottish s t kind n
@@ -279,17 +287,29 @@ module _ (s t a o : List ℕ) (r kind n : ℕ) (w : Enquired s a o r kind) where
 
   module _ (c : Result Counts Refusal) (d : said c ≡ check_file scottish t) where
     -- the file's own fault
-    pub force_refused : (y : Refusal) → c ≡ Err y → refusal (refusal_meant y) ≡ in_force scottish s t kind n
+    fault_told : (y : Refusal) → c ≡ Err y → refusal (refusal_meant y) ≡ in_force scottish s t kind n
     unfolding check_file
-    force_refused y e = go (read_file scottish t) (sym (ap said e) ∙ d) ∙ force_file
+    fault_told y e = go (read_file scottish t) (sym (ap said e) ∙ d) ∙ force_file
       where
         go : (u : Read Sheet) → refused_with (refusal_meant y) ≡ checked u → refusal (refusal_meant y) ≡ in_force_file scottish s t (kind ∷ n ∷ []) (records_of (read_holding scottish s)) u
         go (fault x) q = unfold checked in_force_file refusal in (ap (λ m. record { answer = record { code = m.code; line = m.line; field = m.field }; slice = first; start = 0; size = 0 }) q)
         go (file x) q = absurd (unfold checked in code_counted y.code (ap (λ m. m.code) q))
 
+    -- but for its place
+    pub force_refused : (q : Result Counts Refusal) → Unplaced c q → (y : Refusal) → q ≡ Err y → (refusal (refusal_meant y) ≡ in_force scottish s t kind n) × (y.place ≡ 0)
+    unfolding refusal
+    force_refused q m y e = go c refl m
+      where
+        go : (b : Result Counts Refusal) → c ≡ b → Unplaced b q → (refusal (refusal_meant y) ≡ in_force scottish s t kind n) × (y.place ≡ 0)
+        go (Ok x) i m = absurd (let z : ◌≡◌ {A = Result Counts Refusal} (Err y) (Ok x) = sym e ∙ m in cc)
+        go (Err x) i m =
+            let v : y ≡ unplaced x = subst (λ b. IsErrAnd b (λ d. d ≡ unplaced x)) e m in
+            (ap (λ r. refusal (refusal_meant r)) v ∙ fault_told x i, ap (λ r. r.place) v)
+
 -- a file with no fault
-pub faultless : (t : List ℕ) (c : Result Counts Refusal) → said c ≡ check_file scottish t → (u : Counts) → c ≡ Ok u → (check_file scottish t).code ≡ 0
-faultless t c d u e = sym (ap (λ y. y.code) d) ∙ ap (λ x. (said x).code) e
+pub faultless : (t : List ℕ) (c q : Result Counts Refusal) → said c ≡ check_file scottish t → Unplaced c q → (u : Counts) → q ≡ Ok u → (check_file scottish t).code ≡ 0
+faultless t (Ok x) q d m u e = sym (ap (λ y. y.code) d)
+faultless t (Err x) q d m u e = absurd (subst (λ b. IsErrAnd b (λ d. d ≡ unplaced x)) e m)
 
 pub ruleset files = (rules, faultless)
 

@@ -1,7 +1,7 @@
 #![tactic(auto)]
 
 // The record in force if a file were taken: a part of the file or of the holding. Steps are not judged.
-ghost use Rattle.std.specs.Prelude.{◌≡◌, [], ◌∷◌};
+ghost use Rattle.std.specs.Prelude.{◌≡◌, [], ◌∷◌, IfErr};
 ghost use Rattle.meaning.specs.Table.{scottish};
 ghost use Rattle.meaning.specs.File.{read_file};
 ghost use Rattle.meaning.specs.Holding.{read_holding};
@@ -34,7 +34,7 @@ fn last_line(
     number: u64,
 ) -> Result<Part, Refusal>
     requires { Enquired holding.now starts.now tags.now count kind × ((check_file scottish file.now).code ≡ 0) }
-    ensures { found_said result ≡ in_force_file scottish holding.now file.now (kind ∷ number ∷ []) (records_of (read_holding scottish holding.now)) (read_file scottish file.now) }
+    ensures { (found_said result ≡ in_force_file scottish holding.now file.now (kind ∷ number ∷ []) (records_of (read_holding scottish holding.now)) (read_file scottish file.now)) × IfErr result (λ refusal. refusal.place ≡ 0) }
 {
     match last_naming(file, asked_key(kind, number)) {
         Naming::Unnamed => held_line(holding, starts, tags, count, kind, number),
@@ -43,9 +43,19 @@ fn last_line(
     }
 }
 
-// Where the record in force stands: 15, then 14, then the file check, then 11.
+// The refusal of a file as an enquiry answers it, which names no byte.
+fn unplaced(refusal: Refusal) -> Refusal
+    ensures { result ≡ record refusal { place = 0 } }
+{
+    Refusal {
+        place: 0,
+        ..refusal
+    }
+}
+
+// Where the record in force stands: 15, then 14, then the file check, then 11. A refusal names no byte.
 pub fn line_in_force(holding: &[u8], file: &[u8], kind: u64, number: u64) -> Result<Part, Refusal>
-    ensures { found_said result ≡ in_force scottish holding.now file.now kind number }
+    ensures { (found_said result ≡ in_force scottish holding.now file.now kind number) × IfErr result (λ refusal. refusal.place ≡ 0) }
 {
     // Asked before the arrays are made, though `open_holding` asks too: they are cleared, which costs far more than this refusal.
     if !is_enquired(kind) {
@@ -54,7 +64,7 @@ pub fn line_in_force(holding: &[u8], file: &[u8], kind: u64, number: u64) -> Res
     let mut starts = [0u64; Holding::MOST_LINES];
     let mut tags = [0u64; Holding::MOST_LINES];
     let count = open_holding(holding, &mut starts, &mut tags, kind)?;
-    check_file(file)?;
+    check_file(file).map_err(unplaced)?;
     last_line(holding, file, &starts, &tags, count, kind, number)
 }
 

@@ -6,4 +6,4 @@ pub returns-in_err-map_err : goal.returns-in_err-map_err
 returns-in_err-map_err c = check_unsound _ _ _ _ _ _ c.read_holding.ensures c.map_err.ensures.cases _ c.in_err-map_err.was _ c.from_residual.ensures.1
 
 pub returns : goal.returns
-returns c = check_sound _ _ _ _ _ _ c.read_holding.ensures c.map_err.ensures.cases _ c.in_ok-map_err.was
+returns c = (check_sound _ _ _ _ _ _ c.read_holding.ensures c.map_err.ensures.cases _ c.in_ok-map_err.was, tt)
