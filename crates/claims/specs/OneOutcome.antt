@@ -1,16 +1,21 @@
 -- One outcome only: any two outcomes that meet what is claimed of an operation are equal, in the numbers answered, in the bytes left, and for
 -- a part that is handed back in its bytes and in where it stands.
-use Rattle.std.specs.Prelude.{◌≡◌, Bool, List, ℕ, Result}
-use Rattle.std.proofs.Common.{sym, ap, ap₂, ◌∙◌}
+use Rattle.std.specs.Prelude.{◌≡◌, Bool, List, ℕ, Result, Ok, Err, IfErr}
+use Rattle.std.proofs.Common.{refl, sym, ap, ap₂, ◌∙◌}
 use Rattle.std.specs.Borrow.{Bor}
 use Rattle.meaning.specs.Table.{scottish}
-use Rattle.meaning.specs.Enquiries.{Found, find, in_force, field_of}
+use Rattle.meaning.specs.Answers.{Three, three_of}
+use Rattle.meaning.specs.Enquiries.{Slice, first, second, Found, refusal, find, in_force, field_of}
 use Rattle.answers.specs.declared.refusal.Refusal.{Refusal}
 use Rattle.answers.specs.declared.numbers.Counts.{Counts}
 use Rattle.answers.specs.declared.numbers.Answer.{Answer}
 use Rattle.answers.specs.declared.numbers.Verdict.{Verdict}
-use Rattle.answers.specs.Meant.{answer_said, numbers_meant}
-use Rattle.answers.proofs.SaidLaws.{said_one}
+use Rattle.answers.specs.Meant.{refusal_meant, answer_said, numbers_meant, three_said}
+use Rattle.answers.proofs.SaidLaws.{code_above, said_one}
+use Rattle.enquiries.specs.declared.finding.Side.{Side}
+use Rattle.enquiries.specs.declared.finding.Side.TheVariants.{Holding, File}
+use Rattle.enquiries.specs.declared.finding.Part.{Part}
+use Rattle.enquiries.specs.Finding.{slice_meant, part_meant, found_said}
 use Rattle.enquiries.specs.Handed.{Handed, lent_as}
 use Rattle.claims.specs.CheckClaims.{FileClaims, HoldingClaims}
 use Rattle.claims.specs.LoadClaims.{LoadClaims}
@@ -42,6 +47,46 @@ load_once old file room undo_room r s out put undo rest o p = (
 -- what is taken, or refused, is told by those numbers, so there is one of it only
 pub outcome_once : (x y : Result Counts Refusal) → answer_said x ≡ answer_said y → x ≡ y
 outcome_once x y e = said_one x y (ap numbers_meant e)
+
+-- a refusal of three numbers names no byte, as the contracts of those that answer one say
+abbrev pub Unplaced : {T : Type 0} → Result T Refusal → Type 0
+Unplaced x = IfErr x (λ r. r.place ≡ 0)
+
+-- so the three tell it
+refused_once : (r q : Refusal) → r.place ≡ 0 → q.place ≡ 0 → three_of (refusal_meant r) ≡ three_of (refusal_meant q) → r ≡ q
+refused_once r q u v e =
+    let w : ◌≡◌ {A = Result Counts Refusal} (Err r) (Err q) = said_one (Err r) (Err q) (ap₂ (λ (t : Three) (p : ℕ). record { code = t.code; line = t.line; field = t.field; inserts = 0; updates = 0; deletes = 0; place = p }) e (u ∙ sym v)) in
+    cc
+
+-- and what check_holding answers
+pub verdict_once : (x y : Result (Unit {0}) Refusal) → Unplaced x → Unplaced y → three_said x ≡ three_said y → x ≡ y
+verdict_once (Ok m) (Ok n) u v e = refl
+verdict_once (Ok m) (Err r) u v e = absurd (code_above r.code (sym (ap (λ t. t.code) e)))
+verdict_once (Err r) (Ok n) u v e = absurd (code_above r.code (ap (λ t. t.code) e))
+verdict_once (Err r) (Err q) u v e = ap Err (refused_once r q u v e)
+
+-- the part by its numbers
+abbrev side_named : Slice → Side
+side_named first = Holding
+side_named second = File
+
+side_back : (b : Side) → side_named (slice_meant b) ≡ b
+side_back Holding = refl
+side_back File = refl
+
+abbrev part_named : Found → Part
+part_named f = record { side = side_named f.slice; start = f.start; size = f.size }
+
+part_back : (p : Part) → part_named (part_meant p) ≡ p
+part_back p = ap (λ b. record { side = b; start = p.start; size = p.size }) (side_back p.side)
+
+-- and what an enquiry finds, before it is handed back, is told by the three and the part
+pub found_once : (x y : Result Part Refusal) → Unplaced x → Unplaced y → found_said x ≡ found_said y → x ≡ y
+unfolding refusal
+found_once (Ok p) (Ok q) u v e = ap Ok (sym (part_back p) ∙ ap part_named e ∙ part_back q)
+found_once (Ok p) (Err r) u v e = absurd (code_above r.code (sym (ap (λ f. f.answer.code) e)))
+found_once (Err r) (Ok p) u v e = absurd (code_above r.code (ap (λ f. f.answer.code) e))
+found_once (Err r) (Err q) u v e = ap Err (refused_once r q u v (ap (λ f. f.answer) e))
 
 -- the numbers, the part's bytes, its block and its place in it
 abbrev pub SameHanded : (a b : List ℕ) (r p : Bor (List ℕ)) → Type 0
