@@ -104,17 +104,21 @@ link_program() {
 }
 
 # CRATE OBJECT: the kept module of the crate for x86-64 as code for wasm32, which rattle makes nothing for: compiled with the same words,
-# but the machine's name and the layout of its data are those that clang gives an empty program for it, and the processor is clang's choice. An
-# address is read as 64 bits there, which for wasm32 is its 32 and zeros; and a byte with a pointer, which the module stores 8 bytes behind it, is
-# read from there, and not where wasm32 would have it.
+# but the machine's name and the layout of its data are those that clang gives an empty program for it, and the processor is clang's choice.
+# An address is read in as many bits as the module asks for, of which wasm32 has 32, and the others are zeros; and a byte with a pointer is
+# read from where the module stores the two, and not where wasm32 would have the pointer: clang says how far behind the byte x86-64 has it.
 compile_wasm() {
-  local made=$modules/$1/x86_64 triple words
+  local made=$modules/$1/x86_64 triple words at align
   triple=$(triple_of wasm32)
   "$clang" --no-default-config --target="$triple" -x c -S -emit-llvm -o "$made/empty.ll" /dev/null
   "$clang" --no-default-config -x ir -S -emit-llvm -o "$made/module.ll" "$made/module.bc"
+  "$clang" --no-default-config --target="$(triple_of x86_64)" -x c -S -emit-llvm -o "$made/pair.ll" - <<<'struct pair { char tag; void *ptr; };
+    unsigned long at = __builtin_offsetof(struct pair, ptr), align = _Alignof(struct pair);'
+  at=$(sed -n 's/^@at = .* \(i[0-9]* [0-9]*\), align .*/\1/p' "$made/pair.ll")
+  align=$(sed -n 's/^@align = .* i[0-9]* \([0-9]*\), align .*/align \1/p' "$made/pair.ll")
   grep '^target ' "$made/empty.ll" >"$made/wasm32.ll"
-  sed -e '/^target /d' -e 's/ "target-cpu"="[^"]*"//' -e 's/= ptrtoaddr ptr \(%[^ ]*\) to i64$/= ptrtoint ptr \1 to i64/' \
-    -e 's/^  \(%[^ ]*\) = load { i8, ptr }, ptr \(%[^ ,]*\), align 8$/  \1.tag = load i8, ptr \2, align 8\n  \1.at = getelementptr i8, ptr \2, i64 8\n  \1.ptr = load ptr, ptr \1.at, align 8\n  \1.one = insertvalue { i8, ptr } poison, i8 \1.tag, 0\n  \1 = insertvalue { i8, ptr } \1.one, ptr \1.ptr, 1/' "$made/module.ll" >>"$made/wasm32.ll"
+  sed -e '/^target /d' -e 's/ "target-cpu"="[^"]*"//' -e 's/= ptrtoaddr ptr \(%[^ ]*\) to \(i[0-9]*\)$/= ptrtoint ptr \1 to \2/' \
+    -e "s/^  \(%[^ ]*\) = load { i8, ptr }, ptr \(%[^ ,]*\), $align\$/  \1.tag = load i8, ptr \2, $align\n  \1.at = getelementptr i8, ptr \2, $at\n  \1.ptr = load ptr, ptr \1.at, $align\n  \1.one = insertvalue { i8, ptr } poison, i8 \1.tag, 0\n  \1 = insertvalue { i8, ptr } \1.one, ptr \1.ptr, 1/" "$made/module.ll" >>"$made/wasm32.ll"
   mapfile -t words < <(sed -e "s|^--target=.*|--target=$triple|" -e '/^-march=/d' -e "s|^module.bc\$|$made/wasm32.ll|" -e "s|^module.o\$|$2|" "$made/words")
   "$clang" "${words[@]}"
 }
