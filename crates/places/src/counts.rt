@@ -138,7 +138,7 @@ pub fn note_tags(
     requires { Ordered holding.now file.now places.now tags.now count × (count ≤ length counts.old) × Open true (says holding.now file.now places.now count) counts.old (ref_numbers (record_of holding.now file.now entry)) × TagsOf (record_of holding.now file.now entry) own (get_or to 0 0) (get_or to 1 0) × (get_or to 0 0 % 2 ≡ 0) × (get_or to 1 0 % 2 ≡ 0) }
     ensures { Notes true (says holding.now file.now places.now count) (record_of holding.now file.now entry) counts.old counts.new result }
 {
-    for key in to {
+    for tag in to {
         if !note_tagged(
             holding,
             file,
@@ -148,7 +148,7 @@ pub fn note_tags(
             count,
             entry,
             own,
-            key,
+            tag,
         ) {
             return false;
         }

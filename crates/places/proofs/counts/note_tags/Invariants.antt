@@ -9,5 +9,5 @@ use Rattle.places.specs.Places.{says}
 use Rattle.places.proofs.NoteLaws.{Left}
 use Rattle.places.proofs.counts.note_tags.Given as goal
 
-abbrev pub invariant-loop-key : goal.invariant-loop-key
-invariant-loop-key l = Left true (says l.holding l.file l.places l.count) (record_of l.holding l.file l.entry) (key_numbers (record_of l.holding l.file l.entry)) l.initial.counts (drop l.key-index (map ref_tagged l.key-items)) l.counts
+abbrev pub invariant-loop-tag : goal.invariant-loop-tag
+invariant-loop-tag l = Left true (says l.holding l.file l.places l.count) (record_of l.holding l.file l.entry) (key_numbers (record_of l.holding l.file l.entry)) l.initial.counts (drop l.tag-index (map ref_tagged l.tag-items)) l.counts
