@@ -2,6 +2,9 @@
 ghost use Rattle.std.specs.Prelude.{◌≡◌};
 ghost use Rattle.answers.specs.Codes.{code_number};
 
+// Done: nothing is refused.
+pub const ALL_DONE: u64 = 0;
+
 // Why something is refused, in the order of the numbers.
 #[derive(Clone, Copy, Debug, PartialEq, Eq)]
 pub enum Code {

@@ -2,6 +2,7 @@
 ghost use Rattle.std.specs.Prelude.{◌≡◌};
 ghost use Rattle.answers.specs.Meant.{answer_said, answer_list, verdict_said, verdict_list};
 
+use crate::codes::ALL_DONE;
 use crate::refusal::Refusal;
 
 // The body lines with I, U and D of a file that is taken, or sound.
@@ -36,7 +37,7 @@ impl From<Result<Counts, Refusal>> for Answer {
     fn from(outcome: Result<Counts, Refusal>) -> Answer {
         match outcome {
             Ok(counts) => Answer {
-                code: DONE,
+                code: ALL_DONE,
                 line: 0,
                 field: 0,
                 inserts: counts.inserts,
@@ -57,9 +58,6 @@ impl From<Result<Counts, Refusal>> for Answer {
     }
 }
 
-// Done: nothing is refused.
-const DONE: u64 = 0;
-
 // Code, line, field.
 #[derive(Clone, Copy, Debug, PartialEq, Eq)]
 pub struct Verdict {
@@ -75,7 +73,7 @@ impl From<Result<(), Refusal>> for Verdict {
     fn from(outcome: Result<(), Refusal>) -> Verdict {
         match outcome {
             Ok(()) => Verdict {
-                code: DONE,
+                code: ALL_DONE,
                 line: 0,
                 field: 0,
             },
