@@ -1,2 +1,1 @@
 mod Claiming
-pub mod MonthLaws
