@@ -27,8 +27,8 @@ pub fn field_at(line: &[u8], n: u64) -> Option<Span>
     Some(Span { start, end })
 }
 
-// Where field `number` of line `line` of some bytes stands, both counted from 1: 19, of no byte, for no such line or field, or odd
-// quotes.
+// Where field `number` of line `line` of some bytes stands, both counted from 1: 19 for no such line or field, or odd quotes. A refusal
+// names no byte.
 pub fn find_field(bytes: &[u8], line: u64, number: u64) -> Result<Part, Refusal>
     ensures { (found_said result ≡ field_of bytes.now line number) × IfErr result (λ refusal. refusal.place ≡ 0) }
 {

@@ -76,7 +76,8 @@ pub fn line_of(
     stands(holding, holding, starts, tags, count, i, key).then_some(i + 1)
 }
 
-// The held line of the record of that kind and number, in a sound holding that was read; 11, of no byte, where none is held.
+// The held line of the record of that kind and number, in a sound holding that was read; 11 where none is held. A refusal
+// names no byte.
 pub fn held_line(
     holding: &[u8],
     starts: &[u64],
