@@ -287,7 +287,7 @@ module _ (s t a o : List ℕ) (r kind n : ℕ) (w : Enquired s a o r kind) where
 
   module _ (c : Result Counts Refusal) (d : said c ≡ check_file scottish t) where
     -- the file's own fault
-    fault_told : (y : Refusal) → c ≡ Err y → refusal (refusal_meant y) ≡ in_force scottish s t kind n
+    pub fault_told : (y : Refusal) → c ≡ Err y → refusal (refusal_meant y) ≡ in_force scottish s t kind n
     unfolding check_file
     fault_told y e = go (read_file scottish t) (sym (ap said e) ∙ d) ∙ force_file
       where
